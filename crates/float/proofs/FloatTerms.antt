@@ -1,0 +1,63 @@
+-- A float that fits its format is in lowest terms as it stands.
+use mathlib.Core.Path.{_≡_, refl, sym, ap, _∙_}
+use mathlib.Core.Bool.{Bool, true, false, _&&_}
+use Prim.Native.Nat.{ℕ, zero, suc, _*_, _/_, _%_, _^_, _<_}
+use native.Mathlib.Nat.{mul-one, one-mul}
+use native.Mathlib.Omega.{arith}
+use lib.Dec.{T, ltb, leb, eqb, eqb→eq}
+use lib.IntN.{ℤ, pos, negsuc}
+use lib.Ieee.{Float, nan, inf, fin, Format, binary32, up, down, fits, prec, low, emax}
+use lib.Ieee.Fits.{and-l, down-pos}
+use lib.Ieee.Exact.{HasValue}
+use borrow.Author.Tests.{ltb-true}
+use Rattle.rational.specs.Gcd.{gcd}
+use Rattle.rational.specs.Rational.{inRange, ratio}
+use Rattle.rational.specs.Promise.{SoundChecked}
+use Rattle.rational.proofs.GcdLaws.{lowest-is}
+use Rattle.rational.proofs.Soundness.{tested, both-true, zero-unsigned-of}
+use Rattle.float.specs.Float.{approximateFloat}
+use Rattle.float.proofs.PowersOfTwo.{gcd-one, odd-power}
+
+two-up : (x : ℕ) → 0 < x → x * 2 ≡ 1 → ⊥
+two-up x p e = omega arith
+
+flat : (e : ℤ) → up e * down e ≡ 1 → down e ≡ 1
+flat (pos k) h = refl
+flat (negsuc k) h = sym (one-mul (2 ^ suc k)) ∙ h
+
+float-odd : (f : Format) (s : Bool) (m : ℕ) (e : ℤ) → T (fits f (fin s (suc m) e)) → suc m % 2 ≡ 1
+unfolding fits
+float-odd f s m e t =
+    eqb→eq (suc m % 2) 1
+    (and-l (eqb (suc m % 2) 1) (ltb (suc m) (2 ^ prec f))
+    (and-l (eqb (suc m % 2) 1 && ltb (suc m) (2 ^ prec f)) (leb (down e) (2 ^ low f))
+    (and-l (eqb (suc m % 2) 1 && ltb (suc m) (2 ^ prec f) && leb (down e) (2 ^ low f)) (ltb (suc m * up e) (2 ^ suc (emax f) * down e)) t)))
+
+zero-flat : (f : Format) (s : Bool) (e : ℤ) → T (fits f (fin s zero e)) → down e ≡ 1
+unfolding fits
+zero-flat f s e t = flat e (eqb→eq (up e * down e) 1 t)
+
+pub float-lowest : (f : Format) (s : Bool) (m : ℕ) (e : ℤ) → T (fits f (fin s m e)) → gcd (m * up e) (down e) ≡ 1
+float-lowest f s zero e t = ap (gcd (0 * up e)) (zero-flat f s e t) ∙ gcd-one (0 * up e)
+float-lowest f s (suc m) (pos k) t = gcd-one (suc m * 2 ^ k)
+float-lowest f s (suc m) (negsuc k) t = ap (λ (z : ℕ). gcd z (2 ^ suc k)) (mul-one (suc m)) ∙ odd-power (suc m) (suc k) (float-odd f s m (negsuc k) t)
+
+-- so its value, however it is written, comes to its own parts in reduced terms
+pub value-lowest : (f : Format) (s t : Bool) (m : ℕ) (e : ℤ) (a c : ℕ) → 0 < c → T (fits f (fin t m e)) → HasValue (fin t m e) s a c
+    → (a / gcd a c ≡ m * up e) × (c / gcd a c ≡ down e)
+value-lowest f s t m e a c p h v = lowest-is a c (m * up e) (down e) p (float-lowest f t m e h) (v .1)
+
+-- so its exact value, if in range, is a fraction in lowest terms
+pub float-sound : (x : Float) → T (fits binary32 x) → SoundChecked (approximateFloat x)
+unfolding approximateFloat
+float-sound nan h = tt
+float-sound (inf s) h = tt
+float-sound (fin s m e) h =
+    tested (inRange (m * up e) && inRange (down e)) (ratio s (m * up e) (down e))
+    (λ t. let r = both-true (inRange (m * up e)) (inRange (down e)) t in record {
+      positive = down-pos e;
+      numer-fits = ltb-true _ _ (r .0);
+      denom-fits = ltb-true _ _ (r .1);
+      coprime = float-lowest binary32 s m e h;
+      zero-unsigned = zero-unsigned-of s (m * up e);
+    })

@@ -1,0 +1,16 @@
+use Rattle.float.proofs.PowersOfTwo.{shift-is, large-is}
+use borrow.Author.Needs.{needs}
+use Rattle.float.proofs.capped_power_of_two.Statement.{statement}
+use Rattle.float.proofs.capped_power_of_two.Tie as tie
+
+shl-result : tie.Need-shl-result
+shl-result c = search needs
+
+returns : tie.Need-returns
+returns c = shift-is _ (c .if1 .taken)
+
+returns-2 : tie.Need-returns-2
+returns-2 c = large-is _ (c .if1 .left)
+
+pub capped-power-of-two-spec : {M : Type 1} → statement M
+capped-power-of-two-spec = tie.close (tie.spec shl-result returns returns-2)

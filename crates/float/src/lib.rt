@@ -1,0 +1,122 @@
+// f32 and fractions.
+use rational::Checked;
+use rational::Rational64;
+ghost use mathlib.Core.Path.{_≡_};
+ghost use Prim.Native.Nat.{ℕ, _+_, _-_, _*_, _/_, _%_, _<_, _≤_, _^_, min};
+ghost use lib.IntN.{pos};
+ghost use lib.Ieee as Ieee;
+ghost use lib.Ieee.{binary32};
+ghost use lib.Ieee.Nearest.{closest};
+ghost use Rattle.rational.specs.Rational.{LowestTerms, reduced, checked};
+ghost use Rattle.rational.specs.Promise.{ChecksTo};
+ghost use Rattle.float.specs.Float.{approximateFloat, bits, ratioFloat};
+
+// n/u to the nearest whole number, a tie to the even one.
+fn closest_whole(n: u64, u: u64) -> u64
+    requires { ⌜ (0 < u) × (u ≤ 2 ^ 62) ⌝ }
+    ensures { λ r. ⌜ r ≡ closest n u ⌝ }
+{
+    let q = n / u;
+    let r = n % u * 2;
+    if r < u {
+        return q;
+    }
+    if r == u {
+        return q + q % 2;
+    }
+    q + 1
+}
+
+// The f32 nearest to n, a tie to the even one.
+pub fn nearest_f32(n: u64) -> f32
+    ensures { λ r. ⌜ r ≡ Ieee.ofInt binary32 (pos n) ⌝ }
+{
+    if n < 16777216 {
+        return n as f32;
+    }
+    let mut u = 1u64;
+    let mut k = 0u64;
+    while 16777216 <= n / u {
+        u = u * 2;
+        k += 1;
+    }
+    let m = closest_whole(n, u);
+    f32::from_bits(((k + 149) * 8388608 + m) as u32)
+}
+
+// The bits of x, those of a NaN being 7FC00000.
+pub fn bits_of(x: f32) -> u32
+    ensures { λ r. ⌜ r ≡ bits x ⌝ }
+{
+    if x != x {
+        return 0x7fc0_0000;
+    }
+    f32::to_bits(x)
+}
+
+// 2^e, cut to the limit of a magnitude.
+fn capped_power_of_two(e: u64) -> u64
+    ensures { λ r. ⌜ r ≡ min (2 ^ e) (2 ^ 63) ⌝ }
+{
+    if e < 63 {
+        1 << e
+    } else {
+        0x8000_0000_0000_0000
+    }
+}
+
+// ±q * 2^k / 2^149 as a fraction.
+fn dyadic(negative: bool, q: u64, k: u64) -> Checked
+    requires { ⌜ (q < 2 ^ 24) × (k < 254) ⌝ }
+    ensures { λ r. ⌜ r ≡ checked (reduced negative (q * 2 ^ k) (2 ^ 149)) ⌝ }
+{
+    let mut m = q;
+    let mut j = k;
+    while j < 149 && m % 2 == 0 {
+        m = m / 2;
+        j += 1;
+    }
+    if 149 <= j {
+        let n = rational::capped_mul(m, capped_power_of_two(j - 149));
+        return rational::range_checked(Rational64 {
+            negative: rational::sign_of(negative, n),
+            numer: n,
+            denom: 1,
+        });
+    }
+    rational::range_checked(Rational64 {
+        negative: rational::sign_of(negative, m),
+        numer: m,
+        denom: capped_power_of_two(149 - j),
+    })
+}
+
+// The exact value of a finite f32 as a fraction, if it is in range.
+pub fn approximate_float(x: f32) -> Checked
+    ensures { λ r. ⌜ ChecksTo (approximateFloat x) r ⌝ }
+{
+    if x != x {
+        return Checked::None;
+    }
+    let b = f32::to_bits(x) as u64;
+    let negative = 0x8000_0000 <= b;
+    let field = b % 0x8000_0000 / 0x80_0000;
+    let t = b % 0x80_0000;
+    if field == 0 {
+        return dyadic(negative, t, 0);
+    }
+    if field == 255 {
+        return Checked::None;
+    }
+    dyadic(negative, 0x80_0000 + t, field - 1)
+}
+
+// Numerator and denominator each rounded to the nearest f32, and divided once.
+pub fn ratio_f32(x: Rational64) -> f32
+    requires { ⌜ LowestTerms x ⌝ }
+    ensures { λ r. ⌜ r ≡ ratioFloat x ⌝ }
+{
+    let n = nearest_f32(x.numer);
+    let d = nearest_f32(x.denom);
+    if x.negative { -n / d } else { n / d }
+}

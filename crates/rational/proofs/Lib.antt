@@ -1,0 +1,9 @@
+pub mod GcdLaws
+pub mod RootLaws
+pub mod Capped
+pub mod SumLaws
+pub mod ProductLaws
+pub mod PowerLaws
+pub mod Soundness
+pub mod WholeRoots
+pub mod Integers

@@ -1,0 +1,65 @@
+use mathlib.Core.Path.{_∙_}
+use Rattle.rational.proofs.GcdLaws.{gcd-pos}
+use Rattle.rational.proofs.ProductLaws.{product-is}
+use Rattle.rational.proofs.Soundness.{checks, product-sound}
+use borrow.Author.Needs.{needs}
+use Rattle.rational.proofs.Rational64.checked_mul.Statement.{statement}
+use Rattle.rational.proofs.Rational64.checked_mul.Tie as tie
+
+gcd-requires : tie.Need-gcd-requires
+gcd-requires c κs = search needs
+
+gcd-requires-2 : tie.Need-gcd-requires-2
+gcd-requires-2 c κs = search needs
+
+div-capped-mul : tie.Need-div-capped-mul
+div-capped-mul c = rw (c .before .before .gcd .ensures) (gcd-pos _ _ (c .before .before .before .pre .1 .positive))
+
+div-capped-mul-2 : tie.Need-div-capped-mul-2
+div-capped-mul-2 c = rw (c .before .before .gcd2 .ensures) (gcd-pos _ _ (c .before .before .before .before .pre .0 .positive))
+
+capped-mul-requires : tie.Need-capped-mul-requires
+capped-mul-requires c κs = search needs
+
+div-capped-mul-3 : tie.Need-div-capped-mul-3
+div-capped-mul-3 c = rw (c .before .before .before .before .gcd2 .ensures) (gcd-pos _ _ (c .before .before .before .before .before .before .pre .0 .positive))
+
+div-capped-mul-4 : tie.Need-div-capped-mul-4
+div-capped-mul-4 c = rw (c .before .before .before .before .before .before .gcd .ensures) (gcd-pos _ _ (c .before .before .before .before .before .before .before .pre .1 .positive))
+
+capped-mul-requires-2 : tie.Need-capped-mul-requires-2
+capped-mul-requires-2 c κs = search needs
+
+signs-differ-requires : tie.Need-signs-differ-requires
+signs-differ-requires c κs = search needs
+
+sign-of-requires : tie.Need-sign-of-requires
+sign-of-requires c κs = search needs
+
+range-checked-requires : tie.Need-range-checked-requires
+range-checked-requires c κs = search needs
+
+returns : tie.Need-returns
+returns c =
+    let a = c .before .before .before .before .before .before .before .before .before .before .before in
+    checks (c .range-checked .ensures
+    ∙ product-is (a .args .self) (a .args .y) (c .before .before .before .before .before .before .before .before .before .before .gcd .result) (c .before .before .before .before .before .before .before .before .before .gcd2 .result) (c .before .before .before .before .before .before .capped-mul .result) (c .before .before .before .capped-mul2 .result) (c .before .before .signs-differ .result) (c .before .sign-of .result)
+    (a .pre .0) (a .pre .1) (c .before .before .before .before .before .before .before .before .before .before .gcd .ensures) (c .before .before .before .before .before .before .before .before .before .gcd2 .ensures) (c .before .before .before .before .before .before .capped-mul .ensures) (c .before .before .before .capped-mul2 .ensures) (c .before .before .signs-differ .ensures) (c .before .sign-of .ensures))
+    (product-sound (a .args .self) (a .args .y) (a .pre .0) (a .pre .1))
+
+pub checked-mul-spec : {M : Type 1} → statement M
+checked-mul-spec =
+    tie.close
+    (tie.spec
+    gcd-requires
+    gcd-requires-2
+    div-capped-mul
+    div-capped-mul-2
+    capped-mul-requires
+    div-capped-mul-3
+    div-capped-mul-4
+    capped-mul-requires-2
+    signs-differ-requires
+    sign-of-requires
+    range-checked-requires
+    returns)

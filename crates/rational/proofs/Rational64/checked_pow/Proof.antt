@@ -1,0 +1,41 @@
+use mathlib.Core.Path.{_∙_}
+use Rattle.rational.specs.Rational.{power}
+use Rattle.rational.proofs.PowerLaws.{power-is}
+use Rattle.rational.proofs.Soundness.{checks, power-sound}
+use borrow.Author.Needs.{needs}
+use Rattle.rational.proofs.Rational64.checked_pow.Statement.{statement}
+use Rattle.rational.proofs.Rational64.checked_pow.Tie as tie
+
+capped-pow-requires : tie.Need-capped-pow-requires
+capped-pow-requires c κs = search needs
+
+capped-pow-requires-2 : tie.Need-capped-pow-requires-2
+capped-pow-requires-2 c κs = search needs
+
+power-sign-requires : tie.Need-power-sign-requires
+power-sign-requires c κs = search needs
+
+sign-of-requires : tie.Need-sign-of-requires
+sign-of-requires c κs = search needs
+
+range-checked-requires : tie.Need-range-checked-requires
+range-checked-requires c κs = search needs
+
+returns : tie.Need-returns
+returns c =
+    let a = c .before .before .before .before .before in
+    checks (c .range-checked .ensures
+    ∙ rw (c .before .sign-of .ensures, c .before .before .power-sign .ensures, c .before .before .before .capped-pow2 .ensures, c .before .before .before .before .capped-pow .ensures)
+    (power-is (a .args .self) (a .args .k) (a .pre)))
+    (power-sound (a .args .self) (a .args .k) (a .pre))
+
+pub checked-pow-spec : {M : Type 1} → statement M
+checked-pow-spec =
+    tie.close
+    (tie.spec
+    capped-pow-requires
+    capped-pow-requires-2
+    power-sign-requires
+    sign-of-requires
+    range-checked-requires
+    returns)

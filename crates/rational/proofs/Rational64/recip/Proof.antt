@@ -1,0 +1,10 @@
+use mathlib.Core.Path.{refl}
+use Rattle.rational.proofs.Soundness.{reciprocal-lowest}
+use Rattle.rational.proofs.Rational64.recip.Statement.{statement}
+use Rattle.rational.proofs.Rational64.recip.Tie as tie
+
+returns : tie.Need-returns
+returns c = (refl, reciprocal-lowest (c .args .self) (c .pre .0) (c .pre .1))
+
+pub recip-spec : {M : Type 1} → statement M
+recip-spec = tie.close (tie.spec returns)

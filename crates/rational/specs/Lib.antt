@@ -1,0 +1,4 @@
+pub mod Gcd
+pub mod Root
+pub mod Rational
+pub mod Promise

@@ -1,0 +1,120 @@
+-- Document 01, "Fractions and angles": the fractions. A fraction is a sign and two magnitudes; `proofs/Integers.antt` ties them to ℤ.
+use Prim.Native.Nat.{ℕ, _+_, _-_, _*_, _/_, _%_, _^_, _<_}
+use mathlib.Core.Path.{_≡_}
+use mathlib.Core.Bool.{Bool, true, false, not, _&&_, cond, Bool·beq}
+use lib.Dec.{ltb, eqb}
+use Rattle.rational.specs.Gcd.{gcd}
+use Rattle.rational.specs.Root.{root}
+use Rattle.rational.specs.declared.Rational64.{Rational64}
+use Rattle.rational.specs.declared.Checked.{Checked}
+use Rattle.rational.specs.declared.Checked.the-variants.{Some, None}
+use Rattle.rational.specs.declared.WholeRoot.{WholeRoot}
+use Rattle.rational.specs.declared.WholeRoot.the-variants.{Whole, Absent}
+
+-- "A fraction is n/d in lowest terms, d from 1 to 2^63-1, n from -(2^63-1) to 2^63-1." Zero has no sign.
+pub record LowestTerms (x : Rational64) : Type 0 where
+  pub positive : 0 < x .denom
+  pub numer-fits : x .numer < 2 ^ 63
+  pub denom-fits : x .denom < 2 ^ 63
+  pub coprime : gcd (x .numer) (x .denom) ≡ 1
+  pub zero-unsigned : x .numer ≡ 0 → x .negative ≡ false
+
+-- the range of a magnitude
+abbrev pub inRange : ℕ → Bool
+inRange m = ltb m (2 ^ 63)
+
+-- ±n/d as it stands; zero has no sign
+abbrev pub ratio : Bool → ℕ → ℕ → Rational64
+ratio s n d = record { negative = s && ltb 0 n; numer = n; denom = d }
+
+-- ±n/d "reduced"
+abbrev pub reduced : Bool → ℕ → ℕ → Rational64
+reduced s n d = ratio s (n / gcd n d) (d / gcd n d)
+
+-- "overflow exactly if the reduced result leaves the range"; overflow is None
+abbrev pub checked : Rational64 → Checked
+checked x = cond (inRange (x .numer) && inRange (x .denom)) (Some x) None
+
+-- the sign of a product
+abbrev pub unlike : Bool → Bool → Bool
+unlike true t = not t
+unlike false t = t
+
+-- the magnitude and the sign of ±p ± q; u says whether the two signs are unlike
+abbrev pub sumMagnitude : Bool → ℕ → ℕ → ℕ
+sumMagnitude true p q = p - q + (q - p)
+sumMagnitude false p q = p + q
+
+abbrev pub sumSign : Bool → ℕ → Bool → ℕ → Bool
+sumSign s p t q = cond (ltb p q) t s
+
+-- "l = b/g·d", the common denominator, with "g = gcd(b,d)"
+abbrev pub commonDenominator : ℕ → ℕ → ℕ
+commonDenominator b d = b / gcd b d * d
+
+abbrev pub allInRange : ℕ → ℕ → ℕ → ℕ → Bool
+allInRange l p q s = inRange l && (inRange p && (inRange q && inRange s))
+
+-- "Sum of a/b and c/d: g = gcd(b,d), l = b/g·d, p = l/b·a, q = l/d·c, s = p+q, then s/l reduced. Overflow exactly if l, p, q or s leaves the range."
+unfoldable pub sum : Rational64 → Rational64 → Checked
+sum x y =
+    let l = commonDenominator (x .denom) (y .denom) in
+    let p = l / x .denom * x .numer in
+    let q = l / y .denom * y .numer in
+    let s = sumMagnitude (unlike (x .negative) (y .negative)) p q in
+    cond (allInRange l p q s) (Some (reduced (sumSign (x .negative) p (y .negative) q) s l)) None
+
+-- the fraction with the other sign
+abbrev pub opposite : Rational64 → Rational64
+opposite y = ratio (not (y .negative)) (y .numer) (y .denom)
+
+-- "Difference likewise."
+unfoldable pub difference : Rational64 → Rational64 → Checked
+difference x y = sum x (opposite y)
+
+-- "Product, quotient, power: exact, overflow exactly if the reduced result leaves the range."
+unfoldable pub product : Rational64 → Rational64 → Checked
+product x y = checked (reduced (unlike (x .negative) (y .negative)) (x .numer * y .numer) (x .denom * y .denom))
+
+-- 1/y, for a y that is not 0
+abbrev pub reciprocal : Rational64 → Rational64
+reciprocal y = record { negative = y .negative; numer = y .denom; denom = y .numer }
+
+-- by a y that is not 0
+unfoldable pub quotient : Rational64 → Rational64 → Checked
+quotient x y = checked (reduced (unlike (x .negative) (y .negative)) (x .numer * y .denom) (x .denom * y .numer))
+
+-- to a whole power k; 0 to the power 0 is 1. It doesn't compute where k is huge.
+unfoldable pub power : Rational64 → ℕ → Checked
+power x k = checked (reduced (x .negative && eqb (k % 2) 1) (x .numer ^ k) (x .denom ^ k))
+
+-- the r with r ^ k = n, if there is one; k above 1
+unfoldable pub wholeRoot : ℕ → ℕ → WholeRoot
+wholeRoot k n = cond (eqb (root k n ^ k) n) (Whole (root k n)) Absent
+
+abbrev pub rootRatio : WholeRoot → WholeRoot → Checked
+rootRatio (Whole a) (Whole b) = Some (ratio false a b)
+rootRatio (Whole a) Absent = None
+rootRatio Absent b = None
+
+-- the k-th root, if numerator and denominator have whole ones and the fraction is not negative; k above 1
+unfoldable pub rationalRoot : ℕ → Rational64 → Checked
+rationalRoot k x = cond (x .negative) None (rootRatio (wholeRoot k (x .numer)) (wholeRoot k (x .denom)))
+
+-- without its whole part, "toward zero"
+abbrev pub fraction : Rational64 → Rational64
+fraction x = ratio (x .negative) (x .numer % x .denom) (x .denom)
+
+abbrev pub isZero : Rational64 → Bool
+isZero x = eqb (x .numer) 0
+
+abbrev pub same : Rational64 → Rational64 → Bool
+same x y = Bool·beq (x .negative) (y .negative) && (eqb (x .numer) (y .numer) && eqb (x .denom) (y .denom))
+
+-- a further operation on results: an overflow stands
+abbrev pub step : Checked → (Rational64 → Checked) → Checked
+step (Some x) op = op x
+step None op = None
+
+abbrev pub both : (Rational64 → Rational64 → Checked) → Checked → Checked → Checked
+both op x y = step x (λ a. step y (λ b. op a b))

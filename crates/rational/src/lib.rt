@@ -1,0 +1,375 @@
+// Fractions in lowest terms, a sign beside two magnitudes: the stand-in for num's Rational64.
+ghost use mathlib.Core.Path.{_≡_};
+ghost use mathlib.Core.Bool.{_&&_, Bool·beq};
+ghost use lib.Dec.{ltb, eqb};
+ghost use Prim.Native.Nat.{ℕ, _+_, _-_, _*_, _/_, _%_, _<_, _≤_, _^_, min};
+ghost use Rattle.rational.specs.Gcd.{gcd};
+ghost use Rattle.rational.specs.Root.{root};
+ghost use Rattle.rational.specs.Rational.{LowestTerms, ratio, reduced, checked, unlike, sumMagnitude, sumSign, commonDenominator, allInRange, sum, opposite, difference, product, reciprocal, quotient, power, wholeRoot, rootRatio, rationalRoot, fraction, same, both};
+ghost use Rattle.rational.specs.Promise.{SoundChecked, ChecksTo};
+
+pub struct Rational64 {
+    pub negative: bool,
+    pub numer: u64,
+    pub denom: u64,
+}
+
+// Option<Rational64> in the Rust.
+pub enum Checked {
+    Some(Rational64),
+    None,
+}
+
+// Option<u64> in the Rust: a root that is a whole number.
+pub enum WholeRoot {
+    Whole(u64),
+    Absent,
+}
+
+// The first magnitude out of range. What passes it is cut to it, and tested once at the end.
+const LIMIT: u64 = 0x8000_0000_0000_0000;
+
+pub fn gcd(a: u64, b: u64) -> u64
+    ensures { λ r. ⌜ r ≡ gcd a b ⌝ }
+{
+    let mut x = a;
+    let mut y = b;
+    while y != 0 {
+        let t = x % y;
+        x = y;
+        y = t;
+    }
+    x
+}
+
+// a * b, cut to the limit.
+pub fn capped_mul(a: u64, b: u64) -> u64
+    ensures { λ r. ⌜ r ≡ min (a * b) (2 ^ 63) ⌝ }
+{
+    if a == 0 {
+        return 0;
+    }
+    if b <= LIMIT / a {
+        return a * b;
+    }
+    LIMIT
+}
+
+// b^k, cut to the limit, after at most 64 turns.
+pub fn capped_pow(b: u64, k: u64) -> u64
+    ensures { λ r. ⌜ r ≡ min (b ^ k) (2 ^ 63) ⌝ }
+{
+    if k == 0 {
+        return 1;
+    }
+    if b <= 1 {
+        return b;
+    }
+    let mut r = 1u64;
+    let mut i = 0u64;
+    while i < k {
+        if LIMIT <= r {
+            return LIMIT;
+        }
+        r = capped_mul(r, b);
+        i += 1;
+    }
+    r
+}
+
+// Whether two signs differ.
+pub fn signs_differ(s: bool, t: bool) -> bool
+    ensures { λ r. ⌜ r ≡ unlike s t ⌝ }
+{
+    if s { !t } else { t }
+}
+
+// A sign, which zero has not.
+pub fn sign_of(s: bool, n: u64) -> bool
+    ensures { λ r. ⌜ r ≡ (s && ltb 0 n) ⌝ }
+{
+    if s { 0 < n } else { false }
+}
+
+// The fraction, if it is in range.
+pub fn range_checked(x: Rational64) -> Checked
+    ensures { λ r. ⌜ r ≡ checked x ⌝ }
+{
+    if x.numer < LIMIT {
+        if x.denom < LIMIT {
+            return Checked::Some(x);
+        }
+    }
+    Checked::None
+}
+
+// n/d in lowest terms.
+fn lowest_terms(s: bool, n: u64, d: u64) -> Rational64
+    requires { ⌜ 0 < d ⌝ }
+    ensures { λ r. ⌜ r ≡ reduced s n d ⌝ }
+{
+    let g = gcd(n, d);
+    let k = n / g;
+    Rational64 {
+        negative: sign_of(s, k),
+        numer: k,
+        denom: d / g,
+    }
+}
+
+// The sum's common denominator, cut to the limit.
+fn common_denominator(b: u64, d: u64) -> u64
+    requires { ⌜ 0 < d ⌝ }
+    ensures { λ r. ⌜ r ≡ min (commonDenominator b d) (2 ^ 63) ⌝ }
+{
+    let g = gcd(b, d);
+    capped_mul(b / g, d)
+}
+
+// p + q, or how far they are apart where the signs differ, cut to the limit.
+fn sum_magnitude(u: bool, p: u64, q: u64) -> u64
+    requires { ⌜ (p ≤ 2 ^ 63) × (q ≤ 2 ^ 63) ⌝ }
+    ensures { λ r. ⌜ r ≡ min (sumMagnitude u p q) (2 ^ 63) ⌝ }
+{
+    if u {
+        if p < q {
+            return q - p;
+        }
+        return p - q;
+    }
+    if q <= LIMIT - p {
+        return p + q;
+    }
+    LIMIT
+}
+
+// The sign of the larger.
+fn sum_sign(s: bool, p: u64, t: bool, q: u64) -> bool
+    ensures { λ r. ⌜ r ≡ sumSign s p t q ⌝ }
+{
+    if p < q { t } else { s }
+}
+
+fn all_in_range(l: u64, p: u64, q: u64, s: u64) -> bool
+    ensures { λ r. ⌜ r ≡ allInRange l p q s ⌝ }
+{
+    if l < LIMIT {
+        if p < LIMIT {
+            if q < LIMIT {
+                return s < LIMIT;
+            }
+        }
+    }
+    false
+}
+
+// The whole part of the k-th root, by halving the interval that it lies in.
+fn floor_root(n: u64, k: u64) -> u64
+    requires { ⌜ (1 < k) × (n < 2 ^ 63) ⌝ }
+    ensures { λ r. ⌜ r ≡ root k n ⌝ }
+{
+    let mut lo = 0u64;
+    let mut hi = 0x1_0000_0000u64;
+    while lo + 1 < hi {
+        let mid = (lo + hi) / 2;
+        if capped_pow(mid, k) <= n {
+            lo = mid;
+        } else {
+            hi = mid;
+        }
+    }
+    lo
+}
+
+// The k-th root of n, if it is whole.
+pub fn int_root(n: u64, k: u64) -> WholeRoot
+    requires { ⌜ (1 < k) × (n < 2 ^ 63) ⌝ }
+    ensures { λ r. ⌜ r ≡ wholeRoot k n ⌝ }
+{
+    let r = floor_root(n, k);
+    if capped_pow(r, k) == n {
+        return WholeRoot::Whole(r);
+    }
+    WholeRoot::Absent
+}
+
+// A root's numerator over its denominator.
+fn root_ratio(n: WholeRoot, d: WholeRoot) -> Checked
+    ensures { λ r. ⌜ r ≡ rootRatio n d ⌝ }
+{
+    let WholeRoot::Whole(a) = n else {
+        return Checked::None;
+    };
+    let WholeRoot::Whole(b) = d else {
+        return Checked::None;
+    };
+    Checked::Some(Rational64 {
+        negative: false,
+        numer: a,
+        denom: b,
+    })
+}
+
+// Whether a power keeps the sign.
+fn power_sign(s: bool, k: u64) -> bool
+    ensures { λ r. ⌜ r ≡ (s && eqb (k % 2) 1) ⌝ }
+{
+    if s { k % 2 == 1 } else { false }
+}
+
+fn signs_equal(s: bool, t: bool) -> bool
+    ensures { λ r. ⌜ r ≡ Bool·beq s t ⌝ }
+{
+    if s { t } else { !t }
+}
+
+impl Rational64 {
+    pub fn checked_add(self, y: Rational64) -> Checked
+        requires { ⌜ LowestTerms self × LowestTerms y ⌝ }
+        ensures { λ r. ⌜ ChecksTo (sum self y) r ⌝ }
+    {
+        let l = common_denominator(self.denom, y.denom);
+        let p = capped_mul(l / self.denom, self.numer);
+        let q = capped_mul(l / y.denom, y.numer);
+        let s = sum_magnitude(signs_differ(self.negative, y.negative), p, q);
+        let sign = sum_sign(self.negative, p, y.negative, q);
+        if all_in_range(l, p, q, s) {
+            return Checked::Some(lowest_terms(sign, s, l));
+        }
+        Checked::None
+    }
+
+    pub fn opposite(self) -> Rational64
+        requires { ⌜ LowestTerms self ⌝ }
+        ensures { λ r. ⌜ (r ≡ opposite self) × LowestTerms r ⌝ }
+    {
+        let s = sign_of(!self.negative, self.numer);
+        Rational64 {
+            negative: s,
+            numer: self.numer,
+            denom: self.denom,
+        }
+    }
+
+    pub fn checked_sub(self, y: Rational64) -> Checked
+        requires { ⌜ LowestTerms self × LowestTerms y ⌝ }
+        ensures { λ r. ⌜ ChecksTo (difference self y) r ⌝ }
+    {
+        self.checked_add(y.opposite())
+    }
+
+    // Reduced crosswise first, so that no product leaves the range that the result does not leave.
+    pub fn checked_mul(self, y: Rational64) -> Checked
+        requires { ⌜ LowestTerms self × LowestTerms y ⌝ }
+        ensures { λ r. ⌜ ChecksTo (product self y) r ⌝ }
+    {
+        let g = gcd(self.numer, y.denom);
+        let h = gcd(y.numer, self.denom);
+        let n = capped_mul(self.numer / g, y.numer / h);
+        let d = capped_mul(self.denom / h, y.denom / g);
+        let s = sign_of(signs_differ(self.negative, y.negative), n);
+        range_checked(Rational64 {
+            negative: s,
+            numer: n,
+            denom: d,
+        })
+    }
+
+    pub fn recip(self) -> Rational64
+        requires { ⌜ LowestTerms self × (0 < self .numer) ⌝ }
+        ensures { λ r. ⌜ (r ≡ reciprocal self) × LowestTerms r ⌝ }
+    {
+        Rational64 {
+            negative: self.negative,
+            numer: self.denom,
+            denom: self.numer,
+        }
+    }
+
+    pub fn checked_div(self, y: Rational64) -> Checked
+        requires { ⌜ LowestTerms self × (LowestTerms y × (0 < y .numer)) ⌝ }
+        ensures { λ r. ⌜ ChecksTo (quotient self y) r ⌝ }
+    {
+        self.checked_mul(y.recip())
+    }
+
+    pub fn checked_pow(self, k: u64) -> Checked
+        requires { ⌜ LowestTerms self ⌝ }
+        ensures { λ r. ⌜ ChecksTo (power self k) r ⌝ }
+    {
+        let n = capped_pow(self.numer, k);
+        let d = capped_pow(self.denom, k);
+        let s = sign_of(power_sign(self.negative, k), n);
+        range_checked(Rational64 {
+            negative: s,
+            numer: n,
+            denom: d,
+        })
+    }
+
+    // The k-th root, if numerator and denominator have whole ones.
+    pub fn rat_root(self, k: u64) -> Checked
+        requires { ⌜ LowestTerms self × (1 < k) ⌝ }
+        ensures { λ r. ⌜ ChecksTo (rationalRoot k self) r ⌝ }
+    {
+        if self.negative {
+            return Checked::None;
+        }
+        let n = int_root(self.numer, k);
+        let d = int_root(self.denom, k);
+        root_ratio(n, d)
+    }
+
+    // Without its whole part, toward zero.
+    pub fn fract(self) -> Rational64
+        requires { ⌜ LowestTerms self ⌝ }
+        ensures { λ r. ⌜ (r ≡ fraction self) × LowestTerms r ⌝ }
+    {
+        let n = self.numer % self.denom;
+        let s = sign_of(self.negative, n);
+        Rational64 {
+            negative: s,
+            numer: n,
+            denom: self.denom,
+        }
+    }
+
+    pub fn equals(self, y: Rational64) -> bool
+        ensures { λ r. ⌜ r ≡ same self y ⌝ }
+    {
+        if signs_equal(self.negative, y.negative) {
+            if self.numer == y.numer {
+                return self.denom == y.denom;
+            }
+        }
+        false
+    }
+}
+
+// The product of two results.
+pub fn product_of(x: Checked, y: Checked) -> Checked
+    requires { ⌜ SoundChecked x × SoundChecked y ⌝ }
+    ensures { λ r. ⌜ ChecksTo (both product x y) r ⌝ }
+{
+    let Checked::Some(a) = x else {
+        return Checked::None;
+    };
+    let Checked::Some(b) = y else {
+        return Checked::None;
+    };
+    a.checked_mul(b)
+}
+
+// The sum of two results.
+pub fn sum_of(x: Checked, y: Checked) -> Checked
+    requires { ⌜ SoundChecked x × SoundChecked y ⌝ }
+    ensures { λ r. ⌜ ChecksTo (both sum x y) r ⌝ }
+{
+    let Checked::Some(a) = x else {
+        return Checked::None;
+    };
+    let Checked::Some(b) = y else {
+        return Checked::None;
+    };
+    a.checked_add(b)
+}

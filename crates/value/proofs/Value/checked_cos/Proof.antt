@@ -1,0 +1,25 @@
+use mathlib.Core.Path.{_∙_}
+use Rattle.value.specs.Value.{cosine}
+use Rattle.value.proofs.Soundness.{cosine-sound, evaluates}
+use borrow.Author.Needs.{needs}
+use Rattle.value.proofs.Value.checked_cos.Statement.{statement}
+use Rattle.value.proofs.Value.checked_cos.Tie as tie
+
+half-pi-requires : tie.Need-half-pi-requires
+half-pi-requires c κs = search needs
+
+checked-add-requires : tie.Need-checked-add-requires
+checked-add-requires c κs = search needs
+
+sine-of-requires : tie.Need-sine-of-requires
+sine-of-requires c κs = search needs
+
+returns : tie.Need-returns
+unfolding cosine
+returns c =
+    let a = c .before .before .before in
+    evaluates (c .sine-of .ensures ∙ rw (c .before .checked-add .ensures .is, c .before .before .half-pi .ensures .0)) (cosine-sound (a .args .self) (a .pre))
+
+pub checked-cos-spec : {M : Type 1} → statement M
+checked-cos-spec =
+    tie.close (tie.spec half-pi-requires checked-add-requires sine-of-requires returns)

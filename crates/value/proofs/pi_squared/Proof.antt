@@ -1,0 +1,10 @@
+use Rattle.value.proofs.Soundness.{pi-squared-lowest}
+use mathlib.Core.Path.{refl}
+use Rattle.value.proofs.pi_squared.Statement.{statement}
+use Rattle.value.proofs.pi_squared.Tie as tie
+
+returns : tie.Need-returns
+returns c = record { is = refl; sound = pi-squared-lowest }
+
+pub pi-squared-spec : {M : Type 1} → statement M
+pi-squared-spec = tie.close (tie.spec returns)
