@@ -1,13 +1,20 @@
--- The size and the sign that the sum's steps give are those of the sum of two integers.
-use mathlib.Core.Path.{_≡_, refl, sym, ap, _∙_}
-use mathlib.Core.Bool.{Bool, true, false, cond}
-use Prim.Native.Nat.{ℕ, zero, suc, _+_, _-_, _≤_, _<_}
+-- For a reader who doubts the sign and the magnitudes: sum, difference, product and quotient against ℤ, and that a fraction has one form in lowest terms.
+use mathlib.Core.Path.{_≡_, refl, sym, ap, _∙_, subst}
+use mathlib.Core.Bool.{Bool, true, false, not, cond, _&&_}
+use Prim.Native.Nat.{ℕ, zero, suc, _+_, _-_, _*_, _/_, _^_, _≤_, _<_}
+use native.Mathlib.Nat.{mul-assoc, mul-comm, mul-sub, mul-add, mul-pos, mul-div-cancel', div-eq-of-eq-mul-right, lt-of-mul-lt-mul-left, mul-lt-mul-of-pos-left, mul-le-mul-left, mul-zero, zero-mul, zero-lt-suc, lt-irrefl}
 use native.Mathlib.Omega.{arith}
 use lib.Dec.{ltb}
-use lib.IntN.{ℤ, pos, negsuc, negℤ, _+ℤ_, subℕ, negℤ-+ℤ, +ℤ-comm}
+use lib.IntN.{ℤ, pos, negsuc, negℤ, natAbs, pos-ne-negsuc, _+ℤ_, _*ℤ_, subℕ, negℤ-+ℤ, +ℤ-comm}
 use borrow.Author.Tests.{ltb-true, ltb-false, lt-ltb, le-ltb}
-use Rattle.rational.specs.Rational.{unlike, sumMagnitude, sumSign}
+use Rattle.rational.specs.Gcd.{gcd}
+use Rattle.rational.specs.Rational.{LowestTerms, inRange, ratio, reduced, checked, unlike, sumMagnitude, sumSign, commonDenominator, allInRange, sum, opposite, difference, product, quotient}
+use Rattle.rational.specs.declared.Rational64.{Rational64}
+use Rattle.rational.specs.declared.Checked.{Checked}
+use Rattle.rational.specs.declared.Checked.the-variants.{Some, None}
+use Rattle.rational.proofs.GcdLaws.{gcd-dvd-left, gcd-dvd-right, gcd-pos, lowest-unique}
 
+-- ---- the size and the sign that the sum's steps give are those of the sum of two integers
 abbrev pub toZ : Bool → ℕ → ℤ
 toZ true n = negℤ (pos n)
 toZ false n = pos n
@@ -46,8 +53,204 @@ more p q = go (ltb p q) refl
             let z : q - p + (p - q) ≡ 0 = omega (arith, ltb-false q p g, ltb-false p q e) in
             ap (λ (n : ℕ). negℤ (pos n)) z ∙ sym (ap pos z) ∙ sym (ap (λ (b : Bool). toZ (cond b true false) (q - p + (p - q))) g) ∙ less q p ∙ +ℤ-comm (pos q) (negℤ (pos p))
 
-pub signed-sum : (s t : Bool) (p q : ℕ) → toZ (sumSign s p t q) (sumMagnitude (unlike s t) p q) ≡ toZ s p +ℤ toZ t q
+signed-sum : (s t : Bool) (p q : ℕ) → toZ (sumSign s p t q) (sumMagnitude (unlike s t) p q) ≡ toZ s p +ℤ toZ t q
 signed-sum false false p q = ap (λ (b : Bool). toZ b (p + q)) (same (ltb p q) false)
 signed-sum true true p q = ap (λ (b : Bool). toZ b (p + q)) (same (ltb p q) true) ∙ negℤ-+ℤ (pos p) (pos q)
 signed-sum false true p q = less p q
 signed-sum true false p q = more p q
+
+-- ---- products of signed numbers
+no-sign : (k : ℕ) → k ≡ 0 → pos k ≡ negℤ (pos k)
+no-sign k e = rw e refl
+
+either-sign : (s t : Bool) (k : ℕ) → k ≡ 0 → toZ s k ≡ toZ t k
+either-sign true true k e = refl
+either-sign true false k e = sym (no-sign k e)
+either-sign false true k e = no-sign k e
+either-sign false false k e = refl
+
+toZ-times : (s : Bool) (n m : ℕ) → toZ s n *ℤ pos m ≡ toZ s (n * m)
+toZ-times false n m = refl
+toZ-times true zero m = no-sign (0 * m) (zero-mul m)
+toZ-times true (suc n) m = refl
+
+pub toZ-product : (s t : Bool) (n m : ℕ) → toZ s n *ℤ toZ t m ≡ toZ (unlike s t) (n * m)
+toZ-product false false n m = refl
+toZ-product true false n m = toZ-times true n m
+toZ-product false true n zero = no-sign (n * 0) (mul-zero n)
+toZ-product false true n (suc m) = refl
+toZ-product true true zero zero = refl
+toZ-product true true zero (suc m) = sym (no-sign (0 * suc m) (zero-mul (suc m)))
+toZ-product true true (suc n) zero = sym (no-sign (suc n * 0) (mul-zero (suc n)))
+toZ-product true true (suc n) (suc m) = refl
+
+-- a sign that zero drops changes no product
+toZ-unsigned : (s : Bool) (k m : ℕ) → toZ (s && ltb 0 k) (k * m) ≡ toZ s (k * m)
+toZ-unsigned false k m = refl
+toZ-unsigned true zero m = no-sign (0 * m) (zero-mul m)
+toZ-unsigned true (suc k) m = rw (lt-ltb 0 (suc k) (zero-lt-suc k)) refl
+
+-- ---- a fraction's numerator, with its sign
+abbrev pub numerator : Rational64 → ℤ
+numerator x = toZ (x .negative) (x .numer)
+
+-- both sides are brought to the magnitudes k·D and n·e
+reduced-is : (s : Bool) (n d m w : ℕ) → n / gcd n d * m ≡ w → numerator (reduced s n d) *ℤ pos m ≡ toZ s w
+reduced-is s n d m w e = toZ-times (s && ltb 0 (n / gcd n d)) (n / gcd n d) m ∙ toZ-unsigned s (n / gcd n d) m ∙ ap (toZ s) e
+
+-- n/g · d and n · (d/g)
+crosswise : (n d : ℕ) → n / gcd n d * d ≡ n * (d / gcd n d)
+crosswise n d =
+    let g = gcd n d in
+    let p : g * (n / g) ≡ n = mul-div-cancel' g (gcd-dvd-left n d) in
+    let q : g * (d / g) ≡ d = mul-div-cancel' g (gcd-dvd-right n d) in
+    across (n / g) (d / g) g n d p q
+  where
+    across : (k e g n d : ℕ) → g * k ≡ n → g * e ≡ d → k * d ≡ n * e
+    across k e g n d p q = rw (← p, ← q) (omega arith)
+
+only : (b : Bool) (x r : Rational64) → cond b (Some x) None ≡ Some r → x ≡ r
+only true x r e = cc
+only false x r e = absurd (let z : _≡_ {A = ℕ} 0 1 = cc in omega arith)
+
+-- r = x·y: the numerator of r over its denominator is the product of the numerators over that of the denominators
+pub product-integers : (x y r : Rational64) → product x y ≡ Some r → numerator r *ℤ pos (x .denom * y .denom) ≡ numerator x *ℤ numerator y *ℤ pos (r .denom)
+unfolding product
+product-integers x y r e =
+    let s = unlike (x .negative) (y .negative) in
+    let n = x .numer * y .numer in
+    let d = x .denom * y .denom in
+    subst (λ (z : Rational64). numerator z *ℤ pos d ≡ numerator x *ℤ numerator y *ℤ pos (z .denom)) (only (inRange (n / gcd n d) && inRange (d / gcd n d)) (reduced s n d) r e)
+    (reduced-is s n d d (n * (d / gcd n d)) (crosswise n d)
+    ∙ sym (toZ-times s n (d / gcd n d))
+    ∙ ap (λ (z : ℤ). z *ℤ pos (d / gcd n d)) (sym (toZ-product (x .negative) (y .negative) (x .numer) (y .numer))))
+
+-- r = x/y: r times y is x
+pub quotient-integers : (x y r : Rational64) → quotient x y ≡ Some r → numerator r *ℤ (pos (x .denom) *ℤ numerator y) ≡ numerator x *ℤ pos (y .denom) *ℤ pos (r .denom)
+unfolding quotient
+quotient-integers x y r e =
+    let s = unlike (x .negative) (y .negative) in
+    let n = x .numer * y .denom in
+    let d = x .denom * y .numer in
+    let k = n / gcd n d in
+    subst (λ (z : Rational64). numerator z *ℤ (pos (x .denom) *ℤ numerator y) ≡ numerator x *ℤ pos (y .denom) *ℤ pos (z .denom)) (only (inRange (n / gcd n d) && inRange (d / gcd n d)) (reduced s n d) r e)
+    (ap (λ (z : ℤ). numerator (reduced s n d) *ℤ z) (toZ-product false (y .negative) (x .denom) (y .numer))
+    ∙ toZ-product (s && ltb 0 k) (y .negative) k d
+    ∙ signs (x .negative) (y .negative) k d
+    ∙ ap (toZ (x .negative)) (crosswise n d)
+    ∙ sym (toZ-times (x .negative) n (d / gcd n d))
+    ∙ ap (λ (z : ℤ). z *ℤ pos (d / gcd n d)) (sym (toZ-times (x .negative) (x .numer) (y .denom))))
+  where
+    undone : (s t : Bool) → unlike (unlike s t && true) t ≡ s
+    undone true true = refl
+    undone true false = refl
+    undone false true = refl
+    undone false false = refl
+
+    signs : (s t : Bool) (k d : ℕ) → toZ (unlike (unlike s t && ltb 0 k) t) (k * d) ≡ toZ s (k * d)
+    signs s t zero d = either-sign (unlike (unlike s t && false) t) s (0 * d) (zero-mul d)
+    signs s t (suc k) d = rw (lt-ltb 0 (suc k) (zero-lt-suc k)) (ap (λ (b : Bool). toZ b (suc k * d)) (undone s t))
+
+-- ---- the sum
+magnitude-times : (u : Bool) (k p q : ℕ) → sumMagnitude u (k * p) (k * q) ≡ k * sumMagnitude u p q
+magnitude-times true k p q = ap (λ (z : ℕ). z + (k * q - k * p)) (sym (mul-sub k p q)) ∙ ap (λ (z : ℕ). k * (p - q) + z) (sym (mul-sub k q p)) ∙ sym (mul-add k (p - q) (q - p))
+magnitude-times false k p q = sym (mul-add k p q)
+
+ltb-times : (k p q : ℕ) → 0 < k → ltb (k * p) (k * q) ≡ ltb p q
+ltb-times k p q h = go (ltb p q) refl
+  where
+    go : (b : Bool) → ltb p q ≡ b → ltb (k * p) (k * q) ≡ b
+    go true e = lt-ltb (k * p) (k * q) (mul-lt-mul-of-pos-left (ltb-true p q e) h)
+    go false e = le-ltb (k * p) (k * q) (mul-le-mul-left k (ltb-false p q e))
+
+-- ±k·p ± k·q is k times ±p ± q
+scaled : (s t : Bool) (k p q : ℕ) → 0 < k → toZ s (k * p) +ℤ toZ t (k * q) ≡ toZ (sumSign s p t q) (k * sumMagnitude (unlike s t) p q)
+scaled s t k p q h =
+    sym (signed-sum s t (k * p) (k * q))
+    ∙ ap (λ (b : Bool). toZ (cond b t s) (sumMagnitude (unlike s t) (k * p) (k * q))) (ltb-times k p q h)
+    ∙ ap (toZ (sumSign s p t q)) (magnitude-times (unlike s t) k p q)
+
+-- r = x + y over ℤ
+pub sum-integers : (x y r : Rational64) → LowestTerms x → LowestTerms y → sum x y ≡ Some r
+    → numerator r *ℤ pos (x .denom * y .denom) ≡ (numerator x *ℤ pos (y .denom) +ℤ numerator y *ℤ pos (x .denom)) *ℤ pos (r .denom)
+unfolding sum
+sum-integers x y r px py e =
+    let b = x .denom in
+    let d = y .denom in
+    let g = gcd b d in
+    let gp : 0 < g = gcd-pos b d (py .positive) in
+    let eb : g * (b / g) ≡ b = mul-div-cancel' g (gcd-dvd-left b d) in
+    let ed : g * (d / g) ≡ d = mul-div-cancel' g (gcd-dvd-right b d) in
+    let l = commonDenominator b d in
+    let p = l / b * x .numer in
+    let q = l / d * y .numer in
+    let m = sumMagnitude (unlike (x .negative) (y .negative)) p q in
+    let s = sumSign (x .negative) p (y .negative) q in
+    let lb : l / b ≡ d / g = div-eq-of-eq-mul-right (px .positive) (left (b / g) (d / g) g b d eb ed) in
+    let ld : l / d ≡ b / g = div-eq-of-eq-mul-right (py .positive) (mul-comm (b / g) d) in
+    let ep : x .numer * d ≡ g * p = rw lb (across (x .numer) (d / g) g d ed) in
+    let eq : y .numer * b ≡ g * q = rw ld (across (y .numer) (b / g) g b eb) in
+    subst (λ (z : Rational64). numerator z *ℤ pos (b * d) ≡ (numerator x *ℤ pos d +ℤ numerator y *ℤ pos b) *ℤ pos (z .denom)) (only (allInRange l p q m) (reduced s m l) r e)
+    (reduced-is s m l (b * d) (g * m * (l / gcd m l)) (whole (m / gcd m l) (l / gcd m l) m l g (b / g) b d (crosswise m l) eb)
+    ∙ sym (toZ-times s (g * m) (l / gcd m l))
+    ∙ ap (λ (z : ℤ). z *ℤ pos (l / gcd m l))
+    (sym (scaled (x .negative) (y .negative) g p q gp)
+    ∙ ap (λ (z : ℕ). toZ (x .negative) z +ℤ toZ (y .negative) (g * q)) (sym ep)
+    ∙ ap (λ (z : ℕ). toZ (x .negative) (x .numer * d) +ℤ toZ (y .negative) z) (sym eq)
+    ∙ ap (λ (z : ℤ). z +ℤ toZ (y .negative) (y .numer * b)) (sym (toZ-times (x .negative) (x .numer) d))
+    ∙ ap (λ (z : ℤ). numerator x *ℤ pos d +ℤ z) (sym (toZ-times (y .negative) (y .numer) b))))
+  where
+    left : (B D g b d : ℕ) → g * B ≡ b → g * D ≡ d → B * d ≡ b * D
+    left B D g b d p q = rw (← p, ← q) (omega arith)
+
+    across : (a D g d : ℕ) → g * D ≡ d → a * d ≡ g * (D * a)
+    across a D g d p = rw (← p) (omega arith)
+
+    whole : (k e m l g B b d : ℕ) → k * (B * d) ≡ m * e → g * B ≡ b → k * (b * d) ≡ g * m * e
+    whole k e m l g B b d p q = rw (← q) (omega (arith, ap (λ (z : ℕ). g * z) p))
+
+-- r = x - y over ℤ: the sum with the opposite, whose numerator is the other way round
+pub opposite-integers : (y : Rational64) → LowestTerms y → numerator (opposite y) ≡ negℤ (numerator y)
+opposite-integers y l = go (y .negative) (y .numer)
+  where
+    go : (s : Bool) (n : ℕ) → toZ (not s && ltb 0 n) n ≡ negℤ (toZ s n)
+    go true zero = refl
+    go true (suc n) = refl
+    go false zero = refl
+    go false (suc n) = rw (lt-ltb 0 (suc n) (zero-lt-suc n)) refl
+
+-- ---- lowest terms are unique
+size-of : (s : Bool) (n : ℕ) → natAbs (toZ s n) ≡ n
+size-of true zero = refl
+size-of true (suc n) = refl
+size-of false n = refl
+
+sign-of-number : (s t : Bool) (k : ℕ) → 0 < k → toZ s k ≡ toZ t k → s ≡ t
+sign-of-number s t zero h e = absurd (lt-irrefl 0 h)
+sign-of-number true true (suc k) h e = refl
+sign-of-number true false (suc k) h e = absurd (pos-ne-negsuc (suc k) k (sym e))
+sign-of-number false true (suc k) h e = absurd (pos-ne-negsuc (suc k) k e)
+sign-of-number false false (suc k) h e = refl
+
+same-fields : (s t : Bool) (n m d e : ℕ) → s ≡ t → n ≡ m → d ≡ e → _≡_ {A = Rational64} (record { negative = s; numer = n; denom = d }) (record { negative = t; numer = m; denom = e })
+same-fields s t n m d e p q r = rw (p, q, r)
+
+-- two fractions of one value are the same fraction
+pub unique : (x y : Rational64) → LowestTerms x → LowestTerms y → numerator x *ℤ pos (y .denom) ≡ numerator y *ℤ pos (x .denom) → x ≡ y
+unique x y p q e =
+    same-fields (x .negative) (y .negative) (x .numer) (y .numer) (x .denom) (y .denom) (signs (x .numer) refl) (parts .0) (parts .1)
+  where
+    products : toZ (x .negative) (x .numer * y .denom) ≡ toZ (y .negative) (y .numer * x .denom)
+    products = sym (toZ-times (x .negative) (x .numer) (y .denom)) ∙ e ∙ toZ-times (y .negative) (y .numer) (x .denom)
+
+    cross : x .numer * y .denom ≡ y .numer * x .denom
+    cross = sym (size-of (x .negative) (x .numer * y .denom)) ∙ ap natAbs products ∙ size-of (y .negative) (y .numer * x .denom)
+
+    parts : (x .numer ≡ y .numer) × (x .denom ≡ y .denom)
+    parts = lowest-unique (x .numer) (x .denom) (y .numer) (y .denom) (p .positive) (p .coprime) (q .coprime) cross
+
+    signs : (n : ℕ) → x .numer ≡ n → x .negative ≡ y .negative
+    signs zero z = p .zero-unsigned z ∙ sym (q .zero-unsigned (sym (parts .0) ∙ z))
+    signs (suc n) z =
+        sign-of-number (x .negative) (y .negative) (x .numer * y .denom) (mul-pos (subst (λ (m : ℕ). 0 < m) (sym z) (zero-lt-suc n)) (q .positive))
+        (products ∙ ap (toZ (y .negative)) (sym cross))

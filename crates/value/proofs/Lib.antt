@@ -1,2 +1,4 @@
+pub mod Cases
 pub mod Soundness
 pub mod TurnLaws
+pub mod WholeNumbers

@@ -1,7 +1,8 @@
 -- What the definitions give has both parts in lowest terms and in range.
 use mathlib.Core.Path.{_≡_, refl, sym, subst}
-use mathlib.Core.Bool.{Bool, true, false, _&&_, _||_, cond}
+use mathlib.Core.Bool.{Bool, true, false, not, _&&_, _||_, cond}
 use Prim.Native.Nat.{ℕ, zero, suc, _^_, _<_}
+use native.Mathlib.Nat.{lt-irrefl}
 use native.Mathlib.Omega.{arith}
 use lib.Dec.{T, ltb, eqb, lit<}
 use lib.Ieee.{Float, binary32, fits, div}
@@ -13,7 +14,7 @@ use Rattle.rational.specs.Promise.{SoundChecked}
 use Rattle.rational.specs.declared.Rational64.{Rational64}
 use Rattle.rational.specs.declared.Checked.{Checked}
 use Rattle.rational.specs.declared.Checked.the-variants.{Some, None}
-use Rattle.rational.proofs.Soundness.{sum-sound, product-sound, difference-sound, quotient-sound, power-sound, reciprocal-lowest, fraction-lowest}
+use Rattle.rational.proofs.Soundness.{both-true, sum-sound, product-sound, difference-sound, quotient-sound, power-sound, reciprocal-lowest, fraction-lowest}
 use Rattle.rational.proofs.WholeRoots.{root-sound}
 use Rattle.float.specs.Float.{approximateFloat}
 use Rattle.float.proofs.FloatTerms.{float-sound}
@@ -29,33 +30,53 @@ use Rattle.value.specs.declared.Evaluation.the-variants as evaluation
 pub evaluates : {defined result : Evaluation} → result ≡ defined → SoundEvaluation defined → EvaluatesTo defined result
 evaluates e s = record { is = e; sound = subst SoundEvaluation (sym e) s }
 
--- ---- constants
+-- ---- constants: a test that computes
+abbrev lowestTest : Bool → ℕ → ℕ → Bool
+lowestTest s n d = ltb 0 d && (inRange n && (inRange d && (eqb (gcd n d) 1 && (not s || ltb 0 n))))
+
+lowest-tested : (s : Bool) (n d : ℕ) → lowestTest s n d ≡ true → LowestTerms (record { negative = s; numer = n; denom = d })
+lowest-tested s n d e =
+    let a = both-true (ltb 0 d) (inRange n && (inRange d && (eqb (gcd n d) 1 && (not s || ltb 0 n)))) e in
+    let b = both-true (inRange n) (inRange d && (eqb (gcd n d) 1 && (not s || ltb 0 n))) (a .1) in
+    let f = both-true (inRange d) (eqb (gcd n d) 1 && (not s || ltb 0 n)) (b .1) in
+    let g = both-true (eqb (gcd n d) 1) (not s || ltb 0 n) (f .1) in
+    record {
+      positive = ltb-true 0 d (a .0);
+      numer-fits = ltb-true n (2 ^ 63) (b .0);
+      denom-fits = ltb-true d (2 ^ 63) (f .0);
+      coprime = eqb-true (gcd n d) 1 (g .0);
+      zero-unsigned = λ z. unsigned s z (g .1);
+    }
+  where
+    unsigned : (s : Bool) → n ≡ 0 → (not s || ltb 0 n) ≡ true → s ≡ false
+    unsigned true z t = absurd (lt-irrefl 0 (subst (λ (m : ℕ). 0 < m) z (ltb-true 0 n t)))
+    unsigned false z t = refl
+
 pub zero-lowest : LowestTerms noFraction
 unfolding gcd euclid
-zero-lowest = record { positive = lit< tt; numer-fits = lit< tt; denom-fits = lit< tt; coprime = refl; zero-unsigned = λ e. refl }
-
--- a whole number, or a half, that is not 0
-pub halves-lowest : (s : Bool) (n d : ℕ) → 0 < n → n < 2 ^ 63 → 0 < d → d < 2 ^ 63 → gcd n d ≡ 1 → LowestTerms (record { negative = s; numer = n; denom = d })
-halves-lowest s n d p q h k e = record { positive = h; numer-fits = q; denom-fits = k; coprime = e; zero-unsigned = λ z. absurd (no z p) }
-  where
-    no : n ≡ 0 → 0 < n → ⊥
-    no z p = omega arith
+zero-lowest = lowest-tested false 0 1 refl
 
 pub one-lowest : (s : Bool) → LowestTerms (record { negative = s; numer = 1; denom = 1 })
 unfolding gcd euclid
-one-lowest s = halves-lowest s 1 1 (lit< tt) (lit< tt) (lit< tt) (lit< tt) refl
+one-lowest true = lowest-tested true 1 1 refl
+one-lowest false = lowest-tested false 1 1 refl
 
 pub half-lowest : (s : Bool) → LowestTerms (record { negative = s; numer = 1; denom = 2 })
 unfolding gcd euclid
-half-lowest s = halves-lowest s 1 2 (lit< tt) (lit< tt) (lit< tt) (lit< tt) refl
+half-lowest true = lowest-tested true 1 2 refl
+half-lowest false = lowest-tested false 1 2 refl
 
 pub two-lowest : LowestTerms two
 unfolding gcd euclid
-two-lowest = halves-lowest false 2 1 (lit< tt) (lit< tt) (lit< tt) (lit< tt) refl
+two-lowest = lowest-tested false 2 1 refl
 
 pub pi-squared-lowest : LowestTerms piSquared
 unfolding gcd euclid
-pi-squared-lowest = halves-lowest false 6499908331188584841 658578405682719844 (lit< tt) (lit< tt) (lit< tt) (lit< tt) refl
+pi-squared-lowest = lowest-tested false 6499908331188584841 658578405682719844 refl
+
+pub half-pi-sound : Sound halfPi
+unfolding gcd euclid
+half-pi-sound = record { rational-part = lowest-tested false (halfPi .a .numer) (halfPi .a .denom) refl; pi-part = lowest-tested false (halfPi .b .numer) (halfPi .b .denom) refl }
 
 -- ---- the ways in which results are put together
 pub rational-sound : {x : Rational64} → LowestTerms x → SoundEvaluation (rational x)
@@ -219,7 +240,7 @@ module _ (x : Value) (p : Sound x) where
 
 pub cosine-sound : (x : Value) → Sound x → SoundEvaluation (cosine x)
 unfolding cosine
-cosine-sound x p = then-sound (valueSum x halfPi) sine (sum-sound-value x halfPi p (record { rational-part = zero-lowest; pi-part = half-lowest false })) sine-sound
+cosine-sound x p = then-sound (valueSum x halfPi) sine (sum-sound-value x halfPi p half-pi-sound) sine-sound
 
 pub tangent-sound : (x : Value) → Sound x → SoundEvaluation (tangent x)
 unfolding tangent
