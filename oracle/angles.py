@@ -1,11 +1,15 @@
-"""Fractions and angles, exactly as document 01 defines them.
+"""Fractions and angles: a second reading of document 01's section on them.
 
-All fractions are fractions.Fraction on unbounded integers, and range is tested
-afterwards.  A binary32 number is its bit pattern; every operation on it works
-out the exact rational result and rounds that once.  The machine's own floating
-point is never used.  An operation that document 01 refuses raises Refused with
-its number: 9 division by zero, 10 float without a fraction (with the f32), 11
-overflow, 13 function of floats.
+It was written only from document 01 ("Fractions and angles", which decides)
+and from the Rust value.rs (order of operations), with no sight of the code it
+tests.  It takes the plainest way throughout: fractions are fractions.Fraction
+on unbounded integers, and the range is tested afterwards; an f32 is its bit
+pattern, and every operation on it works out the exact rational result and
+rounds that once.  The machine's own floating point is never used.
+
+An operation that document 01 refuses raises Refused with its number: 9 division
+by zero, 10 float without a fraction (with the f32), 11 overflow, 13 function of
+floats.
 """
 
 from collections import namedtuple

@@ -48,6 +48,7 @@ Gate = namedtuple("Gate", "parameters arguments with_body first length")
 
 
 def contents_total(words):
+    """The words that contents and lists take by the counts."""
     return CONTENTS_WORDS + sum(map(int.__mul__, words[1:CONTENTS_WORDS], ENTRY_WORDS))
 
 
@@ -63,7 +64,7 @@ class Image:
         self.judged = {}  # expressions that check has judged
 
     def place(self, which, number):
-        """ "A place is the index of an entry's first word in the image." """
+        # "A place is the index of an entry's first word in the image."
         return self.first_words[which] + ENTRY_WORDS[which] * number
 
     def entry(self, which, number):
@@ -74,7 +75,7 @@ class Image:
         return self.counts[MAIN] + self.counts[FURTHER]
 
     def statement_place(self, number):
-        """ "Statements are numbered through": further ones follow main ones."""
+        # "Statements are numbered through": further ones follow main ones.
         return self.place(MAIN, number)
 
     def statement(self, number):
@@ -115,7 +116,7 @@ class Image:
         return [(number, QUANTUM) for number in numbers]
 
     def argument_size(self, scope, argument, sort):
-        """ "1 for an index or a formal, else its register's." """
+        # "1 for an index or a formal, else its register's."
         register, index = self.entry(ARGUMENTS, argument)
         return 1 if scope != MAIN_SCOPE or index else self.sizes(sort)[register]
 
@@ -143,16 +144,16 @@ def check(words):
 
 
 def contents_good(words):
-    """ "1, place 0, for a wrong length, contents that don't add up, or over
-    128 gates."  "Limits: 9 to 8,192 words." """
+    # "1, place 0, for a wrong length, contents that don't add up, or over
+    # 128 gates."  "Limits: 9 to 8,192 words."
     if not 9 <= len(words) <= 8192:
         return False
     return len(words) == words[0] == contents_total(words) and words[1 + GATES] <= 128
 
 
 def bad_register(image):
-    """ "Then 2 for a register ... at the first bad one, quantum registers first";
-    "the register that passes a total is the bad one"."""
+    # "Then 2 for a register ... at the first bad one, quantum registers first";
+    # "the register that passes a total is the bad one".
     for sort in QUANTUM, CLASSICAL:
         total = 0
         for number, size in enumerate(image.sizes(sort)):
@@ -163,7 +164,7 @@ def bad_register(image):
 
 
 def bad_gate(image):
-    """ "Then 3 for a gate entry", at the first bad one."""
+    # "Then 3 for a gate entry", at the first bad one.
     for number in range(image.counts[GATES]):
         if not gate_good(image, image.gate(number)):
             return 3, image.place(GATES, number)
@@ -197,6 +198,7 @@ def bad_statement(image):
 
 
 def judged_statements(image):
+    """Scope and number of each statement of main, then of each gate's body."""
     for number in range(image.counts[MAIN]):
         yield MAIN_SCOPE, number
     for gate in range(image.counts[GATES]):
@@ -205,9 +207,9 @@ def judged_statements(image):
 
 
 def statement_fault(image, scope, number, allowed):
-    """ "4 a kind not allowed there, an unused word, or a number or run of its
-    own out of range, 8 call not downward, 6 expression or a parameter's number,
-    5 argument entry, 7 sizes, in this order." """
+    # "4 a kind not allowed there, an unused word, or a number or run of its
+    # own out of range, 8 call not downward, 6 expression or a parameter's number,
+    # 5 argument entry, 7 sizes, in this order."
     statement = image.statement(number)
     kind = statement[0]
     if kind not in allowed or not own_words_good(image, statement):
@@ -255,7 +257,7 @@ def own_words_good(image, statement):
 
 
 def downward(scope, gate):
-    """ "Bodies ... call only gates of smaller number." """
+    # "Bodies ... call only gates of smaller number."
     return scope == MAIN_SCOPE or gate + 1 < scope
 
 
@@ -277,7 +279,7 @@ def expression_good(image, variables, number, levels):
 
 
 def entry_good(image, variables, number, levels):
-    """ "Expression, 3, unused words 0: kind, two operands." """
+    # "Expression, 3, unused words 0: kind, two operands."
     kind, first, second = image.entry(EXPRESSIONS, number)
 
     def operand_good(operand):
@@ -300,8 +302,8 @@ def entry_good(image, variables, number, levels):
 
 
 def argument_good(image, scope, number, sort):
-    """ "Argument, 2: register (in a body: formal argument), then index+1, or 0
-    for the whole.  In a body the second is 0." """
+    # "Argument, 2: register (in a body: formal argument), then index+1, or 0
+    # for the whole.  In a body the second is 0."
     register, index = image.entry(ARGUMENTS, number)
     if scope != MAIN_SCOPE:
         return register < image.gate(scope - 1).arguments and index == 0
@@ -309,8 +311,8 @@ def argument_good(image, scope, number, sort):
 
 
 def sizes_good(kind, sizes):
-    """ "CX and measure: sizes equal, or one is 1.  Call: all sizes other than 1
-    equal." """
+    # "CX and measure: sizes equal, or one is 1.  Call: all sizes other than 1
+    # equal."
     return kind not in (CX, MEASURE, CALL) or len(set(sizes) - {1}) <= 1
 
 
@@ -327,7 +329,7 @@ def tally(words, depth):
 
 
 def tally_operation(words, depth):
-    """ "Check's, then 16, place 0, exactly if any figure passes 4,294,967,295." """
+    # "Check's, then 16, place 0, exactly if any figure passes 4,294,967,295."
     refused = check(words)
     if refused:
         return ("refused", *refused)
@@ -343,31 +345,36 @@ def records(kind, count, words):
     return figures
 
 
-def added(*lists):
-    return [sum(figures) for figures in zip(*lists)]
+def added(one, other):
+    return [figure + more for figure, more in zip(one, other)]
 
 
-NOTHING = [0] * 9
 ONE_ENTRY = [0] * ENTRIES_FIGURE + [1, 0]
 
 
 class Tally:
+    """The figures of an accepted image."""
+
     def __init__(self, image):
         self.image = image
         self.known = {}
 
     def program(self, depth):
-        """ "In all: the main statements at the depth given; if any, the head's
-        3 + 2*(qubits + bits) words too." """
+        # "In all: the main statements at the depth given; if any, the head's
+        # 3 + 2*(qubits + bits) words too."
         main = range(self.image.counts[MAIN])
         figures = self.statements(MAIN_SCOPE, main, depth)
-        if main:
-            qubits, bits = sum(self.image.sizes(QUANTUM)), sum(self.image.sizes(CLASSICAL))
-            figures[WORDS_FIGURE] += 3 + 2 * (qubits + bits)
-        return figures
+        return added(figures, self.head()) if main else figures
+
+    def head(self):
+        qubits, bits = sum(self.image.sizes(QUANTUM)), sum(self.image.sizes(CLASSICAL))
+        return [0] * WORDS_FIGURE + [3 + 2 * (qubits + bits)]
 
     def statements(self, scope, numbers, depth):
-        return added(NOTHING, *(self.statement(scope, number, depth) for number in numbers))
+        figures = [0] * 9
+        for number in numbers:
+            figures = added(figures, self.statement(scope, number, depth))
+        return figures
 
     def statement(self, scope, number, depth):
         statement = self.image.statement(number)
@@ -383,9 +390,9 @@ class Tally:
         return records(kind, rounds, ROUND_WORDS[kind])
 
     def call_round(self, number, depth):
-        """ "Call, each round: with a body and a depth above 1, one body entry and
-        the body's statements at a depth less by 1.  Otherwise a kind 3 of 4+4p+q
-        words (p its parameters, 0 with a body; q its arguments)." """
+        # "Call, each round: with a body and a depth above 1, one body entry and
+        # the body's statements at a depth less by 1.  Otherwise a kind 3 of 4+4p+q
+        # words (p its parameters, 0 with a body; q its arguments)."
         gate = self.image.gate(number)
         if gate.with_body and depth > 1:
             return added(ONE_ENTRY, self.body(number, depth - 1))
@@ -452,6 +459,8 @@ def run(words, depth, output_length, trace_length):
 
 
 class Run:
+    """A run of an accepted image: what it has written, and the calls it is in."""
+
     def __init__(self, image, depth, output_length):
         self.image = image
         self.depth = depth
@@ -470,13 +479,13 @@ class Run:
     def program(self):
         frame = Frame(MAIN_SCOPE, (), ())
         for number in range(self.image.counts[MAIN]):
-            if number == 0:  # "The head comes with the first main statement."
+            if number == 0:  # "The head comes with the first main statement"
                 self.head()
             self.statement(frame, number)
 
     def head(self):
-        """ "0 head: qubits, bits, then register and offset for each qubit, then
-        for each bit." """
+        # "0 head: qubits, bits, then register and offset for each qubit, then
+        # for each bit."
         named = []
         for sort in QUANTUM, CLASSICAL:
             for register, size in enumerate(self.image.sizes(sort)):
@@ -503,7 +512,7 @@ class Run:
                 self.write(kind, *indices)
 
     def u(self, frame, statement):
-        """ "1 U: three angles, qubit." """
+        # "1 U: three angles ..., qubit."
         words = self.angle_words(self.angles(frame, statement))
         for (qubit,) in self.rounds(frame, statement):
             self.write(U, *words, qubit)
@@ -515,7 +524,7 @@ class Run:
             self.write(CX, copy, xor)
 
     def barrier(self, frame, statement):
-        """ "4 barrier: count, qubits."  "A barrier holds each qubit once", rising."""
+        # "4 barrier: count, qubits."  "A barrier holds each qubit once", rising.
         held = set()
         for argument, sort in self.image.named_arguments(statement):
             first, size = self.resolve(frame, argument, sort)
@@ -523,8 +532,8 @@ class Run:
         self.write(BARRIER, len(held), *sorted(held))
 
     def conditional(self, frame, statement):
-        """ "An if writes kind 7, then what its inner statement writes in main,
-        then kind 8."  "7 conditional start: first bit, size, value." """
+        # "An if writes kind 7, then what its inner statement writes in main,
+        # then kind 8."  "7 conditional start: first bit, size, value."
         _, register, value, inner, _ = statement
         sizes = self.image.sizes(CLASSICAL)
         self.write(CONDITIONAL_START, sum(sizes[:register]), sizes[register], value)
@@ -559,7 +568,7 @@ class Run:
             self.statement(frame, number)
 
     def opaque(self, frame, statement, values):
-        """ "3 opaque: gate, p, q, p angles, q qubits." """
+        # "3 opaque: gate, p, q, p angles, q qubits."
         words = self.angle_words(values)
         arguments = [argument for argument, _ in self.image.named_arguments(statement)]
         for qubits in self.rounds(frame, statement):
@@ -572,11 +581,11 @@ class Run:
             self.write(CALL, statement[1], len(values), len(qubits), *words, *qubits)
 
     def overlap(self, argument, other):
-        """ "12 overlap: the two arguments' places." """
+        # "12 overlap: the two arguments' places"
         raise Refusal(12, self.image.place(ARGUMENTS, argument), self.image.place(ARGUMENTS, other))
 
     def rounds(self, frame, statement):
-        """ "Whole registers advance in lock-step; size-1 arguments stay." """
+        # "Whole registers advance in lock-step; size-1 arguments stay."
         resolved = [self.resolve(frame, *named) for named in self.image.named_arguments(statement)]
         for turn in range(max((size for _, size in resolved), default=0)):
             yield [first if size == 1 else first + turn for first, size in resolved]
@@ -595,9 +604,9 @@ class Run:
         return [self.angle(frame, number) for number in self.image.named_expressions(statement)]
 
     def angle(self, frame, number):
-        """ "9 division by zero, 10 float without a fraction (with the f32), 11
-        overflow, 13 function of floats: place of the outermost expression entry
-        that U or the call's parameter names." """
+        # "9 division by zero, 10 float without a fraction (with the f32), 11
+        # overflow, 13 function of floats: place of the outermost expression entry
+        # that U or the call's parameter names."
         try:
             return evaluate(self.image, frame.angles, number)
         except angles.Refused as refused:
@@ -605,7 +614,7 @@ class Run:
             raise Refusal(refused.case, place, refused.bits) from None
 
     def angle_words(self, values):
-        """ "Four words each: a's n, d, b's n, d, signed in two's complement." """
+        # "Four words each: a's n, d, b's n, d, signed in two's complement."
         return [number % 2**64 for value in values for number in angles.numbers(value)]
 
 
@@ -638,8 +647,8 @@ def evaluate(image, variables, outermost):
 
 
 def next_record(words, position):
-    """ "17, exactly if the words there begin no whole record of a known kind with
-    its length; end if none are left; a position past the end is 17." """
+    # "17, exactly if the words there begin no whole record of a known kind with
+    # its length; end if none are left; a position past the end is 17."
     left = len(words) - position
     if left < 0:
         return 17
@@ -678,8 +687,8 @@ def records_of(words):
 
 
 def listing(data):
-    """ "It reads little-endian words from standard input, depth first, then the
-    image, and lends 8,192 output words."  The trace lent has 256 words."""
+    # "It reads little-endian words from standard input, depth first, then the
+    # image, and lends 8,192 output words."  The trace lent has 256 words.
     # "Input that ends within a word, or has no depth, gives `refused 1 0 0`."
     if len(data) % 8 or not data:
         return b"refused 1 0 0\n"
@@ -700,7 +709,7 @@ def listing(data):
 
 
 def listed_words(record):
-    """ "Each record is a line of its words in decimal, the angles signed." """
+    # "Each record is a line of its words in decimal, the angles signed."
     first, end = angle_span(record)
     return [*record[:first], *map(signed, record[first:end]), *record[end:]]
 
