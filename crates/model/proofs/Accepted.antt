@@ -1,0 +1,67 @@
+-- What holds of an image that the check accepts.
+use Prim.Native.Nat.{ℕ, zero, suc, _+_, _≤_, _<_}
+use native.Mathlib.Omega.{arith}
+use mathlib.Core.Path.{_≡_, refl, sym, ap, _∙_, subst}
+use mathlib.Core.Bool.{Bool, true, false, _&&_, cond}
+use mathlib.Core.List.{List, [], _∷_, map, flatMap}
+use lib.Dec.{T, leb, ltb, eqb, leb→le, ltb→lt, eqb→eq}
+use lib.ListN.{length, getD}
+use Rattle.model.specs.Lists.{range}
+use Rattle.model.proofs.All.{All, nil, cons, and-T, test, of-All, flat-All, range-All}
+use Rattle.model.specs.Image.{gates, quantumRegisters, classicalRegisters, quantumSize, classicalSize, firstQubit, firstBit, scopeStatements, quantumRegisterAt, classicalRegisterAt, gateAt, statementAt}
+use Rattle.model.specs.Check.{Verdict, fine, bad, orElse, firstOf, firstBad, contentsOk, quantumRegisterFlaw, classicalRegisterFlaw, gateOk, gateFlaw, flaw, everyStatement, registers, gateEntries, statementEntries, check}
+
+-- tests that give a number each: where none is given the i-th passes
+abbrev pub numbered : List (Bool × ℕ) → Bool
+numbered [] = true
+numbered (t ∷ ts) = ltb 0 (t .1) && numbered ts
+
+pub passes : (i : ℕ) (ts : List (Bool × ℕ)) → firstOf ts ≡ 0 → T (numbered ts) → T (getD ts i (true, 1) .0)
+unfolding firstOf
+passes i [] e n = tt
+passes i (t ∷ ts) e n = go (t .0) refl e (and-T (ltb 0 (t .1)) (numbered ts) n) (λ j d m. passes j ts d m) i
+  where
+    go : (b : Bool) → t .0 ≡ b → cond b (firstOf ts) (t .1) ≡ 0 → T (ltb 0 (t .1)) × T (numbered ts)
+        → ((j : ℕ) → firstOf ts ≡ 0 → T (numbered ts) → T (getD ts j (true, 1) .0)) → (i : ℕ) → T (getD (t ∷ ts) i (true, 1) .0)
+    go true p q n later zero = subst T (sym p) tt
+    go true p q n later (suc j) = later j q (n .1)
+    go false p q n later j = absurd (omega (arith, ltb→lt 0 (t .1) (n .0)))
+
+or-else : (u v : Verdict) → orElse u v ≡ fine → (u ≡ fine) × (v ≡ fine)
+or-else fine v e = (refl, e)
+or-else (bad n p) v e = absurd (let z : _≡_ {A = ℕ} 0 1 = cc in omega arith)
+
+pick : (b : Bool) (v : Verdict) (n p : ℕ) → cond b v (bad n p) ≡ fine → T b × (v ≡ fine)
+pick true v n p e = (tt, e)
+pick false v n p e = absurd (let z : _≡_ {A = ℕ} 0 1 = cc in omega arith)
+
+none-bad : {A : Type 0} (number place : A → ℕ) (l : List A) → firstBad number place l ≡ fine → All (λ x. number x ≡ 0) l
+unfolding firstBad
+none-bad number place [] e = nil
+none-bad number place (x ∷ l) e =
+    let s = pick (eqb (number x) 0) (firstBad number place l) (number x) (place x) e in
+    cons (eqb→eq (number x) 0 (s .0)) (none-bad number place l (s .1))
+
+pub record Accepted (w : List ℕ) : Type 0 where
+  pub fewGates : gates w ≤ 128
+  pub qsizes : (r : ℕ) → r < quantumRegisters w → 1 ≤ quantumSize w r
+  pub csizes : (r : ℕ) → r < classicalRegisters w → 1 ≤ classicalSize w r
+  pub gateEntry : (g : ℕ) → g < gates w → T (gateOk w g)
+  pub flawless : (scope : ℕ) → scope ≤ gates w → All (λ s. flaw w scope s ≡ 0) (scopeStatements w scope)
+
+pub accepts : (w : List ℕ) → check w ≡ fine → Accepted w
+unfolding check registers gateEntries statementEntries everyStatement quantumRegisterFlaw classicalRegisterFlaw gateFlaw contentsOk
+accepts w e =
+    let a = pick (contentsOk w) (orElse (registers w) (orElse (gateEntries w) (statementEntries w))) 1 0 e in
+    let b = or-else (registers w) (orElse (gateEntries w) (statementEntries w)) (a .1) in
+    let c = or-else (gateEntries w) (statementEntries w) (b .1) in
+    let d = or-else (firstBad (quantumRegisterFlaw w) (quantumRegisterAt w) (range 0 (quantumRegisters w))) (firstBad (classicalRegisterFlaw w) (classicalRegisterAt w) (range 0 (classicalRegisters w))) (b .0) in
+    record {
+      fewGates = leb→le (gates w) 128 (test 4 _ (a .0));
+      qsizes = λ r h. leb→le 1 (quantumSize w r) (test 0 _ (passes 0 _ (range-All {P = λ r. quantumRegisterFlaw w r ≡ 0} 0 (quantumRegisters w) r (none-bad _ _ _ (d .0)) (omega arith) (omega arith)) tt));
+      csizes = λ r h. leb→le 1 (classicalSize w r) (test 0 _ (passes 0 _ (range-All {P = λ r. classicalRegisterFlaw w r ≡ 0} 0 (classicalRegisters w) r (none-bad _ _ _ (d .1)) (omega arith) (omega arith)) tt));
+      gateEntry = λ g h. passes 0 _ (range-All {P = λ g. gateFlaw w g ≡ 0} 0 (gates w) g (none-bad _ _ _ (c .0)) (omega arith) (omega arith)) tt;
+      flawless = λ scope h.
+          of-All _ _
+          (range-All 0 (suc (gates w)) scope (flat-All (λ scope. map (λ s. (scope, s)) (scopeStatements w scope)) _ (none-bad _ _ _ (c .1))) (omega arith) (omega arith));
+    }

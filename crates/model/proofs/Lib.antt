@@ -1,0 +1,10 @@
+pub mod All
+pub mod Lengths
+pub mod Accepted
+pub mod Counts
+pub mod TallySums
+pub mod Outcome
+pub mod Compute
+pub mod CaseLaws
+pub mod Sampled
+pub mod Samples

@@ -1,0 +1,230 @@
+-- The claims of specs/Claims.antt hold of every run: demand 3.
+use Prim.Native.Nat.{ℕ, zero, suc, _+_, _-_, _*_, _^_, _≤_, zero-le}
+use native.Mathlib.Nat.{le-refl, le-of-eq, le-trans, add-zero, zero-add, add-assoc}
+use native.Mathlib.Omega.{arith}
+use mathlib.Core.Path.{_≡_, refl, sym, ap, ap₂, _∙_, subst}
+use mathlib.Core.Bool.{Bool, true, false, not, cond}
+use mathlib.Core.List.{List, [], _∷_, _++_, map, flatMap, List·Memᴰ, List·Memᴰ·not-nil, List·Memᴰ·cases-cons}
+use mathlib.Core.Logic.{_⊎_, inl, inr}
+use lib.Dec.{T, eqb, leb, ltb, leb→le, nleb→lt}
+use lib.ListN.{length, getD, take, drop, length-append, length-drop, length-map}
+use lib.Seq.{take-append-seam}
+use borrow.Author.Tests.{ltb-false}
+use Rattle.model.specs.Lists.{range, sum, all}
+use Rattle.model.specs.Image.{mainStatements}
+use Rattle.model.specs.Records.{Record, kind, encode}
+use Rattle.model.specs.Check.{Verdict, fine, bad, check}
+use Rattle.model.specs.Steps.{Refusal, DivideByZero, ApproximateFail, NumericalOverflow, OverlappingRegs, FunctionOfFloats, Step, write, enter, refuse, steps}
+use Rattle.model.specs.Run.{Answer, done, refused, full, rejected, shortTrace, told, Played, stop, after, inside, traceOf, play, accepted, runs, output, laidOver, outcomeOf, linearize}
+use Rattle.model.specs.Tally.{weightTally, ofKind, theWords, recordFigure, entryFigure, wordBound}
+use Rattle.model.specs.Reader.{recordsIn}
+use Rattle.model.specs.Claims.{count, declared, distinct, Claims, written, recordsFound}
+use Rattle.model.proofs.All.{All, nil, cons, head-All, tail-All, All-front, All-weaken, All-of}
+use Rattle.model.proofs.Accepted.{Accepted, accepts}
+use Rattle.model.proofs.Counts.{weighs, clean, steps-tallied}
+use Rattle.model.proofs.TallySums.{ofKinds, kinds-total, ends, heads}
+
+-- ---- the records and the entries of steps
+
+unfoldable pub recordsOf : List Step → List Record
+recordsOf [] = []
+recordsOf (write t r ∷ ss) = r ∷ recordsOf ss
+recordsOf (enter t g ∷ ss) = recordsOf ss
+recordsOf (refuse t x ∷ ss) = recordsOf ss
+
+unfoldable pub entriesOf : List Step → ℕ
+entriesOf [] = 0
+entriesOf (write t r ∷ ss) = entriesOf ss
+entriesOf (enter t g ∷ ss) = suc (entriesOf ss)
+entriesOf (refuse t x ∷ ss) = entriesOf ss
+
+-- what records come to: f kind words for each
+unfoldable pub weighsRecords : (ℕ → ℕ → ℕ) → List Record → ℕ
+weighsRecords f [] = 0
+weighsRecords f (r ∷ rs) = f (kind r) (length (encode r)) + weighsRecords f rs
+
+by-records : (f : ℕ → ℕ → ℕ) (ss : List Step) → weighs f 0 ss ≡ weighsRecords f (recordsOf ss)
+unfolding weighs weighsRecords recordsOf
+by-records f [] = refl
+by-records f (write t r ∷ ss) = ap (λ (n : ℕ). f (kind r) (length (encode r)) + n) (by-records f ss)
+by-records f (enter t g ∷ ss) = zero-add _ ∙ by-records f ss
+by-records f (refuse t x ∷ ss) = by-records f ss
+
+by-entries : (ss : List Step) → weighs (λ k n. 0) 1 ss ≡ entriesOf ss
+unfolding weighs entriesOf
+by-entries [] = refl
+by-entries (write t r ∷ ss) = zero-add _ ∙ by-entries ss
+by-entries (enter t g ∷ ss) = omega (arith, by-entries ss)
+by-entries (refuse t x ∷ ss) = by-entries ss
+
+weighs-++ : (f : ℕ → ℕ → ℕ) (a b : List Record) → weighsRecords f (a ++ b) ≡ weighsRecords f a + weighsRecords f b
+unfolding weighsRecords
+weighs-++ f [] b = sym (zero-add _)
+weighs-++ f (r ∷ a) b = omega (arith, weighs-++ f a b)
+
+-- the words of records are as many as they weigh
+length-output : (rs : List Record) → length (flatMap encode rs) ≡ weighsRecords theWords rs
+unfolding weighsRecords flatMap
+length-output [] = refl
+length-output (r ∷ rs) = length-append (encode r) (flatMap encode rs) ∙ ap (λ n. length (encode r) + n) (length-output rs)
+
+-- ---- playing steps: what is played is a front of the records; all of them and all entries, with no refusal, where it is done; and it is never full with room for all
+pub record Fair (room : ℕ) (ss : List Step) (p : Played) : Type 0 where
+  pub rest : List Record
+  pub front : p .written ++ rest ≡ recordsOf ss
+  pub whole : p .answer ≡ done → (p .written ≡ recordsOf ss) × T (clean ss) × (p .entered ≡ entriesOf ss)
+  pub ample : weighsRecords theWords (recordsOf ss) ≤ room → (t : List ℕ) → ¬ (p .answer ≡ full t)
+
+pub plays-fair : (room : ℕ) (ss : List Step) → Fair room ss (play room ss)
+unfolding play recordsOf entriesOf clean weighsRecords
+plays-fair room [] = record { rest = []; front = refl; whole = λ e. (refl, tt, refl); ample = λ h t e. absurd (let z : _≡_ {A = ℕ} 0 1 = cc in omega arith) }
+plays-fair room (refuse t x ∷ ss) =
+    record { rest = recordsOf ss; front = refl; whole = λ e. absurd (let z : _≡_ {A = ℕ} 0 1 = cc in omega arith); ample = λ h u e. absurd (let z : _≡_ {A = ℕ} 0 1 = cc in omega arith) }
+plays-fair room (enter t g ∷ ss) =
+    let h = plays-fair room ss in
+    record { rest = h .rest; front = h .front; whole = λ d. let x = h .whole d in (x .0, x .1, ap suc (x .2)); ample = h .ample }
+plays-fair room (write t r ∷ ss) = go (leb (length (encode r)) room) refl (plays-fair (room - length (encode r)) ss)
+  where
+    go : (b : Bool) → leb (length (encode r)) room ≡ b → Fair (room - length (encode r)) ss (play (room - length (encode r)) ss)
+        → Fair room (write t r ∷ ss) (cond b (after r (play (room - length (encode r)) ss)) (stop (full t)))
+    go true e h =
+        record {
+          rest = h .rest;
+          front = ap (λ (rs : List Record). r ∷ rs) (h .front);
+          whole = λ d. let x = h .whole d in (ap (λ (rs : List Record). r ∷ rs) (x .0), x .1, x .2);
+          ample = λ q u. h .ample (omega arith) u;
+        }
+    go false e h =
+        record {
+          rest = r ∷ recordsOf ss;
+          front = refl;
+          whole = λ d. absurd (let z : _≡_ {A = ℕ} 0 1 = cc in omega arith);
+          ample = λ q u d. omega (arith, nleb→lt (length (encode r)) room (subst (λ c. T (not c)) (sym e) tt));
+        }
+
+-- ---- kinds
+
+-- each record has a kind from 0 to 8
+one-kind : (r : Record) → ofKinds (range 0 9) (kind r) (length (encode r)) ≡ 1
+unfolding ofKinds range kind
+one-kind (Record.Head qs bs) = refl
+one-kind (Record.U theta phi lambda q) = refl
+one-kind (Record.CX a b) = refl
+one-kind (Record.Opaque g xs qs) = refl
+one-kind (Record.Barrier qs) = refl
+one-kind (Record.Measure q b) = refl
+one-kind (Record.Reset q) = refl
+one-kind (Record.ConditionalStart b n v) = refl
+one-kind Record.ConditionalEnd = refl
+
+all-kinds : (rs : List Record) → weighsRecords (ofKinds (range 0 9)) rs ≡ length rs
+unfolding weighsRecords
+all-kinds [] = refl
+all-kinds (r ∷ rs) = omega (arith, one-kind r, all-kinds rs)
+
+same-kinds : (l : List ℕ) (k a b : ℕ) → ofKinds l k a ≡ ofKinds l k b
+unfolding ofKinds
+same-kinds [] k a b = refl
+same-kinds (j ∷ l) k a b = ap (λ x. ofKind j k a + x) (same-kinds l k a b)
+
+counted : (k : ℕ) (rs : List Record) → count k (map encode rs) ≡ weighsRecords (ofKind k) rs
+unfolding count weighsRecords encode
+counted k [] = refl
+counted k (r ∷ rs) = ap (λ n. ofKind k (kind r) 0 + n) (counted k rs)
+
+every-one : {A : Type 0} {P : A → Type 0} {l : List A} → All P l → (r : A) → List·Memᴰ r l → P r
+every-one nil r m = absurd (List·Memᴰ·not-nil m)
+every-one {A} {P} (cons {x} {xs} h k) r m = go (List·Memᴰ·cases-cons m) (λ n. every-one k r n)
+  where
+    go : (r ≡ x) ⊎ List·Memᴰ r xs → (List·Memᴰ r xs → P r) → P r
+    go (inl e) later = subst P (sym e) h
+    go (inr n) later = later n
+
+-- ---- a run
+
+module _ (w : List ℕ) (depth outWords traceWords : ℕ) where
+  abbrev ran : Played
+  ran = runs w depth outWords traceWords
+
+  -- f for each record: no more than the tally's, whatever the answer; and as much, where it is done and f goes by the kind alone
+  module _ (f : ℕ → ℕ → ℕ) (mono : (k a b : ℕ) → a ≤ b → f k a ≤ f k b) where
+    weighs-most : (p : Played) → Fair outWords (steps w depth) p → weighsRecords f (p .written) ≤ weightTally w f 0 depth
+    weighs-most p h =
+        let a : weighsRecords f (p .written) + weighsRecords f (h .rest) ≡ weighsRecords f (recordsOf (steps w depth)) = sym (weighs-++ f (p .written) (h .rest)) ∙ ap (weighsRecords f) (h .front) in
+        omega (arith, steps-tallied f 0 mono w depth .most, by-records f (steps w depth))
+
+    weighs-done : (p : Played) → Fair outWords (steps w depth) p → ((k a b : ℕ) → f k a ≡ f k b) → p .answer ≡ done → weighsRecords f (p .written) ≡ weightTally w f 0 depth
+    weighs-done p h flat d = let x = h .whole d in ap (weighsRecords f) (x .0) ∙ sym (by-records f (steps w depth)) ∙ steps-tallied f 0 mono w depth .exactly flat (x .1)
+
+  -- a run refuses before its first record, or it plays the steps
+  pub data Ran : Played → Type 0 where
+    none : (a : Answer) → ¬ (a ≡ done) → ((t : List ℕ) → ¬ (a ≡ full t)) → length (traceOf a) ≡ 0 → Ran (stop a)
+    plays : check w ≡ fine → ltb traceWords 256 ≡ false → Ran (play outWords (steps w depth))
+
+  pub ran-either : Ran ran
+  unfolding runs accepted traceOf
+  ran-either = go (ltb traceWords 256) refl (check w) refl
+    where
+      go : (b : Bool) → ltb traceWords 256 ≡ b → (v : Verdict) → check w ≡ v → Ran (cond b (stop shortTrace) (accepted v (play outWords (steps w depth))))
+      go true l v c = none shortTrace (λ e. absurd (let z : _≡_ {A = ℕ} 0 1 = cc in omega arith)) (λ t e. absurd (let z : _≡_ {A = ℕ} 0 1 = cc in omega arith)) refl
+      go false l fine c = plays c l
+      go false l (bad n p) c = none (rejected n p) (λ e. absurd (let z : _≡_ {A = ℕ} 0 1 = cc in omega arith)) (λ t e. absurd (let z : _≡_ {A = ℕ} 0 1 = cc in omega arith)) refl
+
+  -- of each kind no more records are written than the tally says, and as many where the run is done
+  records-most : (k : ℕ) → weighsRecords (ofKind k) (ran .written) ≤ recordFigure w depth k
+  unfolding recordFigure weighsRecords
+  records-most k = go ran-either
+    where
+      go : {p : Played} → Ran p → weighsRecords (ofKind k) (p .written) ≤ weightTally w (ofKind k) 0 depth
+      go (none a x y z) = zero-le
+      go (plays c l) = weighs-most (ofKind k) (λ j a b h. le-refl _) _ (plays-fair outWords (steps w depth))
+
+  records-done : ran .answer ≡ done → (k : ℕ) → weighsRecords (ofKind k) (ran .written) ≡ recordFigure w depth k
+  unfolding recordFigure weighsRecords
+  records-done d k = go ran-either d
+    where
+      go : {p : Played} → Ran p → p .answer ≡ done → weighsRecords (ofKind k) (p .written) ≡ weightTally w (ofKind k) 0 depth
+      go (none a x y z) e = absurd (x e)
+      go (plays c l) e = weighs-done (ofKind k) (λ j a b h. le-refl _) _ (plays-fair outWords (steps w depth)) (λ j a b. refl) e
+
+  -- as many bodies are entered as figure 8 says, where the run is done
+  entries-done : ran .answer ≡ done → ran .entered ≡ entryFigure w depth
+  unfolding entryFigure
+  entries-done d = go ran-either d
+    where
+      go : {p : Played} → Ran p → p .answer ≡ done → p .entered ≡ weightTally w (λ kind n. 0) 1 depth
+      go (none a x y z) e = absurd (x e)
+      go (plays c l) e =
+          let x = plays-fair outWords (steps w depth) .whole e in
+          x .2 ∙ sym (by-entries (steps w depth)) ∙ steps-tallied (λ kind n. 0) 1 (λ j a b h. le-refl 0) w depth .exactly (λ j a b. refl) (x .1)
+
+  -- no more words than the word bound
+  words-most : length (output ran) ≤ wordBound w depth
+  unfolding wordBound output weighsRecords
+  words-most = rw length-output (go ran-either)
+    where
+      go : {p : Played} → Ran p → weighsRecords theWords (p .written) ≤ weightTally w theWords 0 depth
+      go (none a x y z) = zero-le
+      go (plays c l) = weighs-most theWords (λ j a b h. h) _ (plays-fair outWords (steps w depth))
+
+  -- an output of the word bound is never full
+  bound-suffices : wordBound w depth ≤ outWords → (t : List ℕ) → ¬ (ran .answer ≡ full t)
+  unfolding wordBound
+  bound-suffices h t = go ran-either
+    where
+      go : {p : Played} → Ran p → ¬ (p .answer ≡ full t)
+      go (none a x y z) = y t
+      go (plays c l) =
+          plays-fair outWords (steps w depth) .ample (le-trans (le-of-eq (sym (by-records theWords (steps w depth)))) (le-trans (steps-tallied theWords 0 (λ j a b h. h) w depth .most) h)) t
+
+  -- the number of records of a finished run: kinds 1 to 7, kind 7's once more for the ends, and the head if any
+  record-count : ran .answer ≡ done → length (ran .written) ≡ sum (map (recordFigure w depth) (range 1 7)) + recordFigure w depth 7 + cond (eqb (mainStatements w) 0) 0 1
+  unfolding range sum
+  record-count d = omega (arith, kinds-done, kinds-total w depth (range 0 9), ends w depth, heads w depth, all-kinds (ran .written))
+    where
+      kinds-done : weighsRecords (ofKinds (range 0 9)) (ran .written) ≡ weightTally w (ofKinds (range 0 9)) 0 depth
+      kinds-done = go ran-either d
+        where
+          go : {p : Played} → Ran p → p .answer ≡ done → weighsRecords (ofKinds (range 0 9)) (p .written) ≡ weightTally w (ofKinds (range 0 9)) 0 depth
+          go (none a x y z) e = absurd (x e)
+          go (plays c l) e = weighs-done (ofKinds (range 0 9)) (λ j a b h. le-of-eq (same-kinds (range 0 9) j a b)) _ (plays-fair outWords (steps w depth)) (same-kinds (range 0 9)) e

@@ -1,0 +1,36 @@
+-- What the definitions say of an image, a depth and two lengths, beside what another program answered.
+use Prim.Native.Nat.{ℕ}
+use mathlib.Core.List.{List, [], _∷_}
+use lib.ListN.{length}
+use Rattle.model.specs.Run.{Numbers, Played, told, traceOf, runs, output}
+use Rattle.model.specs.Tally.{TallyAnswer, tallied, refused, tally}
+
+pub record Sample : Type 0 where
+  pub image : List ℕ
+  pub depth : ℕ
+  pub outputLength : ℕ
+  pub traceLength : ℕ
+  pub telling : List ℕ
+  pub outputWords : List ℕ
+  pub traceWords : List ℕ
+  pub tallying : List ℕ
+
+abbrev pub sample : List ℕ → ℕ → ℕ → ℕ → List ℕ → List ℕ → List ℕ → List ℕ → Sample
+sample image depth o t a b c d =
+    record { image = image; depth = depth; outputLength = o; traceLength = t; telling = a; outputWords = b; traceWords = c; tallying = d }
+
+-- number, two places and records told; output words; trace words; figures, or number and place
+abbrev pub answered : Sample → List (List ℕ)
+answered s = s .telling ∷ s .outputWords ∷ s .traceWords ∷ s .tallying ∷ []
+
+abbrev tallyNumbers : TallyAnswer → List ℕ
+tallyNumbers (tallied nine) = nine
+tallyNumbers (refused n p) = n ∷ p ∷ []
+
+abbrev tellingOf : Played → List ℕ
+tellingOf p = let n = told (p .answer) in n .number ∷ n .place ∷ n .second ∷ length (p .written) ∷ []
+
+unfoldable pub computed : Sample → List (List ℕ)
+computed s =
+    let p = runs (s .image) (s .depth) (s .outputLength) (s .traceLength) in
+    tellingOf p ∷ output p ∷ traceOf (p .answer) ∷ tallyNumbers (tally (s .image) (s .depth)) ∷ []

@@ -1,0 +1,13 @@
+pub mod Lists
+pub mod Image
+pub mod Check
+pub mod Evaluate
+pub mod Records
+pub mod Steps
+pub mod Run
+pub mod Tally
+pub mod Reader
+pub mod Listing
+pub mod Cases
+pub mod Claims
+pub mod Playing
