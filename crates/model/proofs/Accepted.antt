@@ -6,9 +6,9 @@ use mathlib.Core.Bool.{Bool, true, false, _&&_, cond}
 use mathlib.Core.List.{List, [], _∷_, map, flatMap}
 use lib.Dec.{T, leb, ltb, eqb, leb→le, ltb→lt, eqb→eq}
 use lib.ListN.{length, getD}
-use Rattle.model.specs.Lists.{range}
+use Rattle.model.specs.Lists.{range, sum}
 use Rattle.model.proofs.All.{All, nil, cons, and-T, test, of-All, flat-All, range-All}
-use Rattle.model.specs.Image.{gates, quantumRegisters, classicalRegisters, quantumSize, classicalSize, firstQubit, firstBit, scopeStatements, quantumRegisterAt, classicalRegisterAt, gateAt, statementAt}
+use Rattle.model.specs.Image.{gates, quantumRegisters, classicalRegisters, quantumSize, classicalSize, qubits, bits, firstQubit, firstBit, scopeStatements, quantumRegisterAt, classicalRegisterAt, gateAt, statementAt}
 use Rattle.model.specs.Check.{Verdict, fine, bad, orElse, firstOf, firstBad, contentsOk, quantumRegisterFlaw, classicalRegisterFlaw, gateOk, gateFlaw, flaw, everyStatement, registers, gateEntries, statementEntries, check}
 
 -- tests that give a number each: where none is given the i-th passes
@@ -46,20 +46,32 @@ pub record Accepted (w : List ℕ) : Type 0 where
   pub fewGates : gates w ≤ 128
   pub qsizes : (r : ℕ) → r < quantumRegisters w → 1 ≤ quantumSize w r
   pub csizes : (r : ℕ) → r < classicalRegisters w → 1 ≤ classicalSize w r
+  pub fewQubits : qubits w ≤ 4096
+  pub fewBits : bits w ≤ 4096
   pub gateEntry : (g : ℕ) → g < gates w → T (gateOk w g)
   pub flawless : (scope : ℕ) → scope ≤ gates w → All (λ s. flaw w scope s ≡ 0) (scopeStatements w scope)
 
+-- with each register the total so far is at most 4096, so with all of them
+in-all : (sizes : ℕ → ℕ) (n : ℕ) → ((r : ℕ) → r < n → sum (map sizes (range 0 (suc r))) ≤ 4096) → sum (map sizes (range 0 n)) ≤ 4096
+unfolding sum range
+in-all sizes zero h = omega arith
+in-all sizes (suc r) h = h r (omega arith)
+
 pub accepts : (w : List ℕ) → check w ≡ fine → Accepted w
-unfolding check registers gateEntries statementEntries everyStatement quantumRegisterFlaw classicalRegisterFlaw gateFlaw contentsOk
+unfolding check registers gateEntries statementEntries everyStatement quantumRegisterFlaw classicalRegisterFlaw gateFlaw contentsOk firstQubit firstBit
 accepts w e =
     let a = pick (contentsOk w) (orElse (registers w) (orElse (gateEntries w) (statementEntries w))) 1 0 e in
     let b = or-else (registers w) (orElse (gateEntries w) (statementEntries w)) (a .1) in
     let c = or-else (gateEntries w) (statementEntries w) (b .1) in
     let d = or-else (firstBad (quantumRegisterFlaw w) (quantumRegisterAt w) (range 0 (quantumRegisters w))) (firstBad (classicalRegisterFlaw w) (classicalRegisterAt w) (range 0 (classicalRegisters w))) (b .0) in
+    let q : (r : ℕ) → r < quantumRegisters w → quantumRegisterFlaw w r ≡ 0 = λ r h. range-All {P = λ r. quantumRegisterFlaw w r ≡ 0} 0 (quantumRegisters w) r (none-bad _ _ _ (d .0)) (omega arith) (omega arith) in
+    let k : (r : ℕ) → r < classicalRegisters w → classicalRegisterFlaw w r ≡ 0 = λ r h. range-All {P = λ r. classicalRegisterFlaw w r ≡ 0} 0 (classicalRegisters w) r (none-bad _ _ _ (d .1)) (omega arith) (omega arith) in
     record {
       fewGates = leb→le (gates w) 128 (test 4 _ (a .0));
-      qsizes = λ r h. leb→le 1 (quantumSize w r) (test 0 _ (passes 0 _ (range-All {P = λ r. quantumRegisterFlaw w r ≡ 0} 0 (quantumRegisters w) r (none-bad _ _ _ (d .0)) (omega arith) (omega arith)) tt));
-      csizes = λ r h. leb→le 1 (classicalSize w r) (test 0 _ (passes 0 _ (range-All {P = λ r. classicalRegisterFlaw w r ≡ 0} 0 (classicalRegisters w) r (none-bad _ _ _ (d .1)) (omega arith) (omega arith)) tt));
+      qsizes = λ r h. leb→le 1 (quantumSize w r) (test 0 _ (passes 0 _ (q r h) tt));
+      csizes = λ r h. leb→le 1 (classicalSize w r) (test 0 _ (passes 0 _ (k r h) tt));
+      fewQubits = in-all (quantumSize w) (quantumRegisters w) (λ r h. leb→le _ 4096 (test 2 _ (passes 0 _ (q r h) tt)));
+      fewBits = in-all (classicalSize w) (classicalRegisters w) (λ r h. leb→le _ 4096 (test 2 _ (passes 0 _ (k r h) tt)));
       gateEntry = λ g h. passes 0 _ (range-All {P = λ g. gateFlaw w g ≡ 0} 0 (gates w) g (none-bad _ _ _ (c .0)) (omega arith) (omega arith)) tt;
       flawless = λ scope h.
           of-All _ _

@@ -5,7 +5,7 @@ use native.Mathlib.Omega.{arith}
 use mathlib.Core.Path.{_≡_, refl, sym, subst}
 use mathlib.Core.Logic.{_⊎_, inl, inr}
 use mathlib.Core.Bool.{Bool, true, false, not, _&&_, _||_, cond}
-use mathlib.Core.List.{List, [], _∷_, _++_, map, flatMap}
+use mathlib.Core.List.{List, [], _∷_, _++_, map, flatMap, List·Memᴰ, List·Memᴰ·head, List·Memᴰ·tail, List·Memᴰ·not-nil, List·Memᴰ·cases-cons}
 use lib.Dec.{T}
 use lib.ListN.{length, getD}
 use Rattle.model.specs.Lists.{range, every, all}
@@ -77,6 +77,19 @@ module _ {A : Type 0} where
   All-getD i d h nil = absurd (not-suc-le-zero h)
   All-getD zero d h (cons p k) = p
   All-getD (suc i) d h (cons p k) = All-getD i d (omega arith) k
+
+  -- by membership
+  pub All-members : {P : A → Type 0} (l : List A) → ((x : A) → List·Memᴰ x l → P x) → All P l
+  All-members [] h = nil
+  All-members (x ∷ l) h = cons (h x (List·Memᴰ·head refl)) (All-members l (λ y m. h y (List·Memᴰ·tail m)))
+
+  pub members-All : {P : A → Type 0} {l : List A} → All P l → (x : A) → List·Memᴰ x l → P x
+  members-All nil x m = absurd (List·Memᴰ·not-nil m)
+  members-All {P} (cons {x = y} {xs} h k) x m = go (List·Memᴰ·cases-cons m) (λ n. members-All k x n)
+    where
+      go : (x ≡ y) ⊎ List·Memᴰ x xs → (List·Memᴰ x xs → P x) → P x
+      go (inl e) later = subst P (sym e) h
+      go (inr n) later = later n
 
 module _ {A B : Type 0} where
   pub All-flat : {P : B → Type 0} (g : A → List B) {l : List A} → All (λ x. All P (g x)) l → All P (flatMap g l)

@@ -17,7 +17,7 @@ use Rattle.model.specs.Evaluate.{evaluate}
 use Rattle.model.specs.Records.{Record, kind, fractionWords, angleWords, pair, fields, encode}
 use Rattle.model.specs.Steps.{Refusal, Step, write, enter, refuse, Frame, Opening, Values, have, lack, also, given, inRounds, overlap, offsetsOf, offsets, qubitIn, argumentQubits, bitIn, parameterValues, withValues, writeU, writeCX, distinctly, writeOpaque, writeMeasure, writeReset, pushFrame, openGate, visitGate, visitPlain, visitConditional, visitStatement, visitBody, opening, headRecord, steps, mainFrame}
 use Rattle.model.specs.Tally.{openGateTally, gateTally, plainTally, conditionalTally, statementTally, bodyTally, openingTally, weightTally}
-use Rattle.model.proofs.Lengths.{length-range, length-flat, length-each, length-words, length-rising, length-offsets}
+use Rattle.model.proofs.Lengths.{length-range, length-words, length-rising, length-qubits, length-values, length-head}
 
 -- ---- what steps come to: f kind words for a record, e for a body entry
 
@@ -112,26 +112,13 @@ module _ (f : ℕ → ℕ → ℕ) (e : ℕ) where
           exactly = λ flat c. add-zero _ ∙ flat (kind r) (length (encode r)) n;
         }
 
-    length-values : (vs : List Value) (es : List ℕ) (xs : List Value) → parameterValues w vs es ≡ have xs → length xs ≡ length es
-    unfolding parameterValues also
-    length-values vs [] xs e = let d : xs ≡ [] = cc in ap length d
-    length-values vs (x ∷ es) xs e = go (evaluate w vs 32 x) (parameterValues w vs es) (λ ys p. length-values vs es ys p) e
-      where
-        go : (g : Evaluation) (v : Values) → ((ys : List Value) → v ≡ have ys → length ys ≡ length es) → also g (expressionAt w x) v ≡ have xs → length xs ≡ suc (length es)
-        go (evaluation.Value y) (have ys) h p = let d : xs ≡ y ∷ ys = cc in ap length d ∙ ap suc (h ys refl)
-        go (evaluation.Value y) (lack r) h p = absurd (let z : _≡_ {A = ℕ} 0 1 = cc in omega arith)
-        go evaluation.DivideByZero v h p = absurd (let z : _≡_ {A = ℕ} 0 1 = cc in omega arith)
-        go (evaluation.ApproximateFail f) v h p = absurd (let z : _≡_ {A = ℕ} 0 1 = cc in omega arith)
-        go evaluation.Overflow v h p = absurd (let z : _≡_ {A = ℕ} 0 1 = cc in omega arith)
-        go evaluation.FunctionOfFloats v h p = absurd (let z : _≡_ {A = ℕ} 0 1 = cc in omega arith)
-
     values-tallied : (fr : Frame) (es : List ℕ) (next : List Value → List Step) (n : ℕ)
         → ((xs : List Value) → length xs ≡ length es → Tallied (next xs) n) → Tallied (withValues w fr es next) n
     unfolding withValues given
     values-tallied fr es next n h = go (parameterValues w (fr .values) es) refl
       where
         go : (v : Values) → parameterValues w (fr .values) es ≡ v → Tallied (given (fr .trace) v next) n
-        go (have xs) e = h xs (length-values (fr .values) es xs e)
+        go (have xs) e = h xs (length-values w (fr .values) es xs e)
         go (lack r) e = refuse-tallied (fr .trace) r n
 
     u-tallied : (fr : Frame) (q : ℕ) (xs : List Value) (i : ℕ) → Tallied (writeU w fr q xs i) (f 1 14)
@@ -172,10 +159,6 @@ module _ (f : ℕ → ℕ → ℕ) (e : ℕ) where
         both-tallied (eqb (gateBody w g) 0) (opaque-tallied fr g al xs _ _ d₁ d₂ i)
         (append-tallied (enter _ g ∷ []) _ e _ (enter-tallied _ g) (h (pushFrame w fr s g al xs i)))
 
-    length-qubits : (fr : Frame) (l : List ℕ) → length (flatMap (argumentQubits w fr) l) ≡ sum (map (argumentSize w (fr .scope)) l)
-    unfolding argumentQubits
-    length-qubits fr l = length-each (argumentQubits w fr) (argumentSize w (fr .scope)) (λ a. length-map (range 0 (argumentSize w (fr .scope) a)) (λ i. qubitIn w fr i a) ∙ length-range 0 _) l
-
     plain-tallied : {op : Opening} {ot : Option (ℕ → ℕ)} → Agree op ot → (fr : Frame) (c : ℕ → ℕ → ℕ → List Step) (ct : ℕ → ℕ)
         → ((r v t : ℕ) → Tallied (c r v t) (ct t)) → (s : ℕ) (x : Statement) → Tallied (visitPlain w c op fr s x) (plainTally w f e ct ot (fr .scope) x)
     unfolding visitPlain plainTally writeMeasure writeReset kind encode fields
@@ -185,7 +168,7 @@ module _ (f : ℕ → ℕ → ℕ) (e : ℕ) where
         values-tallied fr _ _ _ λ xs e.
         in-rounds _ _ (call-tallied h fr s g (range a (gateArguments w g)) xs (e ∙ length-map (range p (gateParameters w g)) (parameter w) ∙ length-range p _) (length-range a _)) _
     plain-tallied h fr c ct k s (Statement.Barrier a n) =
-        write-tallied _ (Record.Barrier _) _ (omega (arith, length-rising (flatMap (argumentQubits w fr) (range a n)), length-qubits fr (range a n)))
+        write-tallied _ (Record.Barrier _) _ (omega (arith, length-rising (flatMap (argumentQubits w fr) (range a n)), length-qubits w fr (range a n)))
     plain-tallied h fr c ct k s (Statement.Measure q cl) = in-rounds _ _ (λ i. write-tallied _ _ 3 (le-refl 3)) _
     plain-tallied h fr c ct k s (Statement.Reset q) = in-rounds _ _ (λ i. write-tallied _ _ 2 (le-refl 2)) _
     plain-tallied h fr c ct k s (Conditional r v t) = k r v t
@@ -209,12 +192,8 @@ module _ (f : ℕ → ℕ → ℕ) (e : ℕ) where
     openings zero = shut
     openings (suc n) = opened (body-tallied (openings n))
 
-    length-head : length (encode (headRecord w)) ≡ 3 + 2 * (firstQubit w (quantumRegisters w) + firstBit w (classicalRegisters w))
-    unfolding headRecord encode fields firstQubit firstBit pair
-    length-head = simp (length-append, length-flat pair 2 (λ x. refl), length-offsets) (omega arith)
-
     pub steps-tallied : (depth : ℕ) → Tallied (steps w depth) (weightTally w f e depth)
     unfolding steps weightTally headRecord kind
     steps-tallied depth =
         both-tallied (eqb (mainStatements w) 0) none-tallied
-        (append-tallied (write [] (headRecord w) ∷ []) _ _ _ (write-tallied [] (headRecord w) _ (le-of-eq length-head)) (body-tallied (openings (depth - 1)) mainFrame))
+        (append-tallied (write [] (headRecord w) ∷ []) _ _ _ (write-tallied [] (headRecord w) _ (le-of-eq (length-head w))) (body-tallied (openings (depth - 1)) mainFrame))

@@ -4,8 +4,7 @@ use native.Mathlib.Nat.{le-refl, le-of-eq, le-trans, add-zero, zero-add, add-ass
 use native.Mathlib.Omega.{arith}
 use mathlib.Core.Path.{_≡_, refl, sym, ap, ap₂, _∙_, subst}
 use mathlib.Core.Bool.{Bool, true, false, not, cond}
-use mathlib.Core.List.{List, [], _∷_, _++_, map, flatMap, List·Memᴰ, List·Memᴰ·not-nil, List·Memᴰ·cases-cons}
-use mathlib.Core.Logic.{_⊎_, inl, inr}
+use mathlib.Core.List.{List, [], _∷_, _++_, map, flatMap, List·Memᴰ, List·Memᴰ·head, List·Memᴰ·tail}
 use lib.Dec.{T, eqb, leb, ltb, leb→le, nleb→lt}
 use lib.ListN.{length, getD, take, drop, length-append, length-drop, length-map}
 use lib.Seq.{take-append-seam}
@@ -19,9 +18,16 @@ use Rattle.model.specs.Run.{Answer, done, refused, full, rejected, short
 use Rattle.model.specs.Tally.{weightTally, ofKind, theWords, recordFigure, entryFigure, wordBound}
 use Rattle.model.specs.Reader.{recordsIn}
 use Rattle.model.specs.Claims.{count, declared, distinct, Claims, written, recordsFound}
-use Rattle.model.proofs.All.{All, nil, cons, head-All, tail-All, All-front, All-weaken, All-of}
+use Rattle.model.proofs.All.{All, nil, cons, head-All, tail-All, All-front, All-weaken, All-of, members-All}
 use Rattle.model.proofs.Accepted.{Accepted, accepts}
 use Rattle.model.proofs.Counts.{weighs, clean, steps-tallied}
+use Rattle.model.proofs.TypedRecords.{declaredRecord, distinctRecord}
+use Rattle.model.proofs.StepsSound.{Good, steps-good}
+use Rattle.model.proofs.AnglesSound.{step-claims}
+use Rattle.model.proofs.ReadBack.{reads-back}
+use Rattle.model.proofs.DeclaredWords.{declared-words, distinct-words}
+use Rattle.model.proofs.WordRange.{steps-words, output-words}
+use Rattle.model.proofs.PlayLaws.{output-fits}
 use Rattle.model.proofs.TallySums.{ofKinds, kinds-total, ends, heads}
 
 -- ---- the records and the entries of steps
@@ -132,13 +138,28 @@ unfolding count weighsRecords encode
 counted k [] = refl
 counted k (r ∷ rs) = ap (λ n. ofKind k (kind r) 0 + n) (counted k rs)
 
-every-one : {A : Type 0} {P : A → Type 0} {l : List A} → All P l → (r : A) → List·Memᴰ r l → P r
-every-one nil r m = absurd (List·Memᴰ·not-nil m)
-every-one {A} {P} (cons {x} {xs} h k) r m = go (List·Memᴰ·cases-cons m) (λ n. every-one k r n)
-  where
-    go : (r ≡ x) ⊎ List·Memᴰ r xs → (List·Memᴰ r xs → P r) → P r
-    go (inl e) later = subst P (sym e) h
-    go (inr n) later = later n
+-- what holds of every step's record holds of the records written
+module _ {P : Record → Type 0} where
+  recorded : (ss : List Step) → ((t : List ℕ) (r : Record) → List·Memᴰ (write t r) ss → P r) → All P (recordsOf ss)
+  unfolding recordsOf
+  recorded [] h = nil
+  recorded (write t r ∷ ss) h = cons (h t r (List·Memᴰ·head refl)) (recorded ss (λ u x m. h u x (List·Memᴰ·tail m)))
+  recorded (enter t g ∷ ss) h = recorded ss (λ u x m. h u x (List·Memᴰ·tail m))
+  recorded (refuse t x ∷ ss) h = recorded ss (λ u x m. h u x (List·Memᴰ·tail m))
+
+-- a trace has at most 256 words, and what is written fits
+module _ (w : List ℕ) (acc : Accepted w) where
+  traced : (room : ℕ) (ss : List Step) → All (Good w acc) ss → length (traceOf (play room ss .answer)) ≤ 256
+  unfolding play traceOf
+  traced room [] h = omega arith
+  traced room (refuse t x ∷ ss) h = head-All h
+  traced room (enter t g ∷ ss) h = traced room ss (tail-All h)
+  traced room (write t r ∷ ss) h = go (leb (length (encode r)) room) (traced (room - length (encode r)) ss (tail-All h))
+    where
+      go : (b : Bool) → length (traceOf (play (room - length (encode r)) ss .answer)) ≤ 256
+          → length (traceOf (cond b (after r (play (room - length (encode r)) ss)) (stop (full t)) .answer)) ≤ 256
+      go true k = k
+      go false k = head-All h .2
 
 -- ---- a run
 
@@ -228,3 +249,89 @@ module _ (w : List ℕ) (depth outWords traceWords : ℕ) where
           go : {p : Played} → Ran p → p .answer ≡ done → weighsRecords (ofKinds (range 0 9)) (p .written) ≡ weightTally w (ofKinds (range 0 9)) 0 depth
           go (none a x y z) e = absurd (x e)
           go (plays c l) e = weighs-done (ofKinds (range 0 9)) (λ j a b h. le-of-eq (same-kinds (range 0 9) j a b)) _ (plays-fair outWords (steps w depth)) (same-kinds (range 0 9)) e
+
+  -- what holds of every record of an accepted program's steps holds of those written
+  all-written : {P : Record → Type 0} → ((acc : Accepted w) (t : List ℕ) (r : Record) → List·Memᴰ (write t r) (steps w depth) → P r) → All P (ran .written)
+  all-written {P} h = go ran-either
+    where
+      go : {p : Played} → Ran p → All P (p .written)
+      go (none a x y z) = nil
+      go (plays c l) =
+          let f = plays-fair outWords (steps w depth) in
+          All-front _ (f .rest) (subst (All P) (sym (f .front)) (recorded (steps w depth) (h (accepts w c))))
+
+  -- a trace fits the 256 words that a run asks for, and so the words lent
+  trace-fits : (length (traceOf (ran .answer)) ≤ 256) × (length (traceOf (ran .answer)) ≤ traceWords)
+  trace-fits = go ran-either
+    where
+      go : {p : Played} → Ran p → (length (traceOf (p .answer)) ≤ 256) × (length (traceOf (p .answer)) ≤ traceWords)
+      go (none a x y z) = omega arith
+      go (plays c l) = let h = traced w (accepts w c) outWords (steps w depth) (steps-good w (accepts w c) depth) in omega (arith, ltb-false traceWords 256 l)
+
+  -- what is written fits the output lent
+  room-enough : length (output ran) ≤ outWords
+  unfolding output flatMap
+  room-enough = go ran-either
+    where
+      go : {p : Played} → Ran p → length (output p) ≤ outWords
+      go (none a x y z) = zero-le
+      go (plays c l) = output-fits outWords (steps w depth)
+
+-- ---- the claims
+
+module _ (image : List ℕ) (depth : ℕ) (out trace : List ℕ) where
+  abbrev played : Played
+  played = runs image depth (length out) (length trace)
+
+  -- the words written stand in front of the output, and the reader finds the records in them
+  front : written image depth out trace ≡ output played
+  unfolding linearize
+  front = take-append-seam (output played) (drop (length (output played)) out)
+
+  reader : recordsFound image depth out trace ≡ map encode (played .written)
+  unfolding output
+  reader = ap recordsIn front ∙ reads-back (played .written)
+
+  kept : (ws old : List ℕ) → length ws ≤ length old → length (laidOver ws old) ≡ length old
+  kept ws old h = length-append ws (drop (length ws) old) ∙ omega (arith, length-drop (length ws) old)
+
+  joined : (rs : List Record) → flatMap (λ r. r) (map encode rs) ≡ flatMap encode rs
+  unfolding flatMap
+  joined [] = refl
+  joined (r ∷ rs) = ap (λ (l : List ℕ). encode r ++ l) (joined rs)
+
+  -- each record found is the words of one written
+  found-all : (P : List ℕ → Type 0) → All (λ r. P (encode r)) (played .written) → (r : List ℕ) → List·Memᴰ r (recordsFound image depth out trace) → P r
+  found-all P h r m = members-All (subst (All P) (sym reader) (All-of encode h)) r m
+
+  sound-step : (acc : Accepted image) (t : List ℕ) (r : Record) → List·Memᴰ (write t r) (steps image depth) → T (declaredRecord image r) × T (distinctRecord image r)
+  sound-step acc t r m = let g = members-All (steps-good image acc depth) (write t r) m in (g .0, g .1)
+
+  words-written : T (all (λ x. ltb x (2 ^ 64)) image) → T (all (λ x. ltb x (2 ^ 64)) (output played))
+  unfolding output
+  words-written h =
+      output-words
+      (all-written image depth (length out) (length trace)
+      (λ acc t r m.
+      members-All
+      (steps-words image acc h depth (λ u q k. let g = sound-step acc u q k in (g .0, g .1, step-claims image depth .angles u q k)))
+      (write t r) m))
+
+  pub claims : Claims image depth out trace
+  unfolding linearize output
+  claims =
+      record {
+        most = λ k. subst (λ (n : ℕ). n ≤ recordFigure image depth k) (sym (ap (count k) reader ∙ counted k (played .written))) (records-most image depth (length out) (length trace) k);
+        exactly = λ d k. ap (count k) reader ∙ counted k (played .written) ∙ records-done image depth (length out) (length trace) d k;
+        bounded = words-most image depth (length out) (length trace);
+        ample = bound-suffices image depth (length out) (length trace);
+        number = record-count image depth (length out) (length trace);
+        read = ap length reader ∙ length-map (played .written) encode;
+        filled = ap (flatMap (λ r. r)) reader ∙ joined (played .written) ∙ sym front;
+        entries = entries-done image depth (length out) (length trace);
+        declares = found-all (λ r. T (declared image r)) (all-written image depth (length out) (length trace) (λ acc t r m. declared-words image r (sound-step acc t r m .0)));
+        differs = found-all (λ r. T (distinct image r)) (all-written image depth (length out) (length trace) (λ acc t r m. distinct-words image r (sound-step acc t r m .1)));
+        traces = trace-fits image depth (length out) (length trace) .0;
+        lengths = (kept (output played) out (room-enough image depth (length out) (length trace)), kept (traceOf (played .answer)) trace (trace-fits image depth (length out) (length trace) .1));
+        fits = λ h. subst (λ (l : List ℕ). T (all (λ x. ltb x (2 ^ 64)) l)) (sym front) (words-written h);
+      }

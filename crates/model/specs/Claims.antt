@@ -3,7 +3,7 @@ use Prim.Native.Nat.{ℕ, zero, suc, _+_, _*_, _/_, _^_, _≤_, _<_}
 use mathlib.Core.Path.{_≡_}
 use mathlib.Core.Bool.{Bool, true, false, not, _||_, cond}
 use mathlib.Core.Logic.{_⊎_}
-use mathlib.Core.List.{List, [], _∷_, _++_, map, List·Memᴰ}
+use mathlib.Core.List.{List, [], _∷_, _++_, map, flatMap, List·Memᴰ}
 use lib.Dec.{T, leb, ltb, eqb}
 use lib.ListN.{length, getD, take, drop}
 use Rattle.value.specs.declared.Value.{Value}
@@ -122,6 +122,7 @@ module _ (image : List ℕ) (depth : ℕ) (out trace : List ℕ) where
     pub number : ran .answer ≡ done → ran .records ≡ sum (map (recordFigure image depth) (range 1 7)) + recordFigure image depth 7 + cond (eqb (mainStatements image) 0) 0 1
     -- the records told are those that the reader finds, and they fill the words written
     pub read : length recordsFound ≡ ran .records
+    pub filled : flatMap (λ r. r) recordsFound ≡ written
     -- "body entries": those of a finished run
     pub entries : ran .answer ≡ done → runs image depth (length out) (length trace) .entered ≡ entryFigure image depth
     -- "every index written is a declared one"; distinct where document 01 says so
