@@ -5,10 +5,12 @@ pub mod Samples
 pub mod All
 pub mod Accepted
 pub mod Lengths
+pub mod Ranges
 pub mod Counts
 pub mod TallySums
 pub mod TypedRecords
 pub mod Origins
+pub mod BarrierLaws
 pub mod StepsSound
 pub mod Depth
 pub mod AnglesSound
@@ -16,4 +18,9 @@ pub mod ReadBack
 pub mod DeclaredWords
 pub mod WordRange
 pub mod PlayLaws
+pub mod TraceLaws
 pub mod Outcome
+pub mod CheckLaws
+pub mod Tally16
+pub mod Deep
+pub mod EvaluateLaws

@@ -18,53 +18,10 @@ use Rattle.model.specs.Steps.{Step, write, enter, refuse, Frame, holder,
 use Rattle.model.specs.Claims.{inRegister, differ, rises, isQubit}
 use Rattle.model.proofs.All.{All, nil, cons, head-All, tail-All, test, All-every, all-All, All-all, All-weaken, All-front, All-back, All-getD, All-members, members-All, All-flat, All-of, of-All, All-range}
 use Rattle.model.proofs.Lengths.{length-range}
+use Rattle.model.proofs.BarrierLaws.{rising-all, rising-rises}
 use Rattle.model.proofs.Accepted.{Accepted, passes}
 use Rattle.model.proofs.TypedRecords.{declaredRecord, distinctRecord}
 use Rattle.model.proofs.Origins.{Runs, itself, held, Call, calledFrame, Writes, writes-U, writes-CX, writes-opaque, writes-barrier, writes-measure, writes-reset, writes-start, writes-end, Reached, main, called, Origin, head, writes, cuts, enters, refuses, origins}
-
--- ---- a barrier's numbers rise
-
-placed-All : {P : ℕ → Type 0} (x : ℕ) {l : List ℕ} → P x → All P l → All P (placed x l)
-unfolding placed
-placed-All x p nil = cons p nil
-placed-All {P} x p (cons {x = y} {xs = ys} h k) = go (ltb x y) (eqb x y) (placed-All x p k)
-  where
-    go : (b c : Bool) → All P (placed x ys) → All P (cond b (x ∷ y ∷ ys) (cond c (y ∷ ys) (y ∷ placed x ys)))
-    go true c r = cons p (cons h k)
-    go false true r = cons h k
-    go false false r = cons h r
-
-rising-All : {P : ℕ → Type 0} {l : List ℕ} → All P l → All P (rising l)
-unfolding rising
-rising-All nil = nil
-rising-All (cons {x = x} h k) = placed-All x h (rising-All k)
-
-rises-cons : (x : ℕ) {l : List ℕ} → All (λ y. T (ltb x y)) l → T (rises l) → T (rises (x ∷ l))
-unfolding rises
-rises-cons x h r = All-every (cons (All-all (ltb x) h) (cons r nil))
-
-placed-rises : (x : ℕ) (l : List ℕ) → T (rises l) → T (rises (placed x l))
-unfolding placed rises
-placed-rises x [] r = rises-cons x nil r
-placed-rises x (y ∷ ys) r = go (ltb x y) refl (eqb x y) refl (placed-rises x ys (test 1 _ r))
-  where
-    above : All (λ z. T (ltb y z)) ys
-    above = all-All (ltb y) ys (test 0 _ r)
-
-    go : (b : Bool) → ltb x y ≡ b → (c : Bool) → eqb x y ≡ c → T (rises (placed x ys)) → T (rises (cond b (x ∷ y ∷ ys) (cond c (y ∷ ys) (y ∷ placed x ys))))
-    go true e c f s =
-        let p : x < y = ltb-true _ _ e in
-        rises-cons x (cons (lt→ltb x y p) (All-weaken (λ z q. lt→ltb x z (omega (arith, ltb→lt y z q))) above)) r
-    go false e true f s = r
-    go false e false f s =
-        let p : y ≤ x = ltb-false _ _ e in
-        let q : ¬ (x ≡ y) = eqb-false _ _ f in
-        rises-cons y (placed-All x (lt→ltb y x (omega arith)) above) s
-
-pub rising-rises : (l : List ℕ) → T (rises (rising l))
-unfolding rising rises
-rising-rises [] = tt
-rising-rises (x ∷ xs) = placed-rises x (rising xs) (rising-rises xs)
 
 -- ---- without an overlap the arguments' qubits differ
 
@@ -254,7 +211,7 @@ module _ (w : List ℕ) (acc : Accepted w) where
         let k = call-below c in
         (opaque-declared g xs _ (k .0) (k .2), rw b (no-overlap (qubitIn w frame i) [] _ d .0))
     written-good (writes-barrier {a} {n} h) =
-        (All-all (isQubit w) (rising-All (All-flat (argumentQubits w frame) (All-weaken whole-below (all-All _ (range a n) (passes 1 _ (sound h .1) tt))))), rising-rises _)
+        (All-all (isQubit w) (rising-all (All-flat (argumentQubits w frame) (All-weaken whole-below (all-All _ (range a n) (passes 1 _ (sound h .1) tt))))), rising-rises _)
     written-good (writes-measure {q} {c} {i} h l) =
         let e = sound h .1 in
         (measure-declared q c i (test 0 _ (passes 1 _ e tt)) (test 1 _ (passes 1 _ e tt)) (passes 2 _ e tt) l, tt)

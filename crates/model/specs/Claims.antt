@@ -1,4 +1,4 @@
--- What is claimed of every image, depth, lent output and lent trace, and proved in proofs/Outcome.antt: demand 3, over the words that stand in the output, and what document 01 says of results that it leaves open.
+-- What is claimed of every image, depth, lent output and lent trace, and proved in proofs/: demand 3, over the words that stand in the output (Outcome), the depth rule and the angles (Depth, AnglesSound), and what document 01 says of results that it leaves open (BarrierLaws, CheckLaws).
 use Prim.Native.Nat.{ℕ, zero, suc, _+_, _*_, _/_, _^_, _≤_, _<_}
 use mathlib.Core.Path.{_≡_}
 use mathlib.Core.Bool.{Bool, true, false, not, _||_, cond}
@@ -10,7 +10,7 @@ use Rattle.value.specs.declared.Value.{Value}
 use Rattle.value.specs.Value.{Sound}
 use Rattle.model.specs.Lists.{range, sum, every, all, rising}
 use Rattle.model.specs.Image.{mainStatements, quantumRegisters, classicalRegisters, gates, quantumSize, classicalSize, qubits, bits, gateBody, quantumRegisterAt, classicalRegisterAt, gateAt, statementAt}
-use Rattle.model.specs.Check.{Verdict, fine, bad, contentsOk, quantumRegisterFlaw, classicalRegisterFlaw, gateFlaw, flaw, everyStatement, check}
+use Rattle.model.specs.Check.{fine, contentsOk, quantumRegisterFlaw, classicalRegisterFlaw, registers, gateFlaw, gateEntries, flaw, everyStatement}
 use Rattle.model.specs.Records.{Record, kind, encode}
 use Rattle.model.specs.Steps.{Step, write, enter, refuse, steps}
 use Rattle.model.specs.Run.{Outcome, done, full, runs, linearize}
@@ -171,7 +171,9 @@ pub record FirstOfList {A : Type 0} (number place : A → ℕ) (l : List A) (n p
 abbrev pub CheckClaims : List ℕ → ℕ → ℕ → Type 0
 CheckClaims image n p =
     ((contentsOk image ≡ false) × (n ≡ 1) × (p ≡ 0))
-    ⊎ FirstOfList (quantumRegisterFlaw image) (quantumRegisterAt image) (range 0 (quantumRegisters image)) n p
+    ⊎ (contentsOk image ≡ true)
+    × (FirstOfList (quantumRegisterFlaw image) (quantumRegisterAt image) (range 0 (quantumRegisters image)) n p
     ⊎ FirstOfList (classicalRegisterFlaw image) (classicalRegisterAt image) (range 0 (classicalRegisters image)) n p
-    ⊎ FirstOfList (gateFlaw image) (gateAt image) (range 0 (gates image)) n p
-    ⊎ FirstOfList (λ x. flaw image (x .0) (x .1)) (λ x. statementAt image (x .1)) (everyStatement image) n p
+    ⊎ (registers image ≡ fine)
+    × (FirstOfList (gateFlaw image) (gateAt image) (range 0 (gates image)) n p
+    ⊎ (gateEntries image ≡ fine) × FirstOfList (λ x. flaw image (x .0) (x .1)) (λ x. statementAt image (x .1)) (everyStatement image) n p))

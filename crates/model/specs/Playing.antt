@@ -1,27 +1,35 @@
 -- What the contracts of the code are made of. It defines nothing new: an engineer who reads the definitions need not read it.
 use Prim.Native.Nat.{ℕ, _+_, _-_, _≤_}
 use mathlib.Core.Path.{_≡_}
-use mathlib.Core.List.{List, _++_, flatMap}
-use lib.ListN.{length, take, drop}
-use Rattle.model.specs.Records.{Record, encode}
+use mathlib.Core.List.{List, _++_}
+use lib.ListN.{length}
+use lib.Seq.{sets}
 use Rattle.model.specs.Steps.{Step}
-use Rattle.model.specs.Run.{Answer, Played, play, output}
+use Rattle.model.specs.Run.{Answer, done, play, output}
 
--- words laid over a lent output from a position on
-abbrev pub lays : List ℕ → ℕ → List ℕ → List ℕ
-lays out at ws = take at out ++ ws ++ drop (at + length ws) out
+-- how far a run has come: the lent output, and the words and records written to it
+pub record Place : Type 0 where
+  pub out : List ℕ
+  pub words : ℕ
+  pub records : ℕ
 
--- a function's promise: it played some steps into the output from `at` on, and answers so
-pub record Plays (ss : List Step) (out out′ : List ℕ) (at at′ : ℕ) (answer : Answer) : Type 0 where
-  pub contents : out′ ≡ lays out at (output (play (length out - at) ss))
-  pub position : at′ ≡ at + length (output (play (length out - at) ss))
-  pub answers : answer ≡ play (length out - at) ss .answer
+-- the words left
+abbrev pub room : Place → ℕ
+room p = length (p .out) - p .words
 
--- a loop's invariant: of the steps, the rest is still to be played, from `at′` on
-pub record Going (ss rest : List Step) (out out′ : List ℕ) (at at′ : ℕ) : Type 0 where
-  pub sofar : List Record
-  pub contents : out′ ≡ lays out at (flatMap encode sofar)
-  pub position : at′ ≡ at + length (flatMap encode sofar)
-  pub fits : at′ ≤ length out
-  pub written : play (length out - at) ss .written ≡ sofar ++ play (length out - at′) rest .written
-  pub answers : play (length out - at) ss .answer ≡ play (length out - at′) rest .answer
+-- a function's promise: it played some steps from one place to another, and answers so
+pub record Plays (ss : List Step) (from to : Place) (answer : Answer) : Type 0 where
+  pub contents : to .out ≡ sets (from .out) (from .words) (output (play (room from) ss))
+  pub position : to .words ≡ from .words + length (output (play (room from) ss))
+  pub counts : to .records ≡ from .records + length (play (room from) ss .written)
+  pub answers : answer ≡ play (room from) ss .answer
+  -- what follows, for the code's arithmetic: a record has a word at least
+  pub fits : to .words ≤ length (to .out)
+  pub same : length (to .out) ≡ length (from .out)
+  pub fewer : to .records + from .words ≤ from .records + to .words
+
+-- a loop's invariant: of the steps a part is played, and the rest is still to be played
+pub record Going (ss rest : List Step) (from now : Place) : Type 0 where
+  pub part : List Step
+  pub split : ss ≡ part ++ rest
+  pub played : Plays part from now done
