@@ -1,19 +1,16 @@
 -- What the fields of an `f32`'s bit pattern say of its value.
 use mathlib.Core.Path.{_≡_, refl, sym, ap, _∙_, subst}
-use mathlib.Core.Bool.{Bool, true, false, cond, not}
-use Prim.Native.Nat.{ℕ, suc, _+_, _-_, _*_, _/_, _%_, _≤_, _<_, _^_}
-use native.Mathlib.Omega.{arith}
+use mathlib.Core.Bool.{Bool, true, false, cond}
+use Prim.Native.Nat.{ℕ, suc, _+_, _-_, _*_, _/_, _%_, _<_, _^_}
 use lib.Dec.{T, leb, eqb}
 use lib.Pow.{pow-pos}
 use borrow.Author.Tests.{ne-eqb}
-use lib.Ieee.{Float, nan, inf, fin, binary32, up, down, fits, ofBits, ofFields, toBits, odd}
+use lib.Ieee.{Float, nan, inf, fin, binary32, fits, ofBits, ofFields, toBits, odd}
 use lib.Ieee.Exact.{HasValue, odd-sign}
 use lib.Ieee.Bits.{ofBits-toBits}
-use Rattle.rational.specs.Gcd.{gcd}
 use Rattle.float.proofs.FloatTerms.{value-lowest}
-use Rattle.rational.specs.declared.Checked.{Checked}
 use Rattle.rational.specs.declared.Checked.the-variants.{None}
-use Rattle.rational.specs.Rational.{ratio, reduced, checked}
+use Rattle.rational.specs.Rational.{reduced, checked}
 use Rattle.float.specs.Float.{approximateFloat}
 
 -- a float's approximateFloat fraction is its value in reduced terms, however the value is written

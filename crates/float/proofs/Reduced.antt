@@ -1,13 +1,11 @@
 -- A fraction over 2 ^ 149, brought to reduced terms by halving.
-use mathlib.Core.Path.{_≡_, refl, sym, ap, _∙_}
-use mathlib.Core.Bool.{Bool, true, false, _&&_}
-use Prim.Native.Nat.{ℕ, _-_, _*_, _/_, _%_, _≤_, _<_, _^_, min}
+use mathlib.Core.Path.{_≡_, sym, ap, _∙_}
+use mathlib.Core.Bool.{Bool, _&&_}
+use Prim.Native.Nat.{ℕ, _-_, _*_, _%_, _≤_, _<_, _^_, min}
 use native.Mathlib.Omega.{arith}
 use lib.Dec.{ltb}
-use Rattle.rational.specs.Gcd.{gcd}
 use Rattle.float.proofs.PowersOfTwo.{low-odd, low-whole}
 use Rattle.rational.proofs.Capped.{min-mul}
-use Rattle.rational.specs.declared.Rational64.{Rational64}
 use Rattle.rational.specs.Rational.{ratio, reduced, checked}
 use Rattle.rational.proofs.ProductLaws.{checked-min}
 

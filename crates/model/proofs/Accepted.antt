@@ -1,14 +1,14 @@
 -- What holds of an image that the check accepts.
-use Prim.Native.Nat.{ℕ, zero, suc, _+_, _≤_, _<_}
+use Prim.Native.Nat.{ℕ, zero, suc, _≤_, _<_}
 use native.Mathlib.Omega.{arith}
-use mathlib.Core.Path.{_≡_, refl, sym, ap, _∙_, subst}
+use mathlib.Core.Path.{_≡_, refl, sym, subst}
 use mathlib.Core.Bool.{Bool, true, false, _&&_, cond}
-use mathlib.Core.List.{List, [], _∷_, map, flatMap}
+use mathlib.Core.List.{List, [], _∷_, map}
 use lib.Dec.{T, leb, ltb, eqb, leb→le, ltb→lt, eqb→eq}
-use lib.ListN.{length, getD}
+use lib.ListN.{getD}
 use Rattle.model.specs.Lists.{range, sum}
 use Rattle.model.proofs.All.{All, nil, cons, and-T, test, of-All, flat-All, range-All}
-use Rattle.model.specs.Image.{gates, quantumRegisters, classicalRegisters, quantumSize, classicalSize, qubits, bits, firstQubit, firstBit, scopeStatements, quantumRegisterAt, classicalRegisterAt, gateAt, statementAt}
+use Rattle.model.specs.Image.{gates, quantumRegisters, classicalRegisters, quantumSize, classicalSize, qubits, bits, firstQubit, firstBit, scopeStatements, quantumRegisterAt, classicalRegisterAt}
 use Rattle.model.specs.Check.{Verdict, fine, bad, orElse, firstOf, firstBad, contentsOk, quantumRegisterFlaw, classicalRegisterFlaw, gateOk, gateFlaw, flaw, everyStatement, registers, gateEntries, statementEntries, check}
 
 -- tests that give a number each: where none is given the i-th passes

@@ -2,20 +2,18 @@
 use Prim.Native.Nat.{ℕ, zero, suc, _+_, _-_, _*_, _≤_, zero-le}
 use native.Mathlib.Nat.{le-refl, le-of-eq, add-le-add, add-zero, zero-add, suc-mul, zero-mul}
 use native.Mathlib.Omega.{arith}
-use mathlib.Core.Path.{_≡_, refl, sym, ap, ap₂, _∙_, subst}
+use mathlib.Core.Path.{_≡_, refl, sym, ap₂, _∙_, subst}
 use mathlib.Core.Bool.{Bool, true, false, cond}
 use mathlib.Core.List.{List, [], _∷_, _++_, map, flatMap}
 use mathlib.Core.Option.{Option, none, some}
 use lib.Dec.{T, eqb}
 use lib.ListN.{length, length-append, length-map}
 use Rattle.value.specs.declared.Value.{Value}
-use Rattle.value.specs.declared.Evaluation.{Evaluation}
 use Rattle.value.specs.declared.Evaluation.the-variants as evaluation
-use Rattle.model.specs.Lists.{range, sum, largest, rising}
-use Rattle.model.specs.Image.{Statement, Gate, Conditional, statement, expressionAt, parameter, gateParameters, gateArguments, gateBody, quantumRegisters, classicalRegisters, firstQubit, firstBit, classicalSize, mainStatements, argumentSize, classicalArgumentSize, rounds, scopeStatements}
-use Rattle.model.specs.Evaluate.{evaluate}
-use Rattle.model.specs.Records.{Record, kind, fractionWords, angleWords, pair, fields, encode}
-use Rattle.model.specs.Steps.{Refusal, Step, write, enter, refuse, Frame, Opening, Values, have, lack, also, given, inRounds, overlap, offsetsOf, offsets, qubitIn, argumentQubits, bitIn, parameterValues, withValues, writeU, writeCX, distinctly, writeOpaque, writeMeasure, writeReset, pushFrame, openGate, visitGate, visitPlain, visitConditional, visitStatement, visitBody, opening, headRecord, steps, mainFrame}
+use Rattle.model.specs.Lists.{range, sum}
+use Rattle.model.specs.Image.{Statement, Gate, Conditional, statement, parameter, gateParameters, gateArguments, gateBody, firstBit, classicalSize, mainStatements, scopeStatements}
+use Rattle.model.specs.Records.{Record, kind, angleWords, fields, encode}
+use Rattle.model.specs.Steps.{Refusal, Step, write, enter, refuse, Frame, Opening, Values, have, lack, given, inRounds, overlap, qubitIn, argumentQubits, parameterValues, withValues, writeU, writeCX, distinctly, writeOpaque, writeMeasure, writeReset, pushFrame, openGate, visitGate, visitPlain, visitConditional, visitStatement, visitBody, opening, headRecord, steps, mainFrame}
 use Rattle.model.specs.Tally.{openGateTally, gateTally, plainTally, conditionalTally, statementTally, bodyTally, openingTally, weightTally}
 use Rattle.model.proofs.Lengths.{length-range, length-words, length-rising, length-qubits, length-values, length-head}
 

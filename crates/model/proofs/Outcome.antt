@@ -1,24 +1,24 @@
 -- The claims of specs/Claims.antt hold of every run: demand 3.
-use Prim.Native.Nat.{ℕ, zero, suc, _+_, _-_, _*_, _^_, _≤_, zero-le}
-use native.Mathlib.Nat.{le-refl, le-of-eq, le-trans, add-zero, zero-add, add-assoc}
+use Prim.Native.Nat.{ℕ, suc, _+_, _-_, _^_, _≤_, zero-le}
+use native.Mathlib.Nat.{le-refl, le-of-eq, le-trans, zero-add}
 use native.Mathlib.Omega.{arith}
-use mathlib.Core.Path.{_≡_, refl, sym, ap, ap₂, _∙_, subst}
+use mathlib.Core.Path.{_≡_, refl, sym, ap, _∙_, subst}
 use mathlib.Core.Bool.{Bool, true, false, not, cond}
 use mathlib.Core.List.{List, [], _∷_, _++_, map, flatMap, List·Memᴰ, List·Memᴰ·head, List·Memᴰ·tail}
-use lib.Dec.{T, eqb, leb, ltb, leb→le, nleb→lt}
-use lib.ListN.{length, getD, take, drop, length-append, length-drop, length-map}
+use lib.Dec.{T, eqb, leb, ltb, nleb→lt}
+use lib.ListN.{length, drop, length-append, length-drop, length-map}
 use lib.Seq.{take-append-seam}
 use borrow.Author.Tests.{ltb-false}
 use Rattle.model.specs.Lists.{range, sum, all}
 use Rattle.model.specs.Image.{mainStatements}
 use Rattle.model.specs.Records.{Record, kind, encode}
 use Rattle.model.specs.Check.{Verdict, fine, bad, check}
-use Rattle.model.specs.Steps.{Refusal, DivideByZero, ApproximateFail, NumericalOverflow, OverlappingRegs, FunctionOfFloats, Step, write, enter, refuse, steps}
-use Rattle.model.specs.Run.{Answer, done, refused, full, rejected, shortTrace, told, Played, stop, after, inside, traceOf, play, accepted, runs, output, laidOver, outcomeOf, linearize}
+use Rattle.model.specs.Steps.{Step, write, enter, refuse, steps}
+use Rattle.model.specs.Run.{Answer, done, full, rejected, shortTrace, Played, stop, after, traceOf, play, accepted, runs, output, laidOver, linearize}
 use Rattle.model.specs.Tally.{weightTally, ofKind, theWords, recordFigure, entryFigure, wordBound}
 use Rattle.model.specs.Reader.{recordsIn}
 use Rattle.model.specs.Claims.{count, declared, distinct, Claims, written, recordsFound}
-use Rattle.model.proofs.All.{All, nil, cons, head-All, tail-All, All-front, All-weaken, All-of, members-All}
+use Rattle.model.proofs.All.{All, nil, cons, head-All, tail-All, All-front, All-of, members-All}
 use Rattle.model.proofs.Accepted.{Accepted, accepts}
 use Rattle.model.proofs.Counts.{weighs, clean, steps-tallied}
 use Rattle.model.proofs.TypedRecords.{declaredRecord, distinctRecord}

@@ -1,15 +1,14 @@
 -- What a loop over a range has found after some turns: all, sum, largest, and the first bad one.
 use Prim.Native.Nat.{ℕ, zero, suc, _+_, _-_, _≤_, _<_, max}
-use native.Mathlib.Nat.{add-zero, add-suc, suc-add, zero-add, not-suc-le-zero}
+use native.Mathlib.Nat.{add-zero, add-suc, suc-add, not-suc-le-zero}
 use native.Mathlib.Numerals.{add-one}
 use native.Mathlib.Omega.{arith}
 use mathlib.Core.Path.{_≡_, refl, sym, ap, _∙_}
-use mathlib.Core.Bool.{Bool, true, false, _&&_, cond}
-use mathlib.Core.List.{List, [], _∷_, map}
-use lib.Dec.{eqb}
+use mathlib.Core.Bool.{Bool, true, false, _&&_}
+use mathlib.Core.List.{_∷_, map}
 use borrow.Author.Tests.{eq-eqb, ne-eqb}
 use Rattle.model.specs.Lists.{range, sum, largest, all}
-use Rattle.model.specs.Check.{Verdict, fine, bad, firstBad}
+use Rattle.model.specs.Check.{fine, bad, firstBad}
 
 -- ---- a test at each of the numbers from a on
 module _ (p : ℕ → Bool) where

@@ -2,7 +2,7 @@
 use Prim.Native.Nat.{ℕ}
 use mathlib.Core.List.{List, [], _∷_}
 use lib.ListN.{length}
-use Rattle.model.specs.Run.{Numbers, Played, told, traceOf, runs, output}
+use Rattle.model.specs.Run.{Played, told, traceOf, runs, output}
 use Rattle.model.specs.Tally.{TallyAnswer, tallied, refused, tally}
 
 pub record Sample : Type 0 where

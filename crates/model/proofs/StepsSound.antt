@@ -6,16 +6,16 @@ use mathlib.Core.Path.{_≡_, refl, sym, ap, _∙_}
 use mathlib.Core.Bool.{Bool, true, false, not, _||_, cond}
 use mathlib.Core.List.{List, [], _∷_, _++_, map, List·Memᴰ}
 use mathlib.Core.Option.{Option, none, some}
-use borrow.Author.Tests.{eqb-true, eqb-false, ltb-true, ltb-false}
+use borrow.Author.Tests.{eqb-true, eqb-false}
 use lib.Dec.{T, ltb, eqb, leb→le, ltb→lt, lt→ltb, le→leb, eqb→eq}
 use lib.ListN.{length, getD, length-append, length-map}
 use Rattle.value.specs.declared.Value.{Value}
-use Rattle.model.specs.Lists.{range, sum, largest, all, placed, rising}
+use Rattle.model.specs.Lists.{range, sum, largest, all}
 use Rattle.model.specs.Image.{Statement, statement, argumentRegister, argumentIndex, gateArguments, gates, quantumRegisters, classicalRegisters, firstQubit, firstBit, quantumSize, classicalSize, qubits, bits, argumentSize, classicalArgumentSize, rounds, scopeStatements}
 use Rattle.model.specs.Check.{matching, argumentOk, classicalArgumentOk, downward, plainFlaw, conditionalOk, conditionalFlaw, flaw}
 use Rattle.model.specs.Records.{Record}
 use Rattle.model.specs.Steps.{Step, write, enter, refuse, Frame, holder, clash, overlap, offsetsOf, offsets, resolveQreg, qubitIn, bitIn, argumentQubits, pushFrame, headRecord, steps}
-use Rattle.model.specs.Claims.{inRegister, differ, rises, isQubit}
+use Rattle.model.specs.Claims.{inRegister, differ, isQubit}
 use Rattle.model.proofs.All.{All, nil, cons, head-All, tail-All, test, All-every, all-All, All-all, All-weaken, All-front, All-back, All-getD, All-members, members-All, All-flat, All-of, of-All, All-range}
 use Rattle.model.proofs.Lengths.{length-range}
 use Rattle.model.proofs.BarrierLaws.{rising-all, rising-rises}

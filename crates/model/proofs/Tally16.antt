@@ -10,7 +10,7 @@ use lib.Dec.{T, leb, leb→le}
 use Rattle.model.specs.Lists.{all}
 use Rattle.model.specs.Check.{Verdict, fine, bad, check}
 use Rattle.model.specs.Tally.{tallied, refused, figures, ifAccepted, tally}
-use Rattle.model.proofs.All.{All, all-All, members-All}
+use Rattle.model.proofs.All.{all-All, members-All}
 
 -- some number of a list passes m
 abbrev pub Passes : ℕ → List ℕ → Type 0

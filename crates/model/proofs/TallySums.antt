@@ -1,14 +1,14 @@
 -- The tally adds up: what is counted in two parts comes to the sum of the two. So the number of records follows from the figures.
 use Prim.Native.Nat.{ℕ, zero, suc, _+_, _-_, _*_}
-use native.Mathlib.Nat.{mul-add, add-zero, zero-add}
+use native.Mathlib.Nat.{mul-add, add-zero}
 use native.Mathlib.Omega.{arith}
-use mathlib.Core.Path.{_≡_, refl, sym, ap, ap₂, _∙_}
+use mathlib.Core.Path.{_≡_, refl, ap, _∙_}
 use mathlib.Core.Bool.{Bool, true, false, cond}
 use mathlib.Core.List.{List, [], _∷_, map}
 use mathlib.Core.Option.{Option, none, some}
 use lib.Dec.{eqb}
-use Rattle.model.specs.Lists.{range, sum}
-use Rattle.model.specs.Image.{Statement, Gate, Conditional, statement, gateParameters, gateArguments, gateBody, mainStatements, qubits, bits, argumentSize, classicalArgumentSize, rounds, scopeStatements}
+use Rattle.model.specs.Lists.{sum}
+use Rattle.model.specs.Image.{Statement, Gate, Conditional, statement, gateBody, mainStatements, qubits, bits, scopeStatements}
 use Rattle.model.specs.Tally.{openGateTally, gateTally, plainTally, conditionalTally, statementTally, bodyTally, openingTally, weightTally, ofKind, recordFigure}
 
 -- h counts what f and g count, in each kind but the head; an if's start and its end are taken together

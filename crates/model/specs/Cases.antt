@@ -1,7 +1,7 @@
 -- Cases K1 to K10 of document 01, and one for each of its four misreadings: an image, a depth, and the listing to the byte.
 use Prim.Native.Nat.{ℕ, zero, suc, _+_, _-_, _*_, _/_, _%_}
 use Prim.Native.String.{String}
-use mathlib.Core.List.{List, [], _∷_, map, flatMap}
+use mathlib.Core.List.{List, [], _∷_, flatMap}
 use Rattle.model.specs.Listing.{ascii, listing}
 
 -- the eight bytes of a word, the lowest first

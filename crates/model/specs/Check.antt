@@ -1,5 +1,5 @@
 -- Document 01, "Check" and "Limits".
-use Prim.Native.Nat.{ℕ, zero, suc, _+_, _-_, _*_, _^_}
+use Prim.Native.Nat.{ℕ, zero, suc, _+_, _-_, _^_}
 use mathlib.Core.Bool.{Bool, true, false, _||_, cond}
 use mathlib.Core.List.{List, [], _∷_, map, flatMap}
 use lib.ListN.{length}

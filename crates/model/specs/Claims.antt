@@ -1,5 +1,5 @@
 -- What is claimed of every image, depth, lent output and lent trace, and proved in proofs/: demand 3, over the words that stand in the output (Outcome), the depth rule and the angles (Depth, AnglesSound), and what document 01 says of results that it leaves open (BarrierLaws, CheckLaws).
-use Prim.Native.Nat.{ℕ, zero, suc, _+_, _*_, _/_, _^_, _≤_, _<_}
+use Prim.Native.Nat.{ℕ, _+_, _*_, _/_, _^_, _≤_}
 use mathlib.Core.Path.{_≡_}
 use mathlib.Core.Bool.{Bool, true, false, not, _||_, cond}
 use mathlib.Core.Logic.{_⊎_}

@@ -1,17 +1,16 @@
 -- Document 01, "The listing program": from the bytes of standard input to those of standard output.
 use Prim.Native.Nat.{ℕ, zero, suc, _+_, _*_, _/_, _%_}
-use Prim.Native.Char.{Char, code}
+use Prim.Native.Char.{code}
 use Prim.Native.String.{String}
 use Prim.Native.String as text
-use mathlib.Core.Bool.{Bool, _&&_, cond}
+use mathlib.Core.Bool.{_&&_, cond}
 use mathlib.Core.List.{List, [], _∷_, _++_, map, flatMap}
 use lib.ListN.{length, getD, take, drop}
 use lib.Dec.{eqb, ltb, leb}
 use Rattle.rational.specs.declared.Rational64.{Rational64}
 use Rattle.value.specs.declared.Value.{Value}
-use Rattle.model.specs.Lists.{range}
 use Rattle.model.specs.Records.{Record, kind, fields}
-use Rattle.model.specs.Run.{Numbers, numbers, Answer, done, refused, full, rejected, shortTrace, told, traceOf, Played, runs}
+use Rattle.model.specs.Run.{Numbers, numbers, Answer, done, refused, full, rejected, shortTrace, told, Played, runs}
 
 -- ---- text
 

@@ -1,7 +1,7 @@
 -- Laws of `gcd`: it divides both numbers, every commonDenominator divisor divides it, Euclid's lemma, and that a fraction in reduced terms is unique.
 use mathlib.Core.Path.{_≡_, refl, sym, ap, _∙_, subst}
-use Prim.Native.Nat.{ℕ, zero, suc, _+_, _-_, _*_, _/_, _%_, _^_, _≤_, _<_, _∣_}
-use native.Mathlib.Nat.{mod-lt, dvd-mod-iff, dvd-refl, dvd-zero, dvd-trans, dvd-antisymm, zero-lt-suc, mul-div-mul-left, mod-def, mul-sub, mul-assoc, mul-comm, mul-zero, dvd-mul-right, dvd-mul-left, mul-div-cancel', div-mul-cancel, pos-of-dvd-of-pos, eq-of-mul-eq-mul-left, eq-one-of-dvd-one, mul-pos, not-suc-le-zero, mul-one, zero-mul, lt-suc-self, mul-left-comm, lt-irrefl, pow-zero, pow-suc}
+use Prim.Native.Nat.{ℕ, zero, suc, _-_, _*_, _/_, _%_, _^_, _<_, _∣_}
+use native.Mathlib.Nat.{mod-lt, dvd-mod-iff, dvd-refl, dvd-zero, dvd-trans, dvd-antisymm, zero-lt-suc, mul-div-mul-left, mod-def, mul-sub, mul-assoc, mul-comm, mul-zero, dvd-mul-left, mul-div-cancel', pos-of-dvd-of-pos, eq-of-mul-eq-mul-left, eq-one-of-dvd-one, mul-pos, not-suc-le-zero, mul-one, zero-mul, lt-suc-self, mul-left-comm, lt-irrefl, pow-zero, pow-suc}
 use native.Mathlib.Omega.{arith}
 use Rattle.rational.specs.Gcd.{gcd, euclid}
 

@@ -1,16 +1,15 @@
 -- For a reader who doubts the sign and the magnitudes: sum, difference, product and quotient against ℤ, and that a fraction has one form in lowest terms.
 use mathlib.Core.Path.{_≡_, refl, sym, ap, _∙_, subst}
 use mathlib.Core.Bool.{Bool, true, false, not, cond, _&&_}
-use Prim.Native.Nat.{ℕ, zero, suc, _+_, _-_, _*_, _/_, _^_, _≤_, _<_}
-use native.Mathlib.Nat.{mul-assoc, mul-comm, mul-sub, mul-add, mul-pos, mul-div-cancel', div-eq-of-eq-mul-right, lt-of-mul-lt-mul-left, mul-lt-mul-of-pos-left, mul-le-mul-left, mul-zero, zero-mul, zero-lt-suc, lt-irrefl}
+use Prim.Native.Nat.{ℕ, zero, suc, _+_, _-_, _*_, _/_, _<_}
+use native.Mathlib.Nat.{mul-comm, mul-sub, mul-add, mul-pos, mul-div-cancel', div-eq-of-eq-mul-right, mul-lt-mul-of-pos-left, mul-le-mul-left, mul-zero, zero-mul, zero-lt-suc, lt-irrefl}
 use native.Mathlib.Omega.{arith}
 use lib.Dec.{ltb}
-use lib.IntN.{ℤ, pos, negsuc, negℤ, natAbs, pos-ne-negsuc, _+ℤ_, _*ℤ_, subℕ, negℤ-+ℤ, +ℤ-comm}
+use lib.IntN.{ℤ, pos, negsuc, negℤ, natAbs, pos-ne-negsuc, _+ℤ_, _*ℤ_, negℤ-+ℤ, +ℤ-comm}
 use borrow.Author.Tests.{ltb-true, ltb-false, lt-ltb, le-ltb}
 use Rattle.rational.specs.Gcd.{gcd}
-use Rattle.rational.specs.Rational.{LowestTerms, inRange, ratio, reduced, checked, unlike, sumMagnitude, sumSign, commonDenominator, allInRange, sum, opposite, difference, product, quotient}
+use Rattle.rational.specs.Rational.{LowestTerms, inRange, reduced, unlike, sumMagnitude, sumSign, commonDenominator, allInRange, sum, opposite, product, quotient}
 use Rattle.rational.specs.declared.Rational64.{Rational64}
-use Rattle.rational.specs.declared.Checked.{Checked}
 use Rattle.rational.specs.declared.Checked.the-variants.{Some, None}
 use Rattle.rational.proofs.GcdLaws.{gcd-dvd-left, gcd-dvd-right, gcd-pos, lowest-unique}
 

@@ -1,15 +1,14 @@
 -- The product by cross reduction is the product.
-use mathlib.Core.Path.{_≡_, refl, sym, ap, _∙_}
+use mathlib.Core.Path.{_≡_, refl, sym, _∙_}
 use mathlib.Core.Bool.{Bool, true, false, _&&_}
-use Prim.Native.Nat.{ℕ, _*_, _/_, _≤_, _<_, _^_, min}
+use Prim.Native.Nat.{ℕ, _*_, _/_, _^_, min}
 use native.Mathlib.Omega.{arith}
 use lib.Dec.{ltb}
-use borrow.Author.Tests.{ltb-true, ltb-false, lt-ltb, le-ltb}
+use borrow.Author.Tests.{ltb-true, ltb-false, le-ltb}
 use Rattle.rational.specs.Gcd.{gcd}
 use Rattle.rational.proofs.GcdLaws.{cross}
 use Rattle.rational.specs.declared.Rational64.{Rational64}
-use Rattle.rational.specs.declared.Checked.{Checked}
-use Rattle.rational.specs.Rational.{LowestTerms, ratio, reduced, checked, unlike, product}
+use Rattle.rational.specs.Rational.{LowestTerms, ratio, checked, unlike, product}
 
 -- a part that leaves the range may be cut to the limit first
 pub checked-min : (s : Bool) (N D : ℕ) → checked (ratio s (min N (2 ^ 63)) (min D (2 ^ 63))) ≡ checked (ratio s N D)

@@ -1,8 +1,8 @@
 -- `root k n` is the one r with r ^ k ≤ n < (r + 1) ^ k.
-use mathlib.Core.Path.{_≡_, refl, sym, ap, _∙_, subst}
+use mathlib.Core.Path.{_≡_, refl, sym, _∙_, subst}
 use mathlib.Core.Bool.{Bool, true, false, cond}
 use Prim.Native.Nat.{ℕ, zero, suc, _+_, _-_, _*_, _/_, _^_, _≤_, _<_}
-use native.Mathlib.Nat.{pow-suc, pow-zero, mul-mul-mul-comm, mul-zero, lt-irrefl, le-refl, le-trans, le-of-eq, lt-of-lt-of-le, lt-of-le-of-lt, lt-of-not-le, not-le-of-lt, pow-le-pow-left, one-le-pow, div-mul-le-self, lt-div-mul-add, mul-le-mul-right, zero-lt-suc, le-of-suc-le-suc, le-antisymm, div-lt-self, pow-le-pow-right, mul-comm, mul-le-mul-left}
+use native.Mathlib.Nat.{pow-suc, pow-zero, mul-zero, lt-irrefl, le-refl, le-trans, le-of-eq, lt-of-lt-of-le, lt-of-not-le, pow-le-pow-left, one-le-pow, div-mul-le-self, lt-div-mul-add, zero-lt-suc, le-of-suc-le-suc, le-antisymm, div-lt-self, pow-le-pow-right, mul-le-mul-left}
 use native.Mathlib.Omega.{arith}
 use lib.Dec.{leb}
 use lib.Pow.{pow-pos, pow-lt}

@@ -1,13 +1,13 @@
 -- What the definitions give is in lowest terms and in range.
-use mathlib.Core.Path.{_≡_, refl, sym, ap, _∙_, subst}
+use mathlib.Core.Path.{_≡_, refl, sym, _∙_, subst}
 use mathlib.Core.Bool.{Bool, true, false, not, _&&_, cond}
-use Prim.Native.Nat.{ℕ, zero, suc, _*_, _/_, _%_, _≤_, _<_, _^_}
-use native.Mathlib.Nat.{mul-pos, div-le-self, lt-of-le-of-lt, mul-div-cancel', one-le-pow, mod-lt, le-of-lt, mod-le}
+use Prim.Native.Nat.{ℕ, zero, suc, _*_, _/_, _%_, _<_, _^_}
+use native.Mathlib.Nat.{mul-pos, div-le-self, lt-of-le-of-lt, mul-div-cancel', one-le-pow, mod-lt, le-of-lt}
 use native.Mathlib.Omega.{arith}
 use lib.Dec.{ltb, eqb}
-use borrow.Author.Tests.{ltb-true, lt-ltb}
+use borrow.Author.Tests.{ltb-true}
 use Rattle.rational.specs.Gcd.{gcd}
-use Rattle.rational.specs.Rational.{LowestTerms, inRange, ratio, reduced, checked, unlike, sumMagnitude, sumSign, commonDenominator, allInRange, sum, opposite, difference, product, reciprocal, quotient, power, fraction, both}
+use Rattle.rational.specs.Rational.{LowestTerms, inRange, reduced, checked, unlike, sumMagnitude, sumSign, commonDenominator, allInRange, sum, opposite, difference, product, reciprocal, quotient, power, fraction, both}
 use Rattle.rational.specs.Promise.{SoundChecked, ChecksTo}
 use Rattle.rational.specs.declared.Rational64.{Rational64}
 use Rattle.rational.specs.declared.Checked.{Checked}

@@ -1,17 +1,17 @@
 -- The sum, whose steps stop at the limit, is the sum.
 use mathlib.Core.Path.{_≡_, refl, sym, ap, _∙_, subst}
 use mathlib.Core.Bool.{Bool, true, false, _&&_, cond}
-use Prim.Native.Nat.{ℕ, zero, suc, _+_, _-_, _*_, _/_, _≤_, _<_, _^_, min}
-use native.Mathlib.Nat.{mul-pos, mul-div-cancel', mul-zero, zero-lt-suc, lt-irrefl, pos-of-dvd-of-pos, dvd-mul-left}
+use Prim.Native.Nat.{ℕ, _-_, _*_, _/_, _<_, _^_, min}
+use native.Mathlib.Nat.{mul-pos, mul-div-cancel'}
 use native.Mathlib.Omega.{arith}
 use lib.Dec.{ltb}
-use borrow.Author.Tests.{ltb-true, ltb-false, lt-ltb, le-ltb}
+use borrow.Author.Tests.{ltb-true, ltb-false, le-ltb}
 use Rattle.rational.specs.Gcd.{gcd}
 use Rattle.rational.proofs.GcdLaws.{gcd-dvd-left, pos-factor}
 use Rattle.rational.specs.declared.Rational64.{Rational64}
 use Rattle.rational.specs.declared.Checked.{Checked}
 use Rattle.rational.specs.declared.Checked.the-variants.{Some, None}
-use Rattle.rational.specs.Rational.{LowestTerms, ratio, reduced, unlike, commonDenominator, sumMagnitude, sumSign, allInRange, sum}
+use Rattle.rational.specs.Rational.{reduced, unlike, commonDenominator, sumMagnitude, sumSign, allInRange, sum}
 
 -- a number that is cut to the limit, where to fail its test is to overflow
 cut-any : (a : ℕ) (F : ℕ → Bool → Checked) → ((x : ℕ) → F x false ≡ None) → F (min a (2 ^ 63)) (ltb (min a (2 ^ 63)) (2 ^ 63)) ≡ F a (ltb a (2 ^ 63))

@@ -1,12 +1,11 @@
 -- `wholeRoot k n` is the r with r ^ k = n, and there is none where it is absent; a root of a fraction in lowest terms is in lowest terms.
-use mathlib.Core.Path.{_≡_, refl, sym, ap, _∙_, subst}
+use mathlib.Core.Path.{_≡_, refl, sym, _∙_, subst}
 use mathlib.Core.Bool.{Bool, true, false, cond}
-use Prim.Native.Nat.{ℕ, zero, suc, _+_, _*_, _^_, _≤_, _<_, _∣_}
+use Prim.Native.Nat.{ℕ, zero, suc, _+_, _^_, _<_, _∣_}
 use native.Mathlib.Nat.{pow-suc, mul-zero, dvd-mul-left, le-of-dvd, lt-of-le-of-lt, le-of-eq, lt-irrefl, zero-lt-suc, one-le-pow, pow-lt-pow-left}
 use native.Mathlib.Omega.{arith}
 use lib.Dec.{eqb}
-use borrow.Author.Tests.{eqb-true, eqb-false, eq-eqb}
-use Rattle.rational.specs.Gcd.{gcd}
+use borrow.Author.Tests.{eqb-true, eq-eqb}
 use Rattle.rational.specs.Root.{root}
 use Rattle.rational.specs.Rational.{LowestTerms, ratio, wholeRoot, rootRatio, rationalRoot}
 use Rattle.rational.specs.Promise.{SoundChecked}

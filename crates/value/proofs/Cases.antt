@@ -3,14 +3,13 @@ use mathlib.Core.Path.{_≡_, refl}
 use mathlib.Core.Bool.{Bool, true, false}
 use Prim.Native.Nat.{ℕ, _^_}
 use lib.Count.{trailingZeros}
-use lib.Ieee.{Float, binary32, ofBits, ofFields, odd}
+use lib.Ieee.{binary32, ofBits, ofFields, odd}
 use Rattle.rational.specs.Gcd.{gcd, euclid}
 use Rattle.rational.specs.Root.{root, digits}
 use Rattle.rational.specs.Rational.{ratio, sum, product, quotient, power, wholeRoot, rationalRoot}
 use Rattle.float.specs.Float.{approximateFloat}
 use Rattle.value.specs.Value.{zero, one, half, value, rational, fromFloat, valueSum, valueQuotient, extractRoot, valuePower, sineTable, turn, sine, cosine, tangent}
 use Rattle.value.specs.declared.Value.{Value}
-use Rattle.value.specs.declared.Evaluation.{Evaluation}
 use Rattle.value.specs.declared.Evaluation.the-variants as evaluation
 
 -- n/d, and n/d·pi

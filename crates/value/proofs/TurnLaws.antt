@@ -1,6 +1,6 @@
 -- The steps of `turn`, as the code takes them.
-use mathlib.Core.Path.{_≡_, refl, sym, ap, _∙_}
-use mathlib.Core.Bool.{Bool, true, false, cond}
+use mathlib.Core.Path.{_≡_, sym, ap, _∙_}
+use mathlib.Core.Bool.{true, false}
 use Rattle.rational.specs.Rational.{sum, product, quotient, fraction, step}
 use Rattle.rational.specs.declared.Rational64.{Rational64}
 use Rattle.rational.specs.declared.Checked.{Checked}

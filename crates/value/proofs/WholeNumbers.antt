@@ -4,7 +4,7 @@ use mathlib.Core.Bool.{Bool, true, false, _&&_}
 use Prim.Native.Nat.{ℕ, zero, suc, _≤_, _<_, _^_}
 use native.Mathlib.Nat.{le-of-lt}
 use lib.Dec.{ltb}
-use lib.IntN.{pos, negsuc}
+use lib.IntN.{pos}
 use lib.Count.{trailingZeros}
 use lib.Ieee.{Float, fin, binary32, ofInt, ofBits, ofFields, odd, round, units, size, span, climb, add, mul, div}
 use lib.Ieee.Exact.{HasValue}

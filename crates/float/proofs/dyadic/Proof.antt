@@ -3,8 +3,8 @@ use borrow.Author.Tests.{eqb-true, eqb-false}
 use Rattle.float.proofs.PowersOfTwo.{halved}
 use Rattle.float.proofs.Reduced.{whole-is, odd-is}
 use borrow.Author.Needs.{needs}
-use mathlib.Core.Path.{_≡_, refl, sym, ap, _∙_, subst}
-use Prim.Native.Nat.{ℕ, _+_, _*_, _-_, _/_, _%_, _^_, _≤_, _<_}
+use mathlib.Core.Path.{_≡_, refl, _∙_}
+use Prim.Native.Nat.{_*_, _-_, _%_, _^_, _<_}
 use native.Mathlib.Omega.{arith}
 use Rattle.float.proofs.dyadic.Statement.{statement}
 use Rattle.float.proofs.dyadic.Tie as tie

@@ -1,8 +1,8 @@
 use lib.Dec.{le→leb}
 use lib.Ieee.{inFloat}
 use lib.Ieee.Nearest.{closest}
-use mathlib.Core.Path.{_≡_, refl, sym, ap, _∙_, subst}
-use Prim.Native.Nat.{ℕ, _+_, _*_, _-_, _^_, _≤_, _<_}
+use mathlib.Core.Path.{_≡_, refl, ap, _∙_, subst}
+use Prim.Native.Nat.{ℕ, _*_, _-_, _^_, _≤_, _<_}
 use native.Mathlib.Omega.{arith}
 use lib.Dec.{lit≤}
 use Rattle.float.proofs.Rounding.{small-power, in-room, under-room, next-power, closest-le, nearest-no-nan, nearest-by-bits}

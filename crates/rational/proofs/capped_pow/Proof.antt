@@ -1,8 +1,7 @@
 use borrow.Author.Needs.{needs}
-use mathlib.Core.Path.{_≡_, refl, sym, ap, _∙_}
-use Prim.Native.Nat.{ℕ, _-_, _^_, _≤_, min}
+use mathlib.Core.Path.{_≡_, refl, _∙_}
+use Prim.Native.Nat.{_-_, _^_, _≤_, min}
 use native.Mathlib.Omega.{arith}
-use native.Mathlib.Nat.{pow-zero}
 use Rattle.rational.proofs.Capped.{power-zero, power-small, power-next, power-full}
 use Rattle.rational.proofs.capped_pow.Statement.{statement}
 use Rattle.rational.proofs.capped_pow.Tie as tie

@@ -1,5 +1,4 @@
 use mathlib.Core.Path.{_∙_}
-use Rattle.rational.specs.Rational.{power}
 use Rattle.rational.proofs.PowerLaws.{power-is}
 use Rattle.rational.proofs.Soundness.{checks, power-sound}
 use borrow.Author.Needs.{needs}
