@@ -24,3 +24,4 @@ pub mod CheckLaws
 pub mod Tally16
 pub mod Deep
 pub mod EvaluateLaws
+pub mod Facts

@@ -1,0 +1,94 @@
+-- What check's acceptance says of each statement: ranges, downward calls, levels and sizes. One law, for every later operation.
+use Prim.Native.Nat.{ℕ, _+_, _≤_, _<_}
+use native.Mathlib.Omega.{arith}
+use mathlib.Core.Path.{_≡_, refl, sym, subst}
+use mathlib.Core.Bool.{Bool, true, false, cond}
+use mathlib.Core.List.{List, [], _∷_, map, List·Memᴰ}
+use lib.Dec.{T, leb, ltb, eqb, leb→le, ltb→lt, eqb→eq}
+use Rattle.model.specs.Lists.{range, all}
+use Rattle.model.specs.Image.{Statement, U, CX, Gate, Barrier, Measure, Reset, Conditional, Unknown, statement, expressions, arguments, parameters, gates, mainStatements, allStatements, classicalRegisters, gateParameters, gateArguments, parameter, variables, argumentSize, classicalArgumentSize, scopeStatements}
+use Rattle.model.specs.Check.{expressionOk, argumentOk, classicalArgumentOk, downward, matching, plainFlaw, inConditional, conditionalOk, conditionalFlaw, flaw}
+use Rattle.model.proofs.All.{test, members-All}
+use Rattle.model.proofs.Accepted.{Accepted, passes}
+
+module _ (image : List ℕ) where
+  -- a statement other than an if, in a scope
+  abbrev pub PlainFacts : ℕ → Statement → Type 0
+  PlainFacts scope (U theta phi lambda q) =
+      (theta < expressions image) × (phi < expressions image) × (lambda < expressions image) × (q < arguments image)
+      × T (all (expressionOk image (variables image scope) 32) (theta ∷ phi ∷ lambda ∷ [])) × T (argumentOk image scope q)
+  PlainFacts scope (CX a b) =
+      (a < arguments image) × (b < arguments image) × T (argumentOk image scope a) × T (argumentOk image scope b) × T (matching (argumentSize image scope a ∷ argumentSize image scope b ∷ []))
+  PlainFacts scope (Gate g p a) =
+      (g < gates image) × (p + gateParameters image g ≤ parameters image) × (a + gateArguments image g ≤ arguments image) × T (downward image scope g)
+      × T (all (λ i. expressionOk image (variables image scope) 32 (parameter image i)) (range p (gateParameters image g)))
+      × T (all (argumentOk image scope) (range a (gateArguments image g))) × T (matching (map (argumentSize image scope) (range a (gateArguments image g))))
+  PlainFacts scope (Barrier a n) = (a + n ≤ arguments image) × T (all (argumentOk image scope) (range a n))
+  PlainFacts scope (Measure q c) =
+      (scope ≡ 0) × (q < arguments image) × (c < arguments image) × T (argumentOk image scope q) × T (classicalArgumentOk image c) × T (matching (argumentSize image scope q ∷ classicalArgumentSize image c ∷ []))
+  PlainFacts scope (Reset q) = (scope ≡ 0) × (q < arguments image) × T (argumentOk image scope q)
+  PlainFacts scope (Conditional r v t) = ⊥
+  PlainFacts scope Unknown = ⊥
+
+  -- any statement: an if with what it holds
+  abbrev pub Facts : ℕ → Statement → Type 0
+  Facts scope (Conditional r v t) =
+      (scope ≡ 0) × (r < classicalRegisters image) × (mainStatements image ≤ t) × (t < allStatements image) × T (inConditional image (statement image t)) × PlainFacts scope (statement image t)
+  Facts scope (U a b c d) = PlainFacts scope (U a b c d)
+  Facts scope (CX a b) = PlainFacts scope (CX a b)
+  Facts scope (Gate g p a) = PlainFacts scope (Gate g p a)
+  Facts scope (Barrier a n) = PlainFacts scope (Barrier a n)
+  Facts scope (Measure q c) = PlainFacts scope (Measure q c)
+  Facts scope (Reset q) = PlainFacts scope (Reset q)
+  Facts scope Unknown = ⊥
+
+  four : _≡_ {A = ℕ} 4 0 → ⊥
+  four e = omega arith
+
+  -- a statement with no flaw; an if's must not be 0
+  pub plain-facts : (f : ℕ → ℕ → ℕ → ℕ) (scope s : ℕ) → ((r v t : ℕ) → ¬ (f r v t ≡ 0)) → (x : Statement) → plainFlaw image f scope s x ≡ 0 → PlainFacts scope x
+  unfolding plainFlaw
+  plain-facts f scope s h (U a b c d) e =
+      let t = passes 0 _ e tt in
+      (ltb→lt _ _ (test 0 _ t), ltb→lt _ _ (test 1 _ t), ltb→lt _ _ (test 2 _ t), ltb→lt _ _ (test 3 _ t), passes 1 _ e tt, passes 2 _ e tt)
+  plain-facts f scope s h (CX a b) e =
+      let t = passes 0 _ e tt in
+      let u = passes 1 _ e tt in
+      (ltb→lt _ _ (test 1 _ t), ltb→lt _ _ (test 2 _ t), test 0 _ u, test 1 _ u, passes 2 _ e tt)
+  plain-facts f scope s h (Gate g p a) e =
+      let t = passes 0 _ e tt in
+      (ltb→lt _ _ (test 1 _ t), leb→le _ _ (test 2 _ t), leb→le _ _ (test 3 _ t), passes 1 _ e tt, passes 2 _ e tt, passes 3 _ e tt, passes 4 _ e tt)
+  plain-facts f scope s h (Barrier a n) e = (leb→le _ _ (test 1 _ (passes 0 _ e tt)), passes 1 _ e tt)
+  plain-facts f scope s h (Measure q c) e =
+      let t = passes 0 _ e tt in
+      let u = passes 1 _ e tt in
+      (eqb→eq _ _ (test 0 _ t), ltb→lt _ _ (test 2 _ t), ltb→lt _ _ (test 3 _ t), test 0 _ u, test 1 _ u, passes 2 _ e tt)
+  plain-facts f scope s h (Reset q) e = let t = passes 0 _ e tt in (eqb→eq _ _ (test 0 _ t), ltb→lt _ _ (test 2 _ t), passes 1 _ e tt)
+  plain-facts f scope s h (Conditional r v t) e = h r v t e
+  plain-facts f scope s h Unknown e = four e
+
+  conditional-facts : (scope s r v t : ℕ) → conditionalFlaw image scope s r v t ≡ 0 → Facts scope (Conditional r v t)
+  unfolding conditionalFlaw conditionalOk
+  conditional-facts scope s r v t e = go (conditionalOk image scope s r t) refl e
+    where
+      go : (b : Bool) → conditionalOk image scope s r t ≡ b → cond b (plainFlaw image (λ r v t. 4) scope t (statement image t)) 4 ≡ 0 → Facts scope (Conditional r v t)
+      go true c e =
+          let k = subst T (sym c) tt in
+          (eqb→eq _ _ (test 0 _ k), ltb→lt _ _ (test 2 _ k), leb→le _ _ (test 3 _ k), ltb→lt _ _ (test 4 _ k), test 5 _ k, plain-facts (λ r v t. 4) scope t (λ r v t d. four d) (statement image t) e)
+      go false c e = absurd (four e)
+
+  flaw-facts : (scope s : ℕ) (x : Statement) → plainFlaw image (conditionalFlaw image scope s) scope s x ≡ 0 → Facts scope x
+  unfolding plainFlaw
+  flaw-facts scope s (Conditional r v t) e = conditional-facts scope s r v t e
+  flaw-facts scope s (U a b c d) e = plain-facts (λ r v t. 4) scope s (λ r v t d. four d) (U a b c d) e
+  flaw-facts scope s (CX a b) e = plain-facts (λ r v t. 4) scope s (λ r v t d. four d) (CX a b) e
+  flaw-facts scope s (Gate g p a) e = plain-facts (λ r v t. 4) scope s (λ r v t d. four d) (Gate g p a) e
+  flaw-facts scope s (Barrier a n) e = plain-facts (λ r v t. 4) scope s (λ r v t d. four d) (Barrier a n) e
+  flaw-facts scope s (Measure q c) e = plain-facts (λ r v t. 4) scope s (λ r v t d. four d) (Measure q c) e
+  flaw-facts scope s (Reset q) e = plain-facts (λ r v t. 4) scope s (λ r v t d. four d) (Reset q) e
+  flaw-facts scope s Unknown e = four e
+
+  -- the law: each statement of each scope of an accepted image
+  pub facts : Accepted image → (scope s : ℕ) → scope ≤ gates image → List·Memᴰ s (scopeStatements image scope) → Facts scope (statement image s)
+  unfolding flaw
+  facts acc scope s h m = flaw-facts scope s (statement image s) (members-All (acc .flawless scope h) s m)
