@@ -35,7 +35,7 @@ pick : (b : Bool) (v : Verdict) (n p : ℕ) → cond b v (bad n p) ≡ fine → 
 pick true v n p e = (tt, e)
 pick false v n p e = absurd (let z : _≡_ {A = ℕ} 0 1 = cc in omega arith)
 
-none-bad : {A : Type 0} (number place : A → ℕ) (l : List A) → firstBad number place l ≡ fine → All (λ x. number x ≡ 0) l
+pub none-bad : {A : Type 0} (number place : A → ℕ) (l : List A) → firstBad number place l ≡ fine → All (λ x. number x ≡ 0) l
 unfolding firstBad
 none-bad number place [] e = nil
 none-bad number place (x ∷ l) e =

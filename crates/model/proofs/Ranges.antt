@@ -58,15 +58,16 @@ module _ (f : ℕ → ℕ) where
   pub largest-next : (a i : ℕ) → largest (map f (range a (i + 1))) ≡ max (largest (map f (range a i))) (f (a + i))
   largest-next a i = ap (λ (k : ℕ). largest (map f (range a k))) (add-one i) ∙ largest-snoc a i
 
--- ---- the first bad one of the numbers from i to below n
-module _ (number place : ℕ → ℕ) where
-  one-more : (i n : ℕ) → i < n → range i (n - i) ≡ i ∷ range (i + 1) (n - (i + 1))
-  unfolding range
-  one-more i n h = ap (range i) more ∙ ap (λ (k : ℕ). i ∷ range k (n - (i + 1))) (sym (add-one i))
-    where
-      more : n - i ≡ suc (n - (i + 1))
-      more = omega arith
+-- ---- the numbers from i to below n
+pub one-more : (i n : ℕ) → i < n → range i (n - i) ≡ i ∷ range (i + 1) (n - (i + 1))
+unfolding range
+one-more i n h = ap (range i) more ∙ ap (λ (k : ℕ). i ∷ range k (n - (i + 1))) (sym (add-one i))
+  where
+    more : n - i ≡ suc (n - (i + 1))
+    more = omega arith
 
+-- the first bad one of them
+module _ (number place : ℕ → ℕ) where
   pub bad-next : (i n : ℕ) → i < n → number i ≡ 0 → firstBad number place (range i (n - i)) ≡ firstBad number place (range (i + 1) (n - (i + 1)))
   unfolding firstBad
   bad-next i n h e = ap (firstBad number place) (one-more i n h) ∙ rw (eq-eqb (number i) 0 e) refl

@@ -66,7 +66,7 @@ offsets-in sizes n =
     (All-range 0 n (λ r p q. All-of _ (All-range 0 (sizes r) (λ o u v. All-every (cons (lt→ltb r n (omega arith)) (cons (lt→ltb o (sizes r) (omega arith)) nil)))))))
 
 -- the first i of n sizes and the next one come to no more than all of them
-sum-below : (f : ℕ → ℕ) (a n i : ℕ) → i < n → sum (map f (range a i)) + f (a + i) ≤ sum (map f (range a n))
+pub sum-below : (f : ℕ → ℕ) (a n i : ℕ) → i < n → sum (map f (range a i)) + f (a + i) ≤ sum (map f (range a n))
 unfolding sum range
 sum-below f a zero i h = absurd (not-suc-le-zero h)
 sum-below f a (suc n) zero h = omega (arith, ap f (add-zero a))

@@ -1,8 +1,8 @@
 // A vector's line: 14 numbers with single spaces between them, and a line feed.
 use rational::Rational64;
 use value::Value;
-ghost use Prim.Native.Nat.{_+_, _<_, _≤_};
-ghost use lib.ListN.{length};
+use vector_text::Decimal;
+ghost use Prim.Native.Nat.{_+_, _<_};
 
 // The angles are as written, in lowest terms or not.
 pub struct Vector {
@@ -24,53 +24,12 @@ enum Field {
     Malformed,
 }
 
-// Where the line that goes on at `at` ends: at its line feed, or with the input.
-pub fn end(input: &[u8], at: usize) -> usize
-    requires { ⌜ at ≤ length (now input) ⌝ }
-    ensures { λ r. ⌜ (at ≤ r) × (r ≤ length (now (input .entry))) ⌝ }
-{
-    let mut i = at;
-    while i < input.len() {
-        if input[i] == b'\n' {
-            return i;
-        }
-        i += 1;
+// A number that was read, with its sign.
+fn signed(negative: bool, read: Decimal) -> Field {
+    match read {
+        Decimal::Number(n, end) => Field::Number(negative, n, end),
+        Decimal::Malformed => Field::Malformed,
     }
-    i
-}
-
-// The value of a digit; 10 for any other byte.
-fn digit(b: u8) -> u64
-    ensures { λ r. ⌜ r ≤ 10 ⌝ }
-{
-    if b < b'0' {
-        return 10;
-    }
-    if b > b'9' {
-        return 10;
-    }
-    (b - b'0') as u64
-}
-
-// The digits from `at` on: at least one, and a number below 2^64.
-fn digits(text: &[u8], at: usize, negative: bool) -> Field {
-    let mut n = 0u64;
-    let mut i = at;
-    while i < text.len() {
-        let d = digit(text[i]);
-        if d == 10 {
-            break;
-        }
-        if n > (u64::MAX - d) / 10 {
-            return Field::Malformed;
-        }
-        n = n * 10 + d;
-        i += 1;
-    }
-    if i == at {
-        return Field::Malformed;
-    }
-    Field::Number(negative, n, i)
 }
 
 // Numbers are counted from 0.
@@ -86,11 +45,11 @@ fn number(text: &[u8], at: usize, k: usize) -> Field {
     if at < text.len() {
         if text[at] == b'-' {
             if is_numerator(k) {
-                return digits(text, at + 1, true);
+                return signed(true, vector_text::digits(text, at + 1));
             }
         }
     }
-    digits(text, at, false)
+    signed(false, vector_text::digits(text, at))
 }
 
 // The byte after the k-th number.

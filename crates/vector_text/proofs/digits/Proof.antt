@@ -1,14 +1,14 @@
 use Prim.Native.Nat.{_-_}
 use borrow.Author.Needs.{needs}
 use lib.ListN.{length}
-use Rattle.number_vectors.proofs.line.digits.Statement.{statement}
-use Rattle.number_vectors.proofs.line.digits.Tie as tie
+use Rattle.vector_text.proofs.digits.Statement.{statement}
+use Rattle.vector_text.proofs.digits.Tie as tie
 
 abbrev Inv-loop : tie.InvT-loop
-Inv-loop text at negative n₀ i₀ n i = Unit {0}
+Inv-loop text at n₀ i₀ n i = Unit {0}
 
 abbrev μ-loop : tie.MeasureT-loop
-μ-loop text at negative n₀ i₀ n i = length text - i
+μ-loop text at n₀ i₀ n i = length text - i
 
 loop-holds : tie.Need-loop-holds Inv-loop μ-loop
 loop-holds c = search needs

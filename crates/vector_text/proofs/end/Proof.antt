@@ -1,8 +1,8 @@
 use Prim.Native.Nat.{_≤_, _-_}
 use borrow.Author.Needs.{needs}
 use lib.ListN.{length}
-use Rattle.number_vectors.proofs.line.end.Statement.{statement}
-use Rattle.number_vectors.proofs.line.end.Tie as tie
+use Rattle.vector_text.proofs.end.Statement.{statement}
+use Rattle.vector_text.proofs.end.Tie as tie
 
 abbrev Inv-loop : tie.InvT-loop
 Inv-loop input at i₀ i = (at ≤ i) × (i ≤ length input)

@@ -1,0 +1,49 @@
+use denote.Ref.{now}
+use Rattle.image.proofs.ScopeLaws.{size-one, size-index, size-whole}
+use borrow.Author.Needs.{needs}
+use Rattle.image.proofs.argument_size.Statement.{statement}
+use Rattle.image.proofs.argument_size.Tie as tie
+
+returns : tie.Need-returns
+returns c = size-one (now (c .before .before .args .image)) _ _ (c .if1 .taken)
+
+argument-at-requires : tie.Need-argument-at-requires
+argument-at-requires c κs = search needs
+
+add-word : tie.Need-add-word
+add-word c = search needs
+
+word-requires : tie.Need-word-requires
+word-requires c κs = search needs
+
+returns-2 : tie.Need-returns-2
+returns-2 c =
+    let m = c .before in
+    let p = m .before .before .before .before in
+    size-index (now (p .args .image)) _ _ _ (m .before .argument-at .ensures) (m .word .ensures) _ (m .before .before .if1 .left) (c .if2 .taken)
+
+word-requires-2 : tie.Need-word-requires-2
+word-requires-2 c κs = search needs
+
+word-after-requires : tie.Need-word-after-requires
+word-after-requires c κs = search needs
+
+returns-3 : tie.Need-returns-3
+returns-3 c =
+    let m = c .before .before .before in
+    let p = m .before .before .before .before in
+    size-whole (now (p .args .image)) _ _ _ (m .before .argument-at .ensures) (m .word .ensures) _ _ _ (m .before .before .if1 .left)
+    (c .before .before .if2 .left) (c .before .word2 .ensures) (c .word-after .ensures)
+
+pub argument-size-spec : {M : Type 1} → statement M
+argument-size-spec =
+    tie.close
+    (tie.spec
+    returns
+    argument-at-requires
+    add-word
+    word-requires
+    returns-2
+    word-requires-2
+    word-after-requires
+    returns-3)

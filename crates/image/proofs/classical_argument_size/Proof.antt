@@ -1,0 +1,49 @@
+use denote.Ref.{now}
+use Rattle.image.proofs.ScopeLaws.{classical-size-index, classical-size-whole}
+use borrow.Author.Needs.{needs}
+use Rattle.image.proofs.classical_argument_size.Statement.{statement}
+use Rattle.image.proofs.classical_argument_size.Tie as tie
+
+argument-at-requires : tie.Need-argument-at-requires
+argument-at-requires c κs = search needs
+
+add-word : tie.Need-add-word
+add-word c = search needs
+
+word-requires : tie.Need-word-requires
+word-requires c κs = search needs
+
+returns : tie.Need-returns
+returns c =
+    let m = c .before in
+    let p = m .before .before .before in
+    classical-size-index (now (p .args .image)) _ _ _ (m .before .argument-at .ensures) (m .word .ensures) (c .if1 .taken)
+
+add-word-after : tie.Need-add-word-after
+add-word-after c = search needs
+
+word-requires-2 : tie.Need-word-requires-2
+word-requires-2 c κs = search needs
+
+word-after-requires : tie.Need-word-after-requires
+word-after-requires c κs = search needs
+
+returns-2 : tie.Need-returns-2
+returns-2 c =
+    let m = c .before .before .before .before in
+    let p = m .before .before .before in
+    classical-size-whole (now (p .args .image)) _ _ _ (m .before .argument-at .ensures) (m .word .ensures) _ _ _
+    (c .before .before .before .if1 .left) (p .pre .0 .quantum-is) (c .before .word2 .ensures) (c .word-after .ensures)
+
+pub classical-argument-size-spec : {M : Type 1} → statement M
+classical-argument-size-spec =
+    tie.close
+    (tie.spec
+    argument-at-requires
+    add-word
+    word-requires
+    returns
+    add-word-after
+    word-requires-2
+    word-after-requires
+    returns-2)

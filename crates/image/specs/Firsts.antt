@@ -1,0 +1,10 @@
+-- A table of where each register starts.
+use Prim.Native.Nat.{ℕ, _<_}
+use mathlib.Core.Path.{_≡_}
+use mathlib.Core.List.{List, map}
+use lib.ListN.{getD}
+use Rattle.model.specs.Lists.{range, sum}
+
+-- the first qubit or bit of each of n registers of some sizes, as firstQubit and firstBit say
+pub record Firsts (size : ℕ → ℕ) (n : ℕ) (table : List ℕ) : Type 0 where
+  pub each : (r : ℕ) → r < n → getD table r 0 ≡ sum (map size (range 0 r))

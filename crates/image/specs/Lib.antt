@@ -1,0 +1,4 @@
+pub mod Answer
+pub mod Firsts
+pub mod Judging
+pub mod Layout

@@ -1,0 +1,21 @@
+use Prim.Native.Nat.{_+_}
+use native.Mathlib.Omega.{arith}
+use Rattle.reader.proofs.LengthLaws.{short, whole}
+use borrow.Author.Needs.{needs}
+use Rattle.reader.proofs.barrier_length.Statement.{statement}
+use Rattle.reader.proofs.barrier_length.Tie as tie
+
+returns : tie.Need-returns
+returns c = short (2 + c .before .args .n) _ (omega arith)
+
+returns-2 : tie.Need-returns-2
+returns-2 c = short (2 + c .before .before .args .n) _ (omega arith)
+
+add-result : tie.Need-add-result
+add-result c = search needs
+
+returns-3 : tie.Need-returns-3
+returns-3 c = whole _ _ (omega arith)
+
+pub barrier-length-spec : {M : Type 1} → statement M
+barrier-length-spec = tie.close (tie.spec returns returns-2 add-result returns-3)

@@ -1,0 +1,12 @@
+use Rattle.reader.proofs.LengthLaws.{short, whole}
+use Rattle.reader.proofs.fixed_length.Statement.{statement}
+use Rattle.reader.proofs.fixed_length.Tie as tie
+
+returns : tie.Need-returns
+returns c = short _ _ (c .if1 .taken)
+
+returns-2 : tie.Need-returns-2
+returns-2 c = whole _ _ (c .if1 .left)
+
+pub fixed-length-spec : {M : Type 1} → statement M
+fixed-length-spec = tie.close (tie.spec returns returns-2)

@@ -1,0 +1,31 @@
+use Prim.Native.Nat.{_+_, _*_}
+use native.Mathlib.Omega.{arith}
+use Rattle.reader.proofs.LengthLaws.{short, whole}
+use borrow.Author.Needs.{needs}
+use Rattle.reader.proofs.head_length.Statement.{statement}
+use Rattle.reader.proofs.head_length.Tie as tie
+
+returns : tie.Need-returns
+returns c = short (3 + 2 * (c .before .args .qubits + c .before .args .bits)) _ (omega arith)
+
+returns-2 : tie.Need-returns-2
+returns-2 c = short (3 + 2 * (c .before .before .args .qubits + c .before .before .args .bits)) _ (omega arith)
+
+returns-3 : tie.Need-returns-3
+returns-3 c = short (3 + 2 * (c .before .before .before .args .qubits + c .before .before .before .args .bits)) _ (omega arith)
+
+add-result : tie.Need-add-result
+add-result c = search needs
+
+mul-result : tie.Need-mul-result
+mul-result c = search needs
+
+add-result-2 : tie.Need-add-result-2
+add-result-2 c = search needs
+
+returns-4 : tie.Need-returns-4
+returns-4 c = whole _ _ (omega arith)
+
+pub head-length-spec : {M : Type 1} → statement M
+head-length-spec =
+    tie.close (tie.spec returns returns-2 returns-3 add-result mul-result add-result-2 returns-4)

@@ -1,0 +1,47 @@
+use Prim.Native.Nat.{_+_, _*_}
+use native.Mathlib.Omega.{arith}
+use Rattle.reader.proofs.LengthLaws.{short, whole}
+use borrow.Author.Needs.{needs}
+use Rattle.reader.proofs.opaque_length.Statement.{statement}
+use Rattle.reader.proofs.opaque_length.Tie as tie
+
+returns : tie.Need-returns
+returns c = short (4 + 4 * c .before .args .p + c .before .args .q) _ (omega arith)
+
+returns-2 : tie.Need-returns-2
+returns-2 c = short (4 + 4 * c .before .before .args .p + c .before .before .args .q) _ (omega arith)
+
+mul-if3 : tie.Need-mul-if3
+mul-if3 c = search needs
+
+sub-if3 : tie.Need-sub-if3
+sub-if3 c = search needs
+
+returns-3 : tie.Need-returns-3
+returns-3 c = short (4 + 4 * c .before .before .before .args .p + c .before .before .before .args .q) _ (omega arith)
+
+mul-result : tie.Need-mul-result
+mul-result c = search needs
+
+add-result : tie.Need-add-result
+add-result c = search needs
+
+add-result-2 : tie.Need-add-result-2
+add-result-2 c = search needs
+
+returns-4 : tie.Need-returns-4
+returns-4 c = whole _ _ (omega arith)
+
+pub opaque-length-spec : {M : Type 1} → statement M
+opaque-length-spec =
+    tie.close
+    (tie.spec
+    returns
+    returns-2
+    mul-if3
+    sub-if3
+    returns-3
+    mul-result
+    add-result
+    add-result-2
+    returns-4)
