@@ -1,0 +1,80 @@
+-- What is known of a scope's statements, and what they come to.
+use Prim.Native.Nat.{ℕ, zero, suc, _+_, _-_, _*_, _≤_, _<_}
+use native.Mathlib.Omega.{arith}
+use mathlib.Core.Path.{_≡_, refl, sym, ap, subst, _∙_}
+use mathlib.Core.Bool.{Bool, false, cond}
+use mathlib.Core.List.{List, map}
+use lib.Dec.{eqb}
+use borrow.Author.Tests.{ne-eqb}
+use Rattle.model.specs.Lists.{range, sum}
+use Rattle.model.specs.Image.{Conditional, statement, statementOf, word, gates, mainStatements, statementAt, quantumRegisters, qubits, bits, firstQubit, firstBit, scopeStatements}
+use Rattle.model.specs.Check.{fine, check}
+use Rattle.model.specs.Tally.{plainTally, conditionalTally, statementTally, bodyTally, weightTally}
+use Rattle.model.proofs.All.{All, All-members, range-All}
+use Rattle.model.proofs.Accepted.{accepts}
+use Rattle.model.proofs.Facts.{PlainFacts, Facts, facts}
+use Rattle.image.specs.declared.Layout.{Layout}
+use Rattle.image.proofs.KindLaws.{words-are, if-is}
+use Rattle.tally.specs.Weights.{weightOf, entryOf, cut, opening, Ready}
+use Rattle.tally.proofs.StatementKinds.{no-if, plain-any}
+
+module _ (image : List ℕ) where
+  -- ---- one statement
+  module _ (scope s at kind : ℕ) (at-is : at ≡ statementAt image s) (kind-is : kind ≡ word image at) where
+    stands : statement image s ≡ statementOf kind (word image (at + 1)) (word image (at + 2)) (word image (at + 3)) (word image (at + 4))
+    stands = words-are image s at kind (word image (at + 1)) (word image (at + 2)) (word image (at + 3)) (word image (at + 4)) at-is kind-is refl refl refl refl
+
+    is-if : (t : ℕ) → kind ≡ 7 → t ≡ word image (at + 3) → statement image s ≡ Conditional (word image (at + 1)) (word image (at + 2)) t
+    is-if t e et = rw et (stands ∙ if-is kind (word image (at + 1)) (word image (at + 2)) (word image (at + 3)) (word image (at + 4)) e)
+
+    pub if-facts : (t : ℕ) → kind ≡ 7 → t ≡ word image (at + 3) → Facts image scope (statement image s) → Facts image scope (Conditional (word image (at + 1)) (word image (at + 2)) t)
+    if-facts t e et f = subst (Facts image scope) (is-if t e et) f
+
+    pub if-comes : (j n t r : ℕ) → kind ≡ 7 → t ≡ word image (at + 3) → r ≡ cut (conditionalTally image (weightOf j) (entryOf j) (opening image j n) scope t) → r ≡ cut (statementTally image (weightOf j) (entryOf j) (opening image j n) scope s)
+    unfolding statementTally plainTally
+    if-comes j n t r e et er = rw (is-if t e et) er
+
+    pub plain-facts-of : ¬ (kind ≡ 7) → Facts image scope (statement image s) → PlainFacts image scope (statement image s)
+    plain-facts-of h f =
+        subst (PlainFacts image scope) (sym stands)
+        (no-if image scope kind (word image (at + 1)) (word image (at + 2)) (word image (at + 3)) (word image (at + 4)) h (subst (Facts image scope) stands f))
+
+  pub plain-comes : (scope s j n r : ℕ) → PlainFacts image scope (statement image s) → r ≡ cut (plainTally image (weightOf j) (entryOf j) (λ t. 0) (opening image j n) scope (statement image s)) → r ≡ cut (statementTally image (weightOf j) (entryOf j) (opening image j n) scope s)
+  unfolding statementTally
+  plain-comes scope s j n r f er =
+      er ∙ ap cut (plain-any image scope (weightOf j) (entryOf j) (λ t. 0) (conditionalTally image (weightOf j) (entryOf j) (opening image j n) scope) (opening image j n) (statement image s) f)
+
+  -- ---- a run of statements
+  pub body-facts : check image ≡ fine → (scope first count i : ℕ) → scope ≤ gates image → scopeStatements image scope ≡ range first count → i < count → Facts image scope (statement image (first + i))
+  body-facts ok scope first count i within run h =
+      let each = All-members {P = λ s. Facts image scope (statement image s)} (scopeStatements image scope) (λ s m. facts image (accepts image ok) scope s within m) in
+      range-All {P = λ s. Facts image scope (statement image s)} first count (first + i) (subst (All (λ s. Facts image scope (statement image s))) run each) (omega arith) (omega arith)
+
+  pub body-is : (scope first count j n r : ℕ) → scopeStatements image scope ≡ range first count → r ≡ cut (0 + sum (map (statementTally image (weightOf j) (entryOf j) (opening image j n) scope) (range first count))) → r ≡ cut (bodyTally image (weightOf j) (entryOf j) (opening image j n) scope)
+  unfolding bodyTally
+  body-is scope first count j n r run er = rw run (omega arith)
+
+  -- ---- in all
+  pub head-is : (l : Layout) → Ready image l → (q c : ℕ) → q ≡ cut (sum (map (λ i. word image (9 + i)) (range 0 (l .quantum)))) → c ≡ cut (sum (map (λ i. word image (9 + l .quantum + i)) (range 0 (l .classical)))) → (q ≡ qubits image) × (c ≡ bits image)
+  unfolding firstQubit firstBit
+  head-is l ready q c eq ec =
+      let laid = ready .laid in
+      let a = accepts image (ready .accepted) in
+      let eq′ : q ≡ cut (qubits image) = rw (← laid .quantum-is) eq in
+      let ec′ : c ≡ cut (bits image) = ec ∙ ap (λ (k : ℕ). cut (sum (map (λ i. word image (9 + k + i)) (range 0 (l .classical))))) (laid .quantum-is) ∙ ap (λ (k : ℕ). cut (sum (map (λ i. word image (9 + quantumRegisters image + i)) (range 0 k)))) (laid .classical-is) in
+      (omega (arith, a .fewQubits), omega (arith, a .fewBits))
+
+  total-cases : (f : ℕ → ℕ) (main w statements head r : ℕ) → statements ≡ cut (sum (map f (range 0 main))) → head ≡ cond (eqb main 0) 0 w → r ≡ cut (statements + head) → r ≡ cut (cond (eqb main 0) 0 (w + sum (map f (range 0 main))))
+  unfolding range sum
+  total-cases f zero w statements head r es eh er = omega arith
+  total-cases f (suc m) w statements head r es eh er =
+      let z : eqb (suc m) 0 ≡ false = ne-eqb (suc m) 0 (omega arith) in
+      let eh′ : head ≡ w = eh ∙ ap (λ (b : Bool). cond b 0 w) z in
+      rw z (omega arith)
+
+  pub total-is : (j n main words w statements head r : ℕ) → main ≡ mainStatements image → words ≡ 3 + 2 * (qubits image + bits image) → w ≡ weightOf j 0 words
+      → statements ≡ cut (bodyTally image (weightOf j) (entryOf j) (opening image j n) 0) → head ≡ cond (eqb main 0) 0 w → r ≡ cut (statements + head) → r ≡ cut (weightTally image (weightOf j) (entryOf j) (n + 1))
+  unfolding weightTally bodyTally scopeStatements
+  total-is j n main words w statements head r em ew ee es eh er =
+      let m : n + 1 - 1 ≡ n = omega arith in
+      rw (m, ← em, ← ew, ← ee) (total-cases (statementTally image (weightOf j) (entryOf j) (opening image j n) 0) main w statements head r (rw em es) eh er)

@@ -1,0 +1,66 @@
+-- What statement stands at a place, by its first word, and what it comes to.
+use Prim.Native.Nat.{ℕ, zero, suc, _≤_}
+use native.Mathlib.Omega.{arith}
+use mathlib.Core.Path.{_≡_, refl}
+use mathlib.Core.List.{List, map}
+use mathlib.Core.Option.{Option}
+use Rattle.model.specs.Lists.{range, sum}
+use Rattle.model.specs.Image.{Statement, U, CX, Gate, Barrier, Measure, Reset, Conditional, Unknown, statementOf, arguments, allStatements, argumentSize}
+use Rattle.model.specs.Tally.{plainTally}
+use Rattle.model.proofs.Facts.{PlainFacts, Facts}
+use Rattle.image.specs.declared.Layout.{Layout}
+use Rattle.image.specs.Layout.{Laid}
+
+-- other kinds are no plain statement
+pub no-kind : (image : List ℕ) (scope kind a b c d : ℕ) → (1 ≤ kind → 7 ≤ kind) → PlainFacts image scope (statementOf kind a b c d) → ⊥
+unfolding statementOf
+no-kind image scope zero a b c d h f = f
+no-kind image scope (suc zero) a b c d h f = absurd (let k = h (omega arith) in omega arith)
+no-kind image scope (suc (suc zero)) a b c d h f = absurd (let k = h (omega arith) in omega arith)
+no-kind image scope (suc (suc (suc zero))) a b c d h f = absurd (let k = h (omega arith) in omega arith)
+no-kind image scope (suc (suc (suc (suc zero)))) a b c d h f = absurd (let k = h (omega arith) in omega arith)
+no-kind image scope (suc (suc (suc (suc (suc zero))))) a b c d h f = absurd (let k = h (omega arith) in omega arith)
+no-kind image scope (suc (suc (suc (suc (suc (suc zero)))))) a b c d h f = absurd (let k = h (omega arith) in omega arith)
+no-kind image scope (suc (suc (suc (suc (suc (suc (suc zero))))))) a b c d h f = f
+no-kind image scope (suc (suc (suc (suc (suc (suc (suc (suc k)))))))) a b c d h f = f
+
+module _ (image : List ℕ) (scope : ℕ) where
+  -- a statement that is no if has the facts of a plain one
+  pub no-if : (kind a b c d : ℕ) → ¬ (kind ≡ 7) → Facts image scope (statementOf kind a b c d) → PlainFacts image scope (statementOf kind a b c d)
+  unfolding statementOf
+  no-if zero a b c d h f = f
+  no-if (suc zero) a b c d h f = f
+  no-if (suc (suc zero)) a b c d h f = f
+  no-if (suc (suc (suc zero))) a b c d h f = f
+  no-if (suc (suc (suc (suc zero)))) a b c d h f = f
+  no-if (suc (suc (suc (suc (suc zero))))) a b c d h f = f
+  no-if (suc (suc (suc (suc (suc (suc zero)))))) a b c d h f = f
+  no-if (suc (suc (suc (suc (suc (suc (suc zero))))))) a b c d h f = absurd (h refl)
+  no-if (suc (suc (suc (suc (suc (suc (suc (suc k)))))))) a b c d h f = f
+
+  -- what a plain statement comes to does not hang on what an if comes to
+  pub plain-any : (weight : ℕ → ℕ → ℕ) (entry : ℕ) (v w : ℕ → ℕ) (o : Option (ℕ → ℕ)) (x : Statement) → PlainFacts image scope x → plainTally image weight entry v o scope x ≡ plainTally image weight entry w o scope x
+  unfolding plainTally
+  plain-any weight entry v w o (U a b c d) f = refl
+  plain-any weight entry v w o (CX a b) f = refl
+  plain-any weight entry v w o (Gate g p a) f = refl
+  plain-any weight entry v w o (Barrier a n) f = refl
+  plain-any weight entry v w o (Measure q c) f = refl
+  plain-any weight entry v w o (Reset q) f = refl
+  plain-any weight entry v w o (Conditional r k t) f = absurd f
+  plain-any weight entry v w o Unknown f = absurd f
+
+-- the counts of an image are small
+module _ (image : List ℕ) (l : Layout) (laid : Laid image l) where
+  pub arguments-few : arguments image ≤ 8192
+  arguments-few = omega (arith, laid .whole, laid .short)
+
+  pub statements-few : allStatements image ≤ 8192
+  statements-few = omega (arith, laid .whole, laid .short)
+
+-- in a body every argument has size 1
+pub formal-sizes : (image : List ℕ) (scope a n : ℕ) → ¬ (scope ≡ 0) → sum (map (argumentSize image scope) (range a n)) ≡ n
+unfolding sum range argumentSize
+formal-sizes image zero a n h = absurd (h refl)
+formal-sizes image (suc g) a zero h = refl
+formal-sizes image (suc g) a (suc n) h = omega (arith, formal-sizes image (suc g) (suc a) n h)

@@ -1,0 +1,35 @@
+use native.Mathlib.Omega.{arith}
+use borrow.Author.Needs.{needs}
+use Rattle.model.specs.Tally.{conditionalTally}
+use Rattle.tally.proofs.conditional_figure.Statement.{statement}
+use Rattle.tally.proofs.conditional_figure.Tie as tie
+
+plain-figure-requires : tie.Need-plain-figure-requires
+plain-figure-requires c κs = search needs
+
+weight-requires : tie.Need-weight-requires
+weight-requires c κs = search needs
+
+cut-sum-requires : tie.Need-cut-sum-requires
+cut-sum-requires c κs = search needs
+
+weight-requires-2 : tie.Need-weight-requires-2
+weight-requires-2 c κs = search needs
+
+cut-sum-requires-2 : tie.Need-cut-sum-requires-2
+cut-sum-requires-2 c κs = search needs
+
+returns : tie.Need-returns
+unfolding conditionalTally
+returns c = omega arith
+
+pub conditional-figure-spec : {M : Type 1} → statement M
+conditional-figure-spec =
+    tie.close
+    (tie.spec
+    plain-figure-requires
+    weight-requires
+    cut-sum-requires
+    weight-requires-2
+    cut-sum-requires-2
+    returns)

@@ -1,0 +1,65 @@
+-- The nine figures as nine weights, numbered from 0 in document 01's order, and what the code keeps of them.
+use Prim.Native.Nat.{ℕ, suc, _+_, _*_, _^_, _<_, min}
+use mathlib.Core.Path.{_≡_}
+use mathlib.Core.Bool.{cond}
+use mathlib.Core.List.{List, [], _∷_}
+use mathlib.Core.Option.{Option}
+use lib.Dec.{eqb, ltb}
+use lib.ListN.{getD}
+use Rattle.model.specs.Image.{gates}
+use Rattle.model.specs.Check.{Verdict, fine, bad, check}
+use Rattle.model.specs.Tally.{bodyTally, openingTally, TallyAnswer, tallied, refused}
+use Rattle.image.specs.declared.Layout.{Layout}
+use Rattle.image.specs.Layout.{Laid}
+use Rattle.image.specs.Answer.{verdictOf}
+use Rattle.tally.specs.declared.Figures.{Figures}
+use Rattle.tally.specs.declared.Tallied.{Tallied}
+use Rattle.tally.specs.declared.Tallied.the-variants as answer
+
+-- figures 0 to 6 count the records of kinds 1 to 7, figure 8 adds up words
+unfoldable pub weightOf : ℕ → ℕ → ℕ → ℕ
+weightOf j kind n = cond (ltb j 7) (cond (eqb kind (suc j)) 1 0) (cond (eqb j 8) n 0)
+
+-- figure 7 counts body entries
+unfoldable pub entryOf : ℕ → ℕ
+entryOf j = cond (eqb j 7) 1 0
+
+-- a figure, cut to the first number that is refused
+abbrev pub cut : ℕ → ℕ
+cut n = min n (2 ^ 32)
+
+-- bodies opened n deep, for figure j
+abbrev pub opening : List ℕ → ℕ → ℕ → Option (ℕ → ℕ)
+opening image j n = openingTally image (weightOf j) (entryOf j) n
+
+-- what gate g's body comes to where bodies are opened n deep in it
+abbrev pub body : List ℕ → ℕ → ℕ → ℕ → ℕ
+body image n g j = bodyTally image (weightOf j) (entryOf j) (opening image j n) (suc g)
+
+-- an accepted image with its counts
+pub record Ready (image : List ℕ) (l : Layout) : Type 0 where
+  pub laid : Laid image l
+  pub accepted : check image ≡ fine
+
+-- where bodies are opened n deep, the table has the nine figures, cut, of each gate's body
+pub record Tabled (image : List ℕ) (n : ℕ) (table : List ℕ) : Type 0 where
+  pub holds : (k g j : ℕ) → n ≡ suc k → g < gates image → j < 9 → getD table (9 * g + j) 0 ≡ cut (body image k g j)
+
+-- gate g's figures are put into the table, and those of the gates before it stay
+pub record Rowed (image : List ℕ) (n g : ℕ) (table next : List ℕ) : Type 0 where
+  pub here : (j : ℕ) → j < 9 → getD next (9 * g + j) 0 ≡ cut (body image n g j)
+  pub others : (i : ℕ) → i < 9 * g → getD next i 0 ≡ getD table i 0
+
+-- the figures in document 01's order
+abbrev pub nineOf : Figures → List ℕ
+nineOf f = f .u ∷ f .cx ∷ f .opaque ∷ f .barrier ∷ f .measure ∷ f .reset ∷ f .conditional ∷ f .entries ∷ f .words ∷ []
+
+-- what the answers say in document 01's numbers
+abbrev pub refusedAs : Verdict → TallyAnswer
+refusedAs fine = refused 0 0
+refusedAs (bad n p) = refused n p
+
+abbrev pub answerOf : Tallied → TallyAnswer
+answerOf (answer.Figures f) = tallied (nineOf f)
+answerOf (answer.Refused c) = refusedAs (verdictOf c)
+answerOf answer.TooLarge = refused 16 0

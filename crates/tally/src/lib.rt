@@ -1,0 +1,442 @@
+// The tally of an image at a depth: nine figures, before the first record.
+use image::CheckAnswer;
+use image::Contents;
+use image::Layout;
+ghost use mathlib.Core.Path.{_≡_};
+ghost use mathlib.Core.Bool.{cond};
+ghost use mathlib.Core.List.{[], _∷_, map};
+ghost use lib.Dec.{eqb};
+ghost use lib.ListN.{length, set};
+ghost use Prim.Native.Nat.{suc, _+_, _-_, _*_, _<_, _≤_, _^_, min, max};
+ghost use Rattle.model.specs.Lists.{range, sum, largest};
+ghost use Rattle.model.specs.Image.{word, statement, argumentSize, classicalArgumentSize, rounds, gateArguments, qubits, bits};
+ghost use Rattle.model.specs.Check.{fine, check};
+ghost use Rattle.model.specs.Tally.{gateTally, plainTally, conditionalTally, statementTally, bodyTally, weightTally, figures, tally};
+ghost use Rattle.model.proofs.Facts.{PlainFacts, Facts};
+ghost use Rattle.image.specs.Layout.{Laid};
+ghost use Rattle.tally.specs.Weights.{weightOf, entryOf, cut, opening, Ready, Tabled, Rowed, nineOf, answerOf};
+
+// The records of kinds 1 to 7, the body entries and the word bound.
+pub struct Figures {
+    pub u: u64,
+    pub cx: u64,
+    pub opaque: u64,
+    pub barrier: u64,
+    pub measure: u64,
+    pub reset: u64,
+    pub conditional: u64,
+    pub entries: u64,
+    pub words: u64,
+}
+
+pub enum Tallied {
+    Figures(Figures),
+    Refused(CheckAnswer),
+    TooLarge,
+}
+
+// The first figure that is refused: what passes it is cut to it.
+const LIMIT: u64 = 0x1_0000_0000;
+
+// What a record of a kind and a length adds to figure j.
+fn weight(j: u64, kind: u64, words: u64) -> u64
+    ensures { λ r. ⌜ r ≡ weightOf j kind words ⌝ }
+{
+    if j < 7 {
+        if kind == j + 1 {
+            return 1;
+        }
+        return 0;
+    }
+    if j == 8 {
+        return words;
+    }
+    0
+}
+
+// What a body entry adds to figure j.
+fn entry_weight(j: u64) -> u64
+    ensures { λ r. ⌜ r ≡ entryOf j ⌝ }
+{
+    if j == 7 { 1 } else { 0 }
+}
+
+fn cut_sum(a: u64, b: u64) -> u64
+    requires { ⌜ a ≤ 2 ^ 32 ⌝ }
+    ensures { λ r. ⌜ r ≡ cut (a + b) ⌝ }
+{
+    if b < LIMIT - a { a + b } else { LIMIT }
+}
+
+fn cut_product(k: u64, a: u64) -> u64
+    ensures { λ r. ⌜ r ≡ cut (k * a) ⌝ }
+{
+    if a == 0 {
+        return 0;
+    }
+    if k <= LIMIT / a { k * a } else { LIMIT }
+}
+
+// Some rounds of a record.
+fn record_figure(rounds: u64, j: u64, kind: u64, words: u64) -> u64
+    ensures { λ r. ⌜ r ≡ cut (rounds * weightOf j kind words) ⌝ }
+{
+    cut_product(rounds, weight(j, kind, words))
+}
+
+fn larger(a: u64, b: u64) -> u64
+    ensures { λ r. ⌜ r ≡ max a b ⌝ }
+{
+    if a < b { b } else { a }
+}
+
+// ---- statements
+
+// The words of a barrier: 2, and its argument sizes added up. In a body each size is 1.
+fn barrier_words(image: &[u64], l: Layout, scope: u64, a: u64, n: u64) -> u64
+    requires { ⌜ Laid (now image) l × (a + n ≤ 8192) ⌝ }
+    ensures { λ r. ⌜ r ≡ cut (2 + sum (map (argumentSize (now (image .entry)) scope) (range a n))) ⌝ }
+{
+    if scope != 0 {
+        return cut_sum(2, n);
+    }
+    let mut total = 2u64;
+    let mut i = 0u64;
+    while i < n {
+        total = cut_sum(total, image::argument_size(image, l, scope, a + i));
+        i += 1;
+    }
+    total
+}
+
+fn barrier_figure(image: &[u64], l: Layout, scope: u64, a: u64, n: u64, j: u64) -> u64
+    requires { ⌜ Laid (now image) l × (a + n ≤ 8192) ⌝ }
+    ensures { λ r. ⌜ r ≡ cut (weightOf j 4 (2 + sum (map (argumentSize (now (image .entry)) scope) (range a n)))) ⌝ }
+{
+    record_figure(1, j, 4, barrier_words(image, l, scope, a, n))
+}
+
+// The rounds of a statement with one argument.
+fn rounds_of_one(image: &[u64], l: Layout, scope: u64, a: u64) -> u64
+    requires { ⌜ Laid (now image) l × (a ≤ 8192) ⌝ }
+    ensures { λ r. ⌜ r ≡ rounds (now (image .entry)) scope (a ∷ []) ⌝ }
+{
+    image::argument_size(image, l, scope, a)
+}
+
+fn rounds_of_two(image: &[u64], l: Layout, scope: u64, a: u64, b: u64) -> u64
+    requires { ⌜ Laid (now image) l × (a ≤ 8192) × (b ≤ 8192) ⌝ }
+    ensures { λ r. ⌜ r ≡ rounds (now (image .entry)) scope (a ∷ b ∷ []) ⌝ }
+{
+    larger(
+        image::argument_size(image, l, scope, a),
+        image::argument_size(image, l, scope, b),
+    )
+}
+
+fn rounds_of_measure(image: &[u64], l: Layout, scope: u64, q: u64, c: u64) -> u64
+    requires { ⌜ Laid (now image) l × (q ≤ 8192) × (c ≤ 8192) ⌝ }
+    ensures { λ r. ⌜ r ≡ largest (argumentSize (now (image .entry)) scope q ∷ classicalArgumentSize (now (image .entry)) c ∷ []) ⌝ }
+{
+    larger(
+        image::argument_size(image, l, scope, q),
+        image::classical_argument_size(image, l, c),
+    )
+}
+
+// Some rounds of a call of gate g, with bodies opened n deep.
+fn gate_figure(
+    image: &[u64],
+    l: Layout,
+    table: &[u64; 1152],
+    n: u64,
+    g: u64,
+    rounds: u64,
+    j: u64,
+) -> u64
+    requires { ⌜ Ready (now image) l × Tabled (now image) n (now table) × (g < l .gates) × (j < 9) ⌝ }
+    ensures { λ r. ⌜ r ≡ cut (rounds * gateTally (now (image .entry)) (weightOf j) (entryOf j) (opening (now (image .entry)) j n) g) ⌝ }
+{
+    let at = image::gate_at(image, l, g);
+    let parameters = image::word(image, at);
+    let arguments = image::word(image, at + 1);
+    if image::word(image, at + 2) == 0 {
+        return record_figure(rounds, j, 3, 4 + 4 * parameters + arguments);
+    }
+    if n == 0 {
+        return record_figure(rounds, j, 3, 4 + arguments);
+    }
+    let i = (9 * g + j) as usize;
+    let entries = cut_product(rounds, entry_weight(j));
+    cut_sum(entries, cut_product(rounds, table[i]))
+}
+
+fn call_figure(
+    image: &[u64],
+    l: Layout,
+    table: &[u64; 1152],
+    n: u64,
+    scope: u64,
+    g: u64,
+    a: u64,
+    j: u64,
+) -> u64
+    requires { ⌜ Ready (now image) l × Tabled (now image) n (now table) × (g < l .gates) × (a + gateArguments (now image) g ≤ 8192) × (j < 9) ⌝ }
+    ensures { λ r. ⌜ r ≡ cut (rounds (now (image .entry)) scope (range a (gateArguments (now (image .entry)) g)) * gateTally (now (image .entry)) (weightOf j) (entryOf j) (opening (now (image .entry)) j n) g) ⌝ }
+{
+    let arguments = image::word(image, image::gate_at(image, l, g) + 1);
+    let rounds = image::rounds_of(image, l, scope, a, arguments);
+    gate_figure(image, l, table, n, g, rounds, j)
+}
+
+// A statement other than an if.
+fn plain_figure(
+    image: &[u64],
+    l: Layout,
+    table: &[u64; 1152],
+    n: u64,
+    scope: u64,
+    s: u64,
+    j: u64,
+) -> u64
+    requires { ⌜ Ready (now image) l × Tabled (now image) n (now table) × PlainFacts (now image) scope (statement (now image) s) × (s ≤ 8192) × (j < 9) ⌝ }
+    ensures { λ r. ⌜ r ≡ cut (plainTally (now (image .entry)) (weightOf j) (entryOf j) (λ t. 0) (opening (now (image .entry)) j n) scope (statement (now (image .entry)) s)) ⌝ }
+{
+    let at = image::statement_at(image, l, s);
+    let kind = image::word(image, at);
+    let a = image::word(image, at + 1);
+    let b = image::word(image, at + 2);
+    let c = image::word(image, at + 3);
+    let d = image::word(image, at + 4);
+    match kind {
+        1 => record_figure(rounds_of_one(image, l, scope, d), j, 1, 14),
+        2 => record_figure(rounds_of_two(image, l, scope, a, b), j, 2, 3),
+        3 => call_figure(image, l, table, n, scope, a, c, j),
+        4 => barrier_figure(image, l, scope, a, b, j),
+        5 => record_figure(rounds_of_measure(image, l, scope, a, b), j, 5, 3),
+        6 => record_figure(rounds_of_one(image, l, scope, a), j, 6, 2),
+        _ => 0,
+    }
+}
+
+// An if around statement t: a kind 7, t, and a kind 8.
+fn conditional_figure(
+    image: &[u64],
+    l: Layout,
+    table: &[u64; 1152],
+    n: u64,
+    scope: u64,
+    t: u64,
+    j: u64,
+) -> u64
+    requires { ⌜ Ready (now image) l × Tabled (now image) n (now table) × PlainFacts (now image) scope (statement (now image) t) × (t ≤ 8192) × (j < 9) ⌝ }
+    ensures { λ r. ⌜ r ≡ cut (conditionalTally (now (image .entry)) (weightOf j) (entryOf j) (opening (now (image .entry)) j n) scope t) ⌝ }
+{
+    let inner = plain_figure(image, l, table, n, scope, t, j);
+    cut_sum(cut_sum(inner, weight(j, 7, 4)), weight(j, 8, 1))
+}
+
+fn statement_figure(
+    image: &[u64],
+    l: Layout,
+    table: &[u64; 1152],
+    n: u64,
+    scope: u64,
+    s: u64,
+    j: u64,
+) -> u64
+    requires { ⌜ Ready (now image) l × Tabled (now image) n (now table) × Facts (now image) scope (statement (now image) s) × (s ≤ 8192) × (j < 9) ⌝ }
+    ensures { λ r. ⌜ r ≡ cut (statementTally (now (image .entry)) (weightOf j) (entryOf j) (opening (now (image .entry)) j n) scope s) ⌝ }
+{
+    let at = image::statement_at(image, l, s);
+    if image::word(image, at) == 7 {
+        let t = image::word(image, at + 3);
+        return conditional_figure(image, l, table, n, scope, t, j);
+    }
+    plain_figure(image, l, table, n, scope, s, j)
+}
+
+// ---- scopes
+
+// The statements of a scope.
+fn body_figure(image: &[u64], l: Layout, table: &[u64; 1152], n: u64, scope: u64, j: u64) -> u64
+    requires { ⌜ Ready (now image) l × Tabled (now image) n (now table) × (scope ≤ l .gates) × (j < 9) ⌝ }
+    ensures { λ r. ⌜ r ≡ cut (bodyTally (now (image .entry)) (weightOf j) (entryOf j) (opening (now (image .entry)) j n) scope) ⌝ }
+{
+    let span = image::statements_of(image, l, scope);
+    let first = span.first;
+    let count = span.count;
+    let mut total = 0u64;
+    let mut i = 0u64;
+    while i < count {
+        total = cut_sum(
+            total,
+            statement_figure(image, l, table, n, scope, first + i, j),
+        );
+        i += 1;
+    }
+    total
+}
+
+// Stores a figure.
+fn put(table: &mut [u64], i: usize, figure: u64)
+    requires { ⌜ i < length (now table) ⌝ }
+    ensures { λ r. ⌜ now (table .exit) ≡ set (now (table .entry)) i figure ⌝ }
+{
+    table[i] = figure;
+}
+
+// The nine figures of gate g's body.
+fn fill_row(image: &[u64], l: Layout, table: &[u64; 1152], n: u64, g: u64, next: &mut [u64; 1152])
+    requires { ⌜ Ready (now image) l × Tabled (now image) n (now table) × (g < l .gates) ⌝ }
+    ensures { λ r. ⌜ Rowed (now (image .entry)) n g (now (next .entry)) (now (next .exit)) ⌝ }
+{
+    let mut j = 0u64;
+    while j < 9 {
+        let i = (9 * g + j) as usize;
+        let figure = body_figure(image, l, table, n, g + 1, j);
+        put(next, i, figure);
+        j += 1;
+    }
+}
+
+// The table with bodies opened one level deeper.
+fn next_table(image: &[u64], l: Layout, table: &[u64; 1152], n: u64, next: &mut [u64; 1152])
+    requires { ⌜ Ready (now image) l × Tabled (now image) n (now table) ⌝ }
+    ensures { λ r. ⌜ Tabled (now (image .entry)) (suc n) (now (next .exit)) ⌝ }
+{
+    let gates = l.gates;
+    let mut g = 0u64;
+    while g < gates {
+        fill_row(image, l, table, n, g, next);
+        g += 1;
+    }
+}
+
+// The table with bodies opened n deep.
+fn opened_table(image: &[u64], l: Layout, n: u64) -> [u64; 1152]
+    requires { ⌜ Ready (now image) l ⌝ }
+    ensures { λ r. ⌜ Tabled (now (image .entry)) n r ⌝ }
+{
+    let mut table = [0u64; 1152];
+    let mut i = 0u64;
+    while i < n {
+        let last = table;
+        next_table(image, l, &last, i, &mut table);
+        i += 1;
+    }
+    table
+}
+
+// ---- in all
+
+// The sizes of the registers from a place on.
+fn size_of_all(image: &[u64], at: u64, n: u64) -> u64
+    requires { ⌜ at + n ≤ 16384 ⌝ }
+    ensures { λ r. ⌜ r ≡ cut (sum (map (λ i. word (now (image .entry)) (at + i)) (range 0 n))) ⌝ }
+{
+    let mut total = 0u64;
+    let mut i = 0u64;
+    while i < n {
+        total = cut_sum(total, image::word(image, at + i));
+        i += 1;
+    }
+    total
+}
+
+fn head_words(image: &[u64], l: Layout) -> u64
+    requires { ⌜ Ready (now image) l ⌝ }
+    ensures { λ r. ⌜ r ≡ 3 + 2 * (qubits (now (image .entry)) + bits (now (image .entry))) ⌝ }
+{
+    let quantum = size_of_all(image, 9, l.quantum);
+    let classical = size_of_all(image, 9 + l.quantum, l.classical);
+    3 + 2 * (quantum + classical)
+}
+
+// The head comes with the first main statement.
+fn if_any(main: u64, head: u64) -> u64
+    ensures { λ r. ⌜ r ≡ cond (eqb main 0) 0 head ⌝ }
+{
+    if main == 0 { 0 } else { head }
+}
+
+fn total_figure(image: &[u64], l: Layout, table: &[u64; 1152], n: u64, j: u64) -> u64
+    requires { ⌜ Ready (now image) l × Tabled (now image) n (now table) × (j < 9) ⌝ }
+    ensures { λ r. ⌜ r ≡ cut (weightTally (now (image .entry)) (weightOf j) (entryOf j) (n + 1)) ⌝ }
+{
+    let main = l.main;
+    let head = weight(j, 0, head_words(image, l));
+    let statements = body_figure(image, l, table, n, 0, j);
+    cut_sum(statements, if_any(main, head))
+}
+
+// How deep bodies are opened: from depth 129 on the figures are the same.
+fn levels(depth: u64) -> u64
+    ensures { λ r. ⌜ r ≡ min (depth - 1) 128 ⌝ }
+{
+    if depth == 0 {
+        return 0;
+    }
+    if depth < 129 { depth - 1 } else { 128 }
+}
+
+fn nine_figures(image: &[u64], l: Layout, table: &[u64; 1152], n: u64) -> Figures
+    requires { ⌜ Ready (now image) l × Tabled (now image) n (now table) ⌝ }
+    ensures { λ r. ⌜ nineOf r ≡ map cut (figures (now (image .entry)) (n + 1)) ⌝ }
+{
+    Figures {
+        u: total_figure(image, l, table, n, 0),
+        cx: total_figure(image, l, table, n, 1),
+        opaque: total_figure(image, l, table, n, 2),
+        barrier: total_figure(image, l, table, n, 3),
+        measure: total_figure(image, l, table, n, 4),
+        reset: total_figure(image, l, table, n, 5),
+        conditional: total_figure(image, l, table, n, 6),
+        entries: total_figure(image, l, table, n, 7),
+        words: total_figure(image, l, table, n, 8),
+    }
+}
+
+fn largest_figure(f: Figures) -> u64
+    ensures { λ r. ⌜ r ≡ largest (nineOf f) ⌝ }
+{
+    let most = larger(f.entries, f.words);
+    let most = larger(f.reset, larger(f.conditional, most));
+    let most = larger(f.barrier, larger(f.measure, most));
+    larger(f.u, larger(f.cx, larger(f.opaque, most)))
+}
+
+fn laid_tally(image: &[u64], l: Layout, depth: u64) -> Tallied
+    requires { ⌜ Ready (now image) l ⌝ }
+    ensures { λ r. ⌜ answerOf r ≡ tally (now (image .entry)) depth ⌝ }
+{
+    let n = levels(depth);
+    let table = opened_table(image, l, n);
+    let figures = nine_figures(image, l, &table, n);
+    if largest_figure(figures) < LIMIT {
+        Tallied::Figures(figures)
+    } else {
+        Tallied::TooLarge
+    }
+}
+
+fn accepted_tally(image: &[u64], depth: u64) -> Tallied
+    requires { ⌜ check (now image) ≡ fine ⌝ }
+    ensures { λ r. ⌜ answerOf r ≡ tally (now (image .entry)) depth ⌝ }
+{
+    match image::read_contents(image) {
+        Contents::Right(l) => laid_tally(image, l, depth),
+        Contents::Wrong => Tallied::TooLarge,
+    }
+}
+
+// The nine figures at a depth, or why there are none.
+pub fn tally(image: &[u64], depth: u64) -> Tallied
+    ensures { λ r. ⌜ answerOf r ≡ tally (now (image .entry)) depth ⌝ }
+{
+    let verdict = image::check(image);
+    match verdict {
+        CheckAnswer::Accepted => accepted_tally(image, depth),
+        _ => Tallied::Refused(verdict),
+    }
+}
