@@ -1,8 +1,11 @@
--- A NaN is what differs from itself; its bits are the library's.
+-- A NaN is what differs from itself; its bits are the library's. There is one: read from any of its patterns, or zero divided by zero.
 use mathlib.Core.Path.{_≡_, refl, sym, _∙_, subst}
-use mathlib.Core.Bool.{true, false, not}
+use Prim.Native.Nat.{ℕ, _%_, _<_, _*_}
+use mathlib.Core.Bool.{true, false, not, true≢false}
 use lib.Dec.{T}
-use lib.Ieee.{Float, nan, inf, fin, isNan, ne, binary32, toBits}
+use borrow.Author.Tests.{lt-ltb}
+use lib.Ieee.{Float, nan, inf, fin, isNan, ne, binary32, toBits, div, ofBits, ofFields, ones, hid, top}
+use lib.Ieee.Bits.{nanBits-is, nanBits-above}
 use Rattle.float.specs.Float.{bits}
 use lib.Ieee.Compare.{differs-from-itself, nan-differs}
 
@@ -20,3 +23,16 @@ unfolding bits toBits
 bits-is nan = refl
 bits-is (inf s) = refl
 bits-is (fin s m e) = refl
+
+the-nan : (v : Float) → isNan v ≡ true → v ≡ nan
+unfolding isNan
+the-nan nan e = refl
+the-nan (inf s) e = absurd (true≢false (sym e))
+the-nan (fin s m d) e = absurd (true≢false (sym e))
+
+pub nan-read : (b : ℕ) → ones binary32 * hid binary32 < b % top binary32 → ofBits binary32 b ≡ nan
+nan-read b h = the-nan _ (sym (nanBits-is binary32 b) ∙ nanBits-above binary32 b ∙ lt-ltb _ _ h)
+
+pub nan-quotient : div binary32 (ofBits binary32 0) (ofBits binary32 0) ≡ nan
+unfolding div ofBits ofFields
+nan-quotient = refl

@@ -54,6 +54,17 @@ pub fn bits_of(x: f32) -> u32
     f32::to_bits(x)
 }
 
+// The f32 of a word. from_bits takes no NaN's, so a quotient stands for them.
+pub fn of_bits(word: u64) -> f32
+    requires { ⌜ word < 2 ^ 32 ⌝ }
+    ensures { λ r. ⌜ r ≡ Ieee.ofBits binary32 word ⌝ }
+{
+    if word % 0x8000_0000 > 0x7f80_0000 {
+        return 0.0 / 0.0;
+    }
+    f32::from_bits(word as u32)
+}
+
 // 2^e, cut to the limit of a magnitude.
 fn capped_power_of_two(e: u64) -> u64
     ensures { λ r. ⌜ r ≡ min (2 ^ e) (2 ^ 63) ⌝ }

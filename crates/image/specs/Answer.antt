@@ -1,4 +1,5 @@
 -- What the answers of the check say in document 01's numbers and places.
+use Prim.Native.Nat.{ℕ}
 use mathlib.Core.Bool.{cond}
 use lib.Dec.{eqb}
 use Rattle.model.specs.Check.{Verdict, fine, bad}
@@ -21,3 +22,12 @@ verdictOf (answer.Upward p) = bad 8 p
 -- a fault that a part of the check found: number 0 is none
 abbrev pub verdictOfFault : Fault → Verdict
 verdictOfFault f = cond (eqb (f .number) 0) fine (bad (f .number) (f .place))
+
+-- a verdict's number and place, 0 where nothing is wrong
+abbrev pub numberIn : Verdict → ℕ
+numberIn fine = 0
+numberIn (bad n p) = n
+
+abbrev pub placeIn : Verdict → ℕ
+placeIn fine = 0
+placeIn (bad n p) = p

@@ -8,7 +8,7 @@ ghost use Prim.Native.Nat.{ℕ, _+_, _-_, _*_, _<_, _≤_, min, suc, max};
 ghost use Rattle.model.specs.Lists.{range, largest, every, all, sum};
 ghost use Rattle.model.specs.Image.{U, CX, Gate, Barrier, Measure, Reset, word, statement, gateAt, statementAt, argumentAt, parameterAt, expressionAt, parameter, variables, argumentSize, classicalArgumentSize, rounds, scopeStatements};
 ghost use Rattle.model.specs.Check.{firstBad, gateOk, expressionOk, argumentOk, classicalArgumentOk, unused, downward, matching, conditionalFlaw, plainFlaw, flaw, registers, gateEntries, statementEntries, check, firstOf, inConditional, orElse};
-ghost use Rattle.image.specs.Answer.{verdictOf, verdictOfFault};
+ghost use Rattle.image.specs.Answer.{verdictOf, verdictOfFault, numberIn, placeIn};
 ghost use Rattle.image.specs.Layout.{Laid, ReadAs, registerFlaw, accepts, Judged, Gated, Ready, Holds, callFits};
 ghost use Rattle.image.specs.Judging.{leafFits, wordsOk, Tells};
 ghost use Rattle.image.specs.Firsts.{Firsts};
@@ -1069,4 +1069,38 @@ pub fn check(image: &[u64]) -> CheckAnswer
         return CheckAnswer::Contents;
     };
     answer_of(first_fault(image, l))
+}
+
+// The number of an answer; 0 is an accepted image.
+pub fn number_of(answer: CheckAnswer) -> u64
+    ensures { λ r. ⌜ r ≡ numberIn (verdictOf answer) ⌝ }
+{
+    match answer {
+        CheckAnswer::Accepted => 0,
+        CheckAnswer::Contents => 1,
+        CheckAnswer::Register(_) => 2,
+        CheckAnswer::GateEntry(_) => 3,
+        CheckAnswer::Form(_) => 4,
+        CheckAnswer::Argument(_) => 5,
+        CheckAnswer::Expression(_) => 6,
+        CheckAnswer::Sizes(_) => 7,
+        CheckAnswer::Upward(_) => 8,
+    }
+}
+
+// The place of an answer; 0 where it has none.
+pub fn place_of(answer: CheckAnswer) -> u64
+    ensures { λ r. ⌜ r ≡ placeIn (verdictOf answer) ⌝ }
+{
+    match answer {
+        CheckAnswer::Accepted => 0,
+        CheckAnswer::Contents => 0,
+        CheckAnswer::Register(place) => place,
+        CheckAnswer::GateEntry(place) => place,
+        CheckAnswer::Form(place) => place,
+        CheckAnswer::Argument(place) => place,
+        CheckAnswer::Expression(place) => place,
+        CheckAnswer::Sizes(place) => place,
+        CheckAnswer::Upward(place) => place,
+    }
 }

@@ -1,14 +1,9 @@
 // Replays the images of standard input: how many the check answers as it should, and which it does not.
-mod line;
-
-use image::CheckAnswer;
+// A line: the number and the place that the check is to answer, 0 0 for an accepted image, then the words.
 use libc::STDIN_FILENO;
-use line::Parsed;
+use vector_text::Words;
 ghost use mathlib.Core.Path.{_≡_};
 ghost use lib.ListN.{length};
-
-// A number of document 01 with its place; number 0 is an accepted image.
-struct Answer(u64, u64);
 
 // Room for the whole input.
 fn room() -> [u8; 307200]
@@ -21,38 +16,25 @@ fn say_counts(images: u64, agree: u64) {
     vector_text::say_counts(images, b" images, ", agree);
 }
 
-fn answer_of(checked: CheckAnswer) -> Answer {
-    match checked {
-        CheckAnswer::Accepted => Answer(0, 0),
-        CheckAnswer::Contents => Answer(1, 0),
-        CheckAnswer::Register(place) => Answer(2, place),
-        CheckAnswer::GateEntry(place) => Answer(3, place),
-        CheckAnswer::Form(place) => Answer(4, place),
-        CheckAnswer::Argument(place) => Answer(5, place),
-        CheckAnswer::Expression(place) => Answer(6, place),
-        CheckAnswer::Sizes(place) => Answer(7, place),
-        CheckAnswer::Upward(place) => Answer(8, place),
-    }
-}
-
-// Whether the check answers so.
-fn agrees(image: &[u64], number: u64, place: u64) -> bool {
-    let checked = answer_of(image::check(image));
-    if checked.0 == number {
-        return checked.1 == place;
+// Whether the check answers this number and place.
+fn agrees(image: &[u64], answer: &[u64; 2]) -> bool {
+    let checked = image::check(image);
+    if image::number_of(checked) == answer[0] {
+        return image::place_of(checked) == answer[1];
     }
     false
 }
 
 // Whether the image of a line is answered as the line says; if not, says so. There is room for images that are too long.
 fn line_agrees(text: &[u8], line_number: u64) -> bool {
+    let mut answer = [0u64; 2];
     let mut words = [0u64; 8200];
-    let parsed = line::parse(text, &mut words);
-    let Parsed::Image(number, place, n) = parsed else {
+    let read = vector_text::read_line(text, &mut answer, &mut words);
+    let Words::Read(n) = read else {
         vector_text::say_malformed(line_number);
         return false;
     };
-    if agrees(&words[..n], number, place) {
+    if agrees(&words[..n], &answer) {
         return true;
     }
     vector_text::say_differs(line_number);

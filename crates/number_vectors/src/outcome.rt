@@ -114,19 +114,9 @@ fn of_angles(op: u64, x: Value, y: Value) -> Outcome {
     Outcome::Unfit
 }
 
-// The f32 of a word. from_bits takes no NaN's, so a quotient stands for them.
-fn float_of(word: u64) -> f32
-    requires { ⌜ word < 2 ^ 32 ⌝ }
-{
-    if word % 0x8000_0000 > 0x7f80_0000 {
-        return 0.0 / 0.0;
-    }
-    f32::from_bits(word as u32)
-}
-
 fn of_word(word: u64) -> Outcome {
     if word < 0x1_0000_0000 {
-        return of_evaluation(Value::from_float(float_of(word)));
+        return of_evaluation(Value::from_float(float::of_bits(word)));
     }
     Outcome::Unfit
 }

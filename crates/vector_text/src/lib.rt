@@ -1,12 +1,32 @@
 // Text of stored vectors, read from standard input, and what a replay of them writes.
 use libc::STDIN_FILENO;
 use libc::STDOUT_FILENO;
-ghost use Prim.Native.Nat.{_≤_};
+ghost use mathlib.Core.Path.{_≡_};
+ghost use Prim.Native.Nat.{_+_, _≤_};
 ghost use lib.ListN.{length};
+ghost use Rattle.vector_text.specs.Room.{InRoom};
 
 // A number, and where its digits end.
 pub enum Decimal {
     Number(u64, usize),
+    Malformed,
+}
+
+// Where the numbers before the words end.
+enum Leading {
+    End(usize),
+    Malformed,
+}
+
+// How many equal words, the word, and where the text of them ends.
+enum Run {
+    Words(u64, u64, usize),
+    Malformed,
+}
+
+// How many words a line has.
+pub enum Words {
+    Read(usize),
     Malformed,
 }
 
@@ -58,6 +78,119 @@ pub fn digits(text: &[u8], at: usize) -> Decimal {
     }
     Decimal::Number(n, i)
 }
+
+// ---- numbers, and then words
+
+// The number that begins behind the space at `at`.
+fn spaced(text: &[u8], at: usize) -> Decimal {
+    if at < text.len() {
+        if text[at] == b' ' {
+            return digits(text, at + 1);
+        }
+    }
+    Decimal::Malformed
+}
+
+// The k-th number of a line: no space stands before the first.
+fn number(text: &[u8], at: usize, k: usize) -> Decimal {
+    if k == 0 {
+        return digits(text, at);
+    }
+    spaced(text, at)
+}
+
+// Reads as many numbers as there is room for.
+fn read_leading(text: &[u8], leading: &mut [u64]) -> Leading {
+    let mut at = 0;
+    let mut k = 0;
+    while k < leading.len() {
+        let read = number(text, at, k);
+        let Decimal::Number(n, end) = read else {
+            return Leading::Malformed;
+        };
+        leading[k] = n;
+        at = end;
+        k += 1;
+    }
+    Leading::End(at)
+}
+
+// So many copies of the word that begins at `at`.
+fn copies(text: &[u8], at: usize, count: u64) -> Run {
+    let read = digits(text, at);
+    match read {
+        Decimal::Number(word, end) => Run::Words(count, word, end),
+        Decimal::Malformed => Run::Malformed,
+    }
+}
+
+// A word or a run of equal words, behind the space at `at`.
+fn next_run(text: &[u8], at: usize) -> Run {
+    let read = spaced(text, at);
+    let Decimal::Number(n, end) = read else {
+        return Run::Malformed;
+    };
+    if end < text.len() {
+        if text[end] == b'*' {
+            return copies(text, end + 1, n);
+        }
+    }
+    Run::Words(1, n, end)
+}
+
+// Puts a run of equal words behind the first n; how many there are then.
+fn put(words: &mut [u64], n: usize, count: u64, word: u64) -> usize
+    requires { ⌜ n + count ≤ length (now words) ⌝ }
+    ensures { λ r. ⌜ r ≡ n + count ⌝ }
+{
+    let end = n + count as usize;
+    let mut i = n;
+    while i < end {
+        words[i] = word;
+        i += 1;
+    }
+    i
+}
+
+// Reads the words from `at` on, each run of at least one, to the line feed.
+fn read_words(text: &[u8], at: usize, words: &mut [u64]) -> Words
+    ensures { λ r. ⌜ InRoom (now (words .exit)) r ⌝ }
+{
+    let mut n = 0;
+    let mut i = at;
+    while i < text.len() {
+        if text[i] == b'\n' {
+            return Words::Read(n);
+        }
+        let read = next_run(text, i);
+        let Run::Words(count, word, end) = read else {
+            return Words::Malformed;
+        };
+        if count == 0 {
+            return Words::Malformed;
+        }
+        if count > (words.len() - n) as u64 {
+            return Words::Malformed;
+        }
+        n = put(words, n, count, word);
+        i = end;
+    }
+    Words::Malformed
+}
+
+// Reads a line: a number for each place of `leading`, then the words, with single spaces between them, and a line feed.
+// `k*w` stands for k words w.
+pub fn read_line(text: &[u8], leading: &mut [u64], words: &mut [u64]) -> Words
+    ensures { λ r. ⌜ InRoom (now (words .exit)) r ⌝ }
+{
+    let read = read_leading(text, leading);
+    let Leading::End(at) = read else {
+        return Words::Malformed;
+    };
+    read_words(text, at, words)
+}
+
+// ---- standard input and output
 
 // Whether all of standard input has been read; if not, says so.
 pub fn all_read() -> bool {

@@ -4,14 +4,17 @@ use borrow.Author.Needs.{needs}
 use Rattle.image_vectors.proofs.line_agrees.Statement.{statement}
 use Rattle.image_vectors.proofs.line_agrees.Tie as tie
 
-slice-aggregate-parse : tie.Need-slice-aggregate-parse
-slice-aggregate-parse c = search needs
+slice-aggregate-read-line : tie.Need-slice-aggregate-read-line
+slice-aggregate-read-line c = search needs
 
-parse-requires : tie.Need-parse-requires
-parse-requires c κs = search needs
+slice-aggregate-read-line-2 : tie.Need-slice-aggregate-read-line-2
+slice-aggregate-read-line-2 c = search needs
 
-enum-known-parsed : tie.Need-enum-known-parsed
-enum-known-parsed c = search needs
+read-line-requires : tie.Need-read-line-requires
+read-line-requires c κs = search needs
+
+enum-known-read : tie.Need-enum-known-read
+enum-known-read c = search needs
 
 enum-told : tie.Need-enum-told
 enum-told c = search needs
@@ -23,10 +26,10 @@ returns : tie.Need-returns
 returns c = search needs
 
 array-share-prefix-words : tie.Need-array-share-prefix-words
-array-share-prefix-words c = rw (c .before .parsed .given .1) at (c .before .before .before .before .parse .ensures)
+array-share-prefix-words c = rw (c .before .read .given .1) at (c .before .before .before .before .before .read-line .ensures)
 
 slice-aggregate-agrees : tie.Need-slice-aggregate-agrees
-slice-aggregate-agrees c = sym (length-take-le _ _ (rw (c .before .before .parsed .given .1) at (c .before .before .before .before .before .parse .ensures)))
+slice-aggregate-agrees c = sym (length-take-le _ _ (rw (c .before .before .read .given .1) at (c .before .before .before .before .before .before .read-line .ensures)))
 
 agrees-requires : tie.Need-agrees-requires
 agrees-requires c κs = search needs
@@ -44,9 +47,10 @@ pub line-agrees-spec : {M : Type 1} → statement M
 line-agrees-spec =
     tie.close
     (tie.spec
-    slice-aggregate-parse
-    parse-requires
-    enum-known-parsed
+    slice-aggregate-read-line
+    slice-aggregate-read-line-2
+    read-line-requires
+    enum-known-read
     enum-told
     say-malformed-requires
     returns

@@ -2,14 +2,14 @@ use Prim.Native.Nat.{_≤_, _-_}
 use mathlib.Core.Path.{_≡_}
 use lib.ListN.{length}
 use borrow.Author.Needs.{needs}
-use Rattle.image_vectors.proofs.line.expand.Statement.{statement}
-use Rattle.image_vectors.proofs.line.expand.Tie as tie
+use Rattle.vector_text.proofs.read_words.Statement.{statement}
+use Rattle.vector_text.proofs.read_words.Tie as tie
 
 abbrev Inv-loop : tie.InvT-loop
-Inv-loop text at number place words₀ n₀ i₀ words n i = (n ≤ length words) × (length words ≡ length words₀)
+Inv-loop text at words₀ n₀ i₀ words n i = (n ≤ length words) × (length words ≡ length words₀)
 
 abbrev μ-loop : tie.MeasureT-loop
-μ-loop text at number place words₀ n₀ i₀ words n i = length words - n
+μ-loop text at words₀ n₀ i₀ words n i = length words - n
 
 loop-holds : tie.Need-loop-holds Inv-loop μ-loop
 loop-holds c = search needs
@@ -68,8 +68,8 @@ same-length-5 c = search needs
 returns-5 : tie.Need-returns-5 Inv-loop μ-loop
 returns-5 c = search needs
 
-pub expand-spec : {M : Type 1} → statement M
-expand-spec =
+pub read-words-spec : {M : Type 1} → statement M
+read-words-spec =
     tie.close
     (tie.spec
     Inv-loop

@@ -2,8 +2,8 @@ use Prim.Native.Nat.{_≤_, _-_}
 use mathlib.Core.Path.{_≡_}
 use lib.ListN.{length}
 use borrow.Author.Needs.{needs}
-use Rattle.image_vectors.proofs.line.put.Statement.{statement}
-use Rattle.image_vectors.proofs.line.put.Tie as tie
+use Rattle.vector_text.proofs.put.Statement.{statement}
+use Rattle.vector_text.proofs.put.Tie as tie
 
 abbrev Inv-loop : tie.InvT-loop
 Inv-loop words₀ n count word end i₀ words i = (i ≤ end) × ((end ≤ length words) × (length words ≡ length words₀))
