@@ -1,1 +1,2 @@
 pub mod OperandLaws
+pub mod EntryLaws

@@ -1,14 +1,16 @@
 -- What an expression entry comes to, once its operands are worked out.
-use Prim.Native.Nat.{ℕ, _<_}
+use Prim.Native.Nat.{ℕ, _<_, _≤_}
 use mathlib.Core.Path.{_≡_}
 use mathlib.Core.List.{List}
 use Rattle.value.specs.declared.Value.{Value}
 use Rattle.value.specs.declared.Evaluation.{Evaluation}
 use Rattle.value.specs.declared.Evaluation.the-variants as evaluation
+use lib.Dec.{T}
 use lib.ListN.{length, getD}
 use Rattle.value.specs.Value.{Sound}
 use Rattle.value.specs.Promise.{SoundEvaluation}
 use Rattle.model.specs.Image.{expressionOf}
+use Rattle.model.specs.Check.{expressionOk}
 use Rattle.model.specs.Evaluate.{valueOf, zeroValue}
 use Rattle.linearize.specs.declared.Frame.{Frame}
 
@@ -31,3 +33,9 @@ pub record OverNone (values : List Value) (kind a : ℕ) (r : Evaluation) : Type
 pub record SoundFrame (frame : Frame) : Type 0 where
   pub full : length (frame .angles) ≡ 16
   pub each : (i : ℕ) → i < 16 → Sound (getD (frame .angles) i zeroValue)
+
+-- an expression that the check accepts: of at most 32 levels, with some variables that a gate may have
+pub record Formed (image : List ℕ) (e : ℕ) : Type 0 where
+  pub variables : ℕ
+  pub few : variables ≤ 16
+  pub formed : T (expressionOk image variables 32 e)

@@ -1,10 +1,14 @@
 // Opens every gate call of an accepted image and works out every angle.
+use image::Layout;
 use value::Evaluation;
 use value::Value;
 ghost use mathlib.Core.Path.{_≡_};
 ghost use Prim.Native.Nat.{_<_, _≤_, _^_};
 ghost use Rattle.value.specs.Value.{Sound};
-ghost use Rattle.linearize.specs.Operands.{OverTwo, OverOne, OverNone, SoundFrame};
+ghost use Rattle.value.specs.Promise.{EvaluatesTo};
+ghost use Rattle.model.specs.Evaluate.{evaluate};
+ghost use Rattle.image.specs.Layout.{Laid};
+ghost use Rattle.linearize.specs.Operands.{OverTwo, OverOne, OverNone, SoundFrame, Formed};
 
 // The sixteen angles and sixteen qubits that a gate's body has at most.
 pub struct Frame {
@@ -55,4 +59,30 @@ fn unary(kind: u64, x: Value) -> Evaluation
         14 => x.checked_ln(),
         _ => x.checked_sqrt(),
     }
+}
+
+// The angle of an expression, or why it has none. An operand has a smaller number than its user.
+fn evaluate(image: &[u64], l: Layout, frame: Frame, e: u64) -> Evaluation
+    requires { ⌜ Laid (now image) l × SoundFrame frame × Formed (now image) e ⌝ }
+    ensures { λ r. ⌜ EvaluatesTo (evaluate (now (image .entry)) (frame .angles) 32 e) r ⌝ }
+{
+    let at = image::expression_at(image, l, e);
+    let kind = image::word(image, at);
+    let a = image::word(image, at + 1);
+    if kind < 4 {
+        return leaf(frame, kind, a);
+    }
+    let left = evaluate(image, l, frame, a);
+    let Evaluation::Value(x) = left else {
+        return left;
+    };
+    if 8 < kind {
+        return unary(kind, x);
+    }
+    let b = image::word(image, at + 2);
+    let right = evaluate(image, l, frame, b);
+    let Evaluation::Value(y) = right else {
+        return right;
+    };
+    binary(kind, x, y)
 }
