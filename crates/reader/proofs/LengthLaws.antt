@@ -5,11 +5,12 @@ use mathlib.Core.Path.{_≡_, refl, sym, ap, _∙_}
 use mathlib.Core.Bool.{Bool, true, false, cond, _&&_}
 use mathlib.Core.List.{List, [], _∷_}
 use lib.Dec.{leb, ltb, eqb}
-use lib.ListN.{length, getD, take, drop, List·getD-eq-default}
+use lib.ListN.{length, getD, take, drop, List·getD-eq-default, length-drop}
 use borrow.Author.Tests.{le-leb, lt-leb, lt-ltb, le-ltb, leb-true, eqb-true, eqb-false}
-use lib.Seq.{getD-drop}
+use lib.Seq.{getD-drop, length-take-le}
 use native.Mathlib.Nat.{add-zero}
-use Rattle.reader.specs.Answer.{wordsOf}
+use Rattle.reader.specs.declared.NextRecord.the-variants as answer
+use Rattle.reader.specs.Answer.{answerOf, wordsOf}
 use Rattle.model.specs.Reader.{next, end, wrong, recordLength, nextAt}
 
 pub short : (n left : ℕ) → left < n → 0 ≡ cond (leb n left) n 0
@@ -79,6 +80,13 @@ module _ (ws : List ℕ) (at : ℕ) where
           either : (b : Bool) → cond (b && false) (next (take (recordLength (drop at ws)) (drop at ws))) wrong ≡ wrong
           either true = refl
           either false = refl
+
+  -- the length that is told is the record's
+  pub found-length : (n : ℕ) → at < length ws → Fitting n → ¬ (n ≡ 0) → answer.Record n ≡ answerOf (nextAt ws at)
+  found-length n h e z =
+      let f = found n h e z in
+      let size : length (take n (drop at ws)) ≡ n = length-take-le n (drop at ws) (omega (arith, f .1, length-drop at ws)) in
+      ap answer.Record (sym size) ∙ ap answerOf (f .0)
 
   pub at-end : at ≡ length ws → end ≡ nextAt ws at
   unfolding nextAt

@@ -5,7 +5,7 @@ ghost use lib.Dec.{ltb, leb};
 ghost use lib.ListN.{length, getD, take, drop};
 ghost use Prim.Native.Nat.{ℕ, _+_, _-_, _*_, _/_, _<_, _≤_};
 ghost use Rattle.model.specs.Reader.{recordLength, nextAt};
-ghost use Rattle.reader.specs.Answer.{nextOf, wordsOf};
+ghost use Rattle.reader.specs.Answer.{answerOf, wordsOf};
 
 // A record of so many words, the end, or no record: 17.
 pub enum NextRecord {
@@ -102,7 +102,7 @@ fn length_at(words: &[u64], at: usize) -> u64
 
 // What stands at a position.
 pub fn next_at(words: &[u64], at: usize) -> NextRecord
-    ensures { λ r. ⌜ nextOf (now (words .entry)) at r ≡ nextAt (now (words .entry)) at ⌝ }
+    ensures { λ r. ⌜ r ≡ answerOf (nextAt (now (words .entry)) at) ⌝ }
 {
     if at < words.len() {
         let n = length_at(words, at);
