@@ -316,8 +316,8 @@ fn leaf(kind: u64, a: u64, b: u64) -> Judgement
     Judgement { level: 0, reach: 0 }
 }
 
-// The larger of two numbers.
-fn larger(x: u64, y: u64) -> u64
+// The larger of two numbers. Other crates use it too.
+pub fn larger(x: u64, y: u64) -> u64
     ensures { λ r. ⌜ r ≡ max x y ⌝ }
 {
     if x < y { y } else { x }
@@ -386,8 +386,8 @@ fn judge(image: &[u64], l: Layout, levels: &[u64; 2728], reaches: &[u64; 2728], 
     Judgement { level: 0, reach: 0 }
 }
 
-// Stores an entry of a table.
-fn put(table: &mut [u64], i: usize, x: u64)
+// Stores an entry of a table. Other crates use it too.
+pub fn put(table: &mut [u64], i: usize, x: u64)
     requires { ⌜ i < length (now table) ⌝ }
     ensures { λ r. ⌜ now (table .exit) ≡ set (now (table .entry)) i x ⌝ }
 {

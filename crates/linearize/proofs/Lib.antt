@@ -1,2 +1,7 @@
-pub mod OperandLaws
-pub mod EntryLaws
+pub mod RanLaws
+pub mod GateLaws
+pub mod BodyLaws
+pub mod CycleLaws
+pub mod StatementLaws
+pub mod ProgramLaws
+pub mod OutcomeLaws

@@ -1,88 +1,336 @@
-// Opens every gate call of an accepted image and works out every angle.
+// Opens every gate call of an accepted image and writes the finished operations.
+use image::CheckAnswer;
+use image::Contents;
 use image::Layout;
-use value::Evaluation;
+use statement::Frame;
 use value::Value;
+use writer::LinearizeError;
+use writer::LinearizeErrorKind;
+use writer::Linearized;
+use writer::Position;
 ghost use mathlib.Core.Path.{_≡_};
-ghost use Prim.Native.Nat.{_<_, _≤_, _^_};
-ghost use Rattle.value.specs.Value.{Sound};
-ghost use Rattle.value.specs.Promise.{EvaluatesTo};
-ghost use Rattle.model.specs.Evaluate.{evaluate};
+ghost use mathlib.Core.List.{[], _∷_, _++_};
+ghost use Prim.Native.Nat.{suc, _+_, _-_, _≤_, _<_};
+ghost use lib.ListN.{length, take};
+ghost use lib.Seq.{sets};
+ghost use Rattle.model.specs.Image.{word, statement, statementAt, gateArguments};
+ghost use Rattle.model.specs.Check.{fine, check};
+ghost use Rattle.model.specs.Records.{Record};
+ghost use Rattle.model.specs.Steps.{write, openGate, visitStatement, visitBody, opening, mainFrame, steps};
+ghost use Rattle.model.proofs.Accepted.{Accepted};
+ghost use Rattle.model.proofs.Facts.{PlainFacts, Facts};
 ghost use Rattle.image.specs.Layout.{Laid};
-ghost use Rattle.linearize.specs.Operands.{OverTwo, OverOne, OverNone, SoundFrame, Formed};
+ghost use Rattle.writer.specs.Promise.{SoundAngles, Open, Wrote};
+ghost use Rattle.statement.specs.Frames.{standing, Stands};
+ghost use Rattle.linearize.specs.Running.{Tabled, Ready, Ran, plainSteps, callOf, Calls, callSteps};
+ghost use Rattle.linearize.specs.Linearizes.{refusedWith, Linearizes};
 
-// The sixteen angles and sixteen qubits that a gate's body has at most.
-pub struct Frame {
-    pub angles: [Value; 16],
-    pub qubits: [u64; 16],
+// A call's pair of trace words: the caller's scope and the place of the call.
+fn mark_call(trace: &mut [u64], at: u64, scope: u64, place: u64)
+    requires { ⌜ at + 1 < length (now trace) ⌝ }
+    ensures { λ _. ⌜ now (trace .exit) ≡ sets (now (trace .entry)) at (scope ∷ place ∷ []) ⌝ }
+{
+    let i = at as usize;
+    trace[i] = scope;
+    trace[i + 1] = place;
 }
 
-// ---- expressions
-
-// The value of an entry of a kind from 0 to 3, which has no operand.
-fn leaf(frame: Frame, kind: u64, a: u64) -> Evaluation
-    requires { ⌜ SoundFrame frame × (kind < 4) × ((kind ≡ 1) → a < 2 ^ 32) × ((kind ≡ 3) → a < 16) ⌝ }
-    ensures { λ r. ⌜ OverNone (frame .angles) kind a r ⌝ }
+// A body with no level left: its gate with its qubits, and no angles.
+fn write_cut(image: &[u64], l: Layout, frame: Frame, g: u64, out: &mut [u64], at: Position) -> Linearized
+    requires { ⌜ Laid (now image) l × SoundAngles (frame .angles) × (length (frame .qubits) ≡ 16) × (g < l .gates) × (gateArguments (now image) g ≤ 16) × Open (now out) at ⌝ }
+    ensures { λ r. ⌜ Wrote (write [] (Record.Opaque g [] (take (gateArguments (now (image .entry)) g) (frame .qubits))) ∷ []) (now (out .entry)) at r (now (out .exit)) ⌝ }
 {
+    let gate = image::gate_at(image, l, g);
+    let angles = frame.angles;
+    let formals = frame.qubits;
+    writer::write_opaque(out, at, g, angles, 0, formals, image::word(image, gate + 1))
+}
+
+// A statement of kind 1, 2, 4, 5 or 6, which opens no gate.
+fn visit_leaf(image: &[u64], l: Layout, qubits: &[u64; 4096], bits: &[u64; 4096], table: &mut [u64; 16368], scope: u64, frame: Frame, s: u64, out: &mut [u64], at: Position) -> Linearized
+    requires { ⌜ Stands (now image) l (now qubits) (now bits) scope (frame .qubits) × SoundAngles (frame .angles) × (s < l .all) × PlainFacts (now image) scope (statement (now image) s) × ¬ (word (now image) (statementAt (now image) s) ≡ 3) × Open (now out) at ⌝ }
+    ensures { λ r. ⌜ Wrote (plainSteps (now (image .entry)) 0 (standing (now (image .entry)) scope (frame .angles) (frame .qubits)) s) (now (out .entry)) at r (now (out .exit)) ⌝ }
+{
+    let place = image::statement_at(image, l, s);
+    let kind = image::word(image, place);
+    let a = image::word(image, place + 1);
+    let b = image::word(image, place + 2);
+    let formals = frame.qubits;
     match kind {
-        0 => Evaluation::Value(Value::pi()),
-        1 => Value::from_float(float::of_bits(a)),
-        2 => Value::int(a),
-        _ => Evaluation::Value(frame.angles[a as usize]),
+        1 => statement::visit_u(image, l, qubits, bits, scope, frame, table, place + 1, image::word(image, place + 4), out, at),
+        2 => statement::visit_cx(image, l, qubits, bits, scope, &formals, a, b, out, at),
+        4 => statement::visit_barrier(image, l, qubits, bits, scope, &formals, a, b, out, at),
+        5 => statement::visit_measure(image, l, qubits, bits, scope, &formals, a, b, out, at),
+        _ => statement::visit_reset(image, l, qubits, bits, scope, &formals, a, out, at),
     }
 }
 
-// The operation of a kind from 4 to 8 on two angles.
-fn binary(kind: u64, x: Value, y: Value) -> Evaluation
-    requires { ⌜ Sound x × Sound y × (4 ≤ kind) × (kind < 9) ⌝ }
-    ensures { λ r. ⌜ OverTwo kind x y r ⌝ }
+// What a call says of itself and of its gate: where the words that name its expressions stand, how many they are, its first argument, how many, and 0 if the gate is opaque.
+pub struct Call {
+    pub place: u64,
+    pub gate: u64,
+    pub named: u64,
+    pub parameters: u64,
+    pub argument: u64,
+    pub arguments: u64,
+    pub body: u64,
+}
+
+// The call that is statement s.
+fn call_at(image: &[u64], l: Layout, s: u64) -> Call
+    requires { ⌜ Laid (now image) l × (s < l .all) × (word (now image) (statementAt (now image) s + 1) < l .gates) × (word (now image) (statementAt (now image) s + 2) ≤ 8192) ⌝ }
+    ensures { λ r. ⌜ r ≡ callOf (now (image .entry)) s ⌝ }
 {
-    match kind {
-        4 => x.checked_add(y),
-        5 => x.checked_sub(y),
-        6 => x.checked_mul(y),
-        7 => x.checked_div(y),
-        _ => x.checked_pow(y),
+    let place = image::statement_at(image, l, s);
+    let gate = image::word(image, place + 1);
+    let at = image::gate_at(image, l, gate);
+    Call {
+        place,
+        gate,
+        named: image::parameter_at(image, l, image::word(image, place + 2)),
+        parameters: image::word(image, at),
+        argument: image::word(image, place + 3),
+        arguments: image::word(image, at + 1),
+        body: image::word(image, at + 2),
     }
 }
 
-// The operation of a kind from 9 to 15 on one angle.
-fn unary(kind: u64, x: Value) -> Evaluation
-    requires { ⌜ Sound x × (9 ≤ kind) × (kind < 16) ⌝ }
-    ensures { λ r. ⌜ OverOne kind x r ⌝ }
+// A position with some words of trace.
+fn at_trace(at: Position, trace: u64) -> Position
+    ensures { λ r. ⌜ r ≡ record { records = at .records; words = at .words; trace = trace } ⌝ }
 {
-    match kind {
-        9 => x.checked_neg(),
-        10 => x.checked_sin(),
-        11 => x.checked_cos(),
-        12 => x.checked_tan(),
-        13 => x.checked_exp(),
-        14 => x.checked_ln(),
-        _ => x.checked_sqrt(),
+    Position {
+        records: at.records,
+        words: at.words,
+        trace,
     }
 }
 
-// The angle of an expression, or why it has none. An operand has a smaller number than its user.
-fn evaluate(image: &[u64], l: Layout, frame: Frame, e: u64) -> Evaluation
-    requires { ⌜ Laid (now image) l × SoundFrame frame × Formed (now image) e ⌝ }
-    ensures { λ r. ⌜ EvaluatesTo (evaluate (now (image .entry)) (frame .angles) 32 e) r ⌝ }
+// A statement that is no conditional.
+fn visit_statement(image: &[u64], l: Layout, qubits: &[u64; 4096], bits: &[u64; 4096], table: &mut [u64; 16368], scope: u64, frame: Frame, s: u64, left: u64, out: &mut [u64], trace: &mut [u64], at: Position) -> Linearized
+    requires { ⌜ Ready (now image) l (now qubits) (now bits) scope frame (now out) (now trace) at × (s < l .all) × PlainFacts (now image) scope (statement (now image) s) ⌝ }
+    ensures { λ r. ⌜ Ran (plainSteps (now (image .entry)) left (standing (now (image .entry)) scope (frame .angles) (frame .qubits)) s) (now (out .entry)) at (now (trace .entry)) r (now (out .exit)) (now (trace .exit)) ⌝ }
 {
-    let at = image::expression_at(image, l, e);
-    let kind = image::word(image, at);
-    let a = image::word(image, at + 1);
-    if kind < 4 {
-        return leaf(frame, kind, a);
+    if image::word(image, image::statement_at(image, l, s)) == 3 {
+        return visit_gate(image, l, qubits, bits, table, scope, frame, s, left, out, trace, at);
     }
-    let left = evaluate(image, l, frame, a);
-    let Evaluation::Value(x) = left else {
-        return left;
-    };
-    if 8 < kind {
-        return unary(kind, x);
+    visit_leaf(image, l, qubits, bits, table, scope, frame, s, out, at)
+}
+
+// A call: its parameters before anything else.
+fn visit_gate(image: &[u64], l: Layout, qubits: &[u64; 4096], bits: &[u64; 4096], table: &mut [u64; 16368], scope: u64, frame: Frame, s: u64, left: u64, out: &mut [u64], trace: &mut [u64], at: Position) -> Linearized
+    requires { ⌜ Ready (now image) l (now qubits) (now bits) scope frame (now out) (now trace) at × (s < l .all) × PlainFacts (now image) scope (statement (now image) s) × (word (now image) (statementAt (now image) s) ≡ 3) ⌝ }
+    ensures { λ r. ⌜ Ran (plainSteps (now (image .entry)) left (standing (now (image .entry)) scope (frame .angles) (frame .qubits)) s) (now (out .entry)) at (now (trace .entry)) r (now (out .exit)) (now (trace .exit)) ⌝ }
+{
+    let call = call_at(image, l, s);
+    let given = frame.angles;
+    let made = expression::parameters(image, l, given, table, call.named, call.parameters, at);
+    let angles = made.angles;
+    let ends = made.ends;
+    match ends {
+        Linearized::Done(now) => visit_rounds(image, l, qubits, bits, table, scope, frame, call, s, angles, left, out, trace, now),
+        Linearized::Refused(e) => Linearized::Refused(e),
     }
-    let b = image::word(image, at + 2);
-    let right = evaluate(image, l, frame, b);
-    let Evaluation::Value(y) = right else {
-        return right;
-    };
-    binary(kind, x, y)
+}
+
+// A call in each round of its arguments, with its angles.
+fn visit_rounds(image: &[u64], l: Layout, qubits: &[u64; 4096], bits: &[u64; 4096], table: &mut [u64; 16368], scope: u64, frame: Frame, call: Call, s: u64, angles: [Value; 16], left: u64, out: &mut [u64], trace: &mut [u64], at: Position) -> Linearized
+    requires { ⌜ Ready (now image) l (now qubits) (now bits) scope frame (now out) (now trace) at × Calls (now image) l scope s call × SoundAngles angles ⌝ }
+    ensures { λ r. ⌜ Ran (callSteps (now (image .entry)) left (standing (now (image .entry)) scope [] (frame .qubits)) s call (take (call .parameters) angles)) (now (out .entry)) at (now (trace .entry)) r (now (out .exit)) (now (trace .exit)) ⌝ }
+{
+    let formals = frame.qubits;
+    if call.body == 0 {
+        return statement::visit_opaque(image, l, qubits, bits, scope, &formals, call.gate, angles, call.parameters, call.argument, call.arguments, out, at);
+    }
+    let n = image::rounds_of(image, l, scope, call.argument, call.arguments);
+    let mut now = at;
+    let mut i = 0u64;
+    while i < n {
+        let q = statement::qubits_in(image, l, qubits, bits, scope, &formals, call.argument, call.arguments, i);
+        let opened = Frame { angles, qubits: q };
+        match open_gate(image, l, qubits, bits, table, opened, call.gate, left, out, trace, at_trace(now, at.trace + 2)) {
+            Linearized::Done(next) => {
+                now = at_trace(next, at.trace);
+            }
+            Linearized::Refused(e) => {
+                mark_call(trace, at.trace, scope, call.place);
+                return Linearized::Refused(e);
+            }
+        }
+        i += 1;
+    }
+    Linearized::Done(now)
+}
+
+// A gate with a body, in the frame of a call: its statements, or the gate itself where no level is left.
+fn open_gate(image: &[u64], l: Layout, qubits: &[u64; 4096], bits: &[u64; 4096], table: &mut [u64; 16368], frame: Frame, g: u64, left: u64, out: &mut [u64], trace: &mut [u64], at: Position) -> Linearized
+    requires { ⌜ Ready (now image) l (now qubits) (now bits) (suc g) frame (now out) (now trace) at × (g < l .gates) ⌝ }
+    ensures { λ r. ⌜ Ran (openGate (now (image .entry)) (opening (now (image .entry)) left) (standing (now (image .entry)) (suc g) (frame .angles) (frame .qubits)) g) (now (out .entry)) at (now (trace .entry)) r (now (out .exit)) (now (trace .exit)) ⌝ }
+{
+    if left == 0 {
+        return write_cut(image, l, frame, g, out, at);
+    }
+    let body = image::statements_of(image, l, g + 1);
+    let first = body.first;
+    let n = body.count;
+    let mut now = at;
+    let mut i = 0u64;
+    while i < n {
+        match visit_statement(image, l, qubits, bits, table, g + 1, frame, first + i, left - 1, out, trace, now) {
+            Linearized::Done(next) => {
+                now = next;
+            }
+            Linearized::Refused(e) => {
+                return Linearized::Refused(e);
+            }
+        }
+        i += 1;
+    }
+    Linearized::Done(now)
+}
+
+// The inner statement of a conditional, and the conditional's end.
+fn visit_held(image: &[u64], l: Layout, qubits: &[u64; 4096], bits: &[u64; 4096], table: &mut [u64; 16368], frame: Frame, t: u64, left: u64, out: &mut [u64], trace: &mut [u64], at: Position) -> Linearized
+    requires { ⌜ Ready (now image) l (now qubits) (now bits) 0 frame (now out) (now trace) at × (t < l .all) × PlainFacts (now image) 0 (statement (now image) t) ⌝ }
+    ensures { λ r. ⌜ Ran (plainSteps (now (image .entry)) left (standing (now (image .entry)) 0 (frame .angles) (frame .qubits)) t ++ write [] Record.ConditionalEnd ∷ []) (now (out .entry)) at (now (trace .entry)) r (now (out .exit)) (now (trace .exit)) ⌝ }
+{
+    match visit_statement(image, l, qubits, bits, table, 0, frame, t, left, out, trace, at) {
+        Linearized::Done(next) => writer::write_conditional_end(out, next),
+        Linearized::Refused(e) => Linearized::Refused(e),
+    }
+}
+
+// A conditional: its start, and what it holds.
+fn visit_conditional(image: &[u64], l: Layout, qubits: &[u64; 4096], bits: &[u64; 4096], table: &mut [u64; 16368], frame: Frame, s: u64, left: u64, out: &mut [u64], trace: &mut [u64], at: Position) -> Linearized
+    requires { ⌜ Ready (now image) l (now qubits) (now bits) 0 frame (now out) (now trace) at × (s < l .all) × Facts (now image) 0 (statement (now image) s) × (word (now image) (statementAt (now image) s) ≡ 7) ⌝ }
+    ensures { λ r. ⌜ Ran (visitStatement (now (image .entry)) (opening (now (image .entry)) left) (standing (now (image .entry)) 0 (frame .angles) (frame .qubits)) s) (now (out .entry)) at (now (trace .entry)) r (now (out .exit)) (now (trace .exit)) ⌝ }
+{
+    let place = image::statement_at(image, l, s);
+    let register = image::word(image, place + 1);
+    let size = image::word(image, 9 + l.quantum + register);
+    let first = bits[register as usize];
+    match writer::write_conditional_start(out, at, first, size, image::word(image, place + 2)) {
+        Linearized::Done(next) => visit_held(image, l, qubits, bits, table, frame, image::word(image, place + 3), left, out, trace, next),
+        Linearized::Refused(e) => Linearized::Refused(e),
+    }
+}
+
+// A main statement.
+fn visit_main(image: &[u64], l: Layout, qubits: &[u64; 4096], bits: &[u64; 4096], table: &mut [u64; 16368], frame: Frame, s: u64, left: u64, out: &mut [u64], trace: &mut [u64], at: Position) -> Linearized
+    requires { ⌜ Ready (now image) l (now qubits) (now bits) 0 frame (now out) (now trace) at × (s < l .all) × Facts (now image) 0 (statement (now image) s) ⌝ }
+    ensures { λ r. ⌜ Ran (visitStatement (now (image .entry)) (opening (now (image .entry)) left) (standing (now (image .entry)) 0 (frame .angles) (frame .qubits)) s) (now (out .entry)) at (now (trace .entry)) r (now (out .exit)) (now (trace .exit)) ⌝ }
+{
+    if image::word(image, image::statement_at(image, l, s)) == 7 {
+        return visit_conditional(image, l, qubits, bits, table, frame, s, left, out, trace, at);
+    }
+    visit_statement(image, l, qubits, bits, table, 0, frame, s, left, out, trace, at)
+}
+
+// Main's frame: main has no variables and no formals.
+fn main_frame() -> Frame
+    ensures { λ r. ⌜ SoundAngles (r .angles) × (length (r .qubits) ≡ 16) ⌝ }
+{
+    let angle = expression::zero();
+    let angles = [angle; 16];
+    let qubits = [0u64; 16];
+    Frame { angles, qubits }
+}
+
+// The main statements in turn, with bodies opened so many levels deep.
+fn visit_program(image: &[u64], l: Layout, qubits: &[u64; 4096], bits: &[u64; 4096], left: u64, out: &mut [u64], trace: &mut [u64], at: Position) -> Linearized
+    requires { ⌜ Tabled (now image) l (now qubits) (now bits) × Open (now out) at × (256 ≤ length (now trace)) × (at .trace ≡ 0) ⌝ }
+    ensures { λ r. ⌜ Ran (visitBody (now (image .entry)) (opening (now (image .entry)) left) mainFrame) (now (out .entry)) at (now (trace .entry)) r (now (out .exit)) (now (trace .exit)) ⌝ }
+{
+    let mut table = [0u64; 16368];
+    let frame = main_frame();
+    let n = l.main;
+    let mut now = at;
+    let mut s = 0u64;
+    while s < n {
+        match visit_main(image, l, qubits, bits, &mut table, frame, s, left, out, trace, now) {
+            Linearized::Done(next) => {
+                now = next;
+            }
+            Linearized::Refused(e) => {
+                return Linearized::Refused(e);
+            }
+        }
+        s += 1;
+    }
+    Linearized::Done(now)
+}
+
+// The levels that are opened at a depth: depths 0 and 1 open none.
+fn levels(depth: u64) -> u64
+    ensures { λ r. ⌜ r ≡ depth - 1 ⌝ }
+{
+    if depth == 0 { 0 } else { depth - 1 }
+}
+
+// Where each register's qubits and bits start, then the main statements.
+fn visit_statements(image: &[u64], l: Layout, left: u64, out: &mut [u64], trace: &mut [u64], at: Position) -> Linearized
+    requires { ⌜ Laid (now image) l × Accepted (now image) × Open (now out) at × (256 ≤ length (now trace)) × (at .trace ≡ 0) ⌝ }
+    ensures { λ r. ⌜ Ran (visitBody (now (image .entry)) (opening (now (image .entry)) left) mainFrame) (now (out .entry)) at (now (trace .entry)) r (now (out .exit)) (now (trace .exit)) ⌝ }
+{
+    let mut qubits = [0u64; 4096];
+    image::first_of_each(image, 9, l.quantum, &mut qubits);
+    let mut bits = [0u64; 4096];
+    image::first_of_each(image, 9 + l.quantum, l.classical, &mut bits);
+    visit_program(image, l, &qubits, &bits, left, out, trace, at)
+}
+
+// The run of an accepted image: the head comes with the first main statement.
+fn run_laid(image: &[u64], l: Layout, depth: u64, out: &mut [u64], trace: &mut [u64], at: Position) -> Linearized
+    requires { ⌜ Laid (now image) l × Accepted (now image) × Open (now out) at × (256 ≤ length (now trace)) × (at .trace ≡ 0) ⌝ }
+    ensures { λ r. ⌜ Ran (steps (now (image .entry)) depth) (now (out .entry)) at (now (trace .entry)) r (now (out .exit)) (now (trace .exit)) ⌝ }
+{
+    if l.main == 0 {
+        return Linearized::Done(at);
+    }
+    match writer::write_head(out, at, image, l) {
+        Linearized::Done(next) => visit_statements(image, l, levels(depth), out, trace, next),
+        Linearized::Refused(e) => Linearized::Refused(e),
+    }
+}
+
+// Nothing is written yet.
+fn start() -> Position
+    ensures { λ r. ⌜ r ≡ record { records = 0; words = 0; trace = 0 } ⌝ }
+{
+    Position {
+        records: 0,
+        words: 0,
+        trace: 0,
+    }
+}
+
+// A refusal before the first record.
+fn refused(kind: LinearizeErrorKind) -> Linearized
+    ensures { λ r. ⌜ r ≡ refusedWith kind ⌝ }
+{
+    Linearized::Refused(LinearizeError { kind, at: start() })
+}
+
+fn run_accepted(image: &[u64], depth: u64, out: &mut [u64], trace: &mut [u64]) -> Linearized
+    requires { ⌜ (check (now image) ≡ fine) × (256 ≤ length (now trace)) ⌝ }
+    ensures { λ r. ⌜ Linearizes (now (image .entry)) depth (now (out .entry)) (now (trace .entry)) r (now (out .exit)) (now (trace .exit)) ⌝ }
+{
+    match image::read_contents(image) {
+        Contents::Right(l) => run_laid(image, l, depth, out, trace, start()),
+        Contents::Wrong => refused(LinearizeErrorKind::ShortTrace),
+    }
+}
+
+// Writes the finished operations of an image at a depth into the output, or says why not; a refusal's calls stand in the trace.
+pub fn run(image: &[u64], depth: u64, out: &mut [u64], trace: &mut [u64]) -> Linearized
+    ensures { λ r. ⌜ Linearizes (now (image .entry)) depth (now (out .entry)) (now (trace .entry)) r (now (out .exit)) (now (trace .exit)) ⌝ }
+{
+    if trace.len() < 256 {
+        return refused(LinearizeErrorKind::ShortTrace);
+    }
+    let verdict = image::check(image);
+    match verdict {
+        CheckAnswer::Accepted => run_accepted(image, depth, out, trace),
+        _ => refused(LinearizeErrorKind::Rejected(verdict)),
+    }
 }

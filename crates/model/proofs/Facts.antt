@@ -1,14 +1,14 @@
 -- What check's acceptance says of each statement: ranges, downward calls, levels and sizes. One law, for every later operation.
-use Prim.Native.Nat.{ℕ, _+_, _≤_, _<_}
+use Prim.Native.Nat.{ℕ, zero, suc, _+_, _≤_, _<_}
 use native.Mathlib.Omega.{arith}
 use mathlib.Core.Path.{_≡_, refl, sym, subst}
 use mathlib.Core.Bool.{Bool, true, false, cond}
 use mathlib.Core.List.{List, [], _∷_, map, List·Memᴰ}
-use lib.Dec.{T, leb, ltb, eqb, leb→le, ltb→lt, eqb→eq}
+use lib.Dec.{T, leb→le, ltb→lt, eqb→eq}
 use Rattle.model.specs.Lists.{range, all}
-use Rattle.model.specs.Image.{Statement, U, CX, Gate, Barrier, Measure, Reset, Conditional, Unknown, statement, expressions, arguments, parameters, gates, mainStatements, allStatements, classicalRegisters, gateParameters, gateArguments, parameter, variables, argumentSize, classicalArgumentSize, scopeStatements}
+use Rattle.model.specs.Image.{Statement, U, CX, Gate, Barrier, Measure, Reset, Conditional, Unknown, statementOf, statement, expressions, arguments, parameters, gates, mainStatements, allStatements, classicalRegisters, gateParameters, gateArguments, parameter, variables, argumentSize, classicalArgumentSize, scopeStatements}
 use Rattle.model.specs.Check.{expressionOk, argumentOk, classicalArgumentOk, downward, matching, plainFlaw, inConditional, conditionalOk, conditionalFlaw, flaw}
-use Rattle.model.proofs.All.{test, members-All}
+use Rattle.model.proofs.All.{All, test, members-All, All-members, range-All}
 use Rattle.model.proofs.Accepted.{Accepted, passes}
 
 module _ (image : List ℕ) where
@@ -92,3 +92,37 @@ module _ (image : List ℕ) where
   pub facts : Accepted image → (scope s : ℕ) → scope ≤ gates image → List·Memᴰ s (scopeStatements image scope) → Facts scope (statement image s)
   unfolding flaw
   facts acc scope s h m = flaw-facts scope s (statement image s) (members-All (acc .flawless scope h) s m)
+
+  -- of a scope's statements that stand in a row
+  pub run-facts : Accepted image → (scope first count i : ℕ) → scope ≤ gates image → scopeStatements image scope ≡ range first count → i < count → Facts scope (statement image (first + i))
+  run-facts acc scope first count i within run h =
+      let each = All-members {P = λ s. Facts scope (statement image s)} (scopeStatements image scope) (λ s m. facts acc scope s within m) in
+      range-All {P = λ s. Facts scope (statement image s)} first count (first + i) (subst (All (λ s. Facts scope (statement image s))) run each) (omega arith) (omega arith)
+
+  -- ---- by a statement's first word
+
+  -- other kinds are no plain statement
+  pub no-kind : (scope kind a b c d : ℕ) → (1 ≤ kind → 7 ≤ kind) → PlainFacts scope (statementOf kind a b c d) → ⊥
+  unfolding statementOf
+  no-kind scope zero a b c d h f = f
+  no-kind scope (suc zero) a b c d h f = absurd (let k = h (omega arith) in omega arith)
+  no-kind scope (suc (suc zero)) a b c d h f = absurd (let k = h (omega arith) in omega arith)
+  no-kind scope (suc (suc (suc zero))) a b c d h f = absurd (let k = h (omega arith) in omega arith)
+  no-kind scope (suc (suc (suc (suc zero)))) a b c d h f = absurd (let k = h (omega arith) in omega arith)
+  no-kind scope (suc (suc (suc (suc (suc zero))))) a b c d h f = absurd (let k = h (omega arith) in omega arith)
+  no-kind scope (suc (suc (suc (suc (suc (suc zero)))))) a b c d h f = absurd (let k = h (omega arith) in omega arith)
+  no-kind scope (suc (suc (suc (suc (suc (suc (suc zero))))))) a b c d h f = f
+  no-kind scope (suc (suc (suc (suc (suc (suc (suc (suc k)))))))) a b c d h f = f
+
+  -- a statement that is no if has the facts of a plain one
+  pub no-if : (scope kind a b c d : ℕ) → ¬ (kind ≡ 7) → Facts scope (statementOf kind a b c d) → PlainFacts scope (statementOf kind a b c d)
+  unfolding statementOf
+  no-if scope zero a b c d h f = f
+  no-if scope (suc zero) a b c d h f = f
+  no-if scope (suc (suc zero)) a b c d h f = f
+  no-if scope (suc (suc (suc zero))) a b c d h f = f
+  no-if scope (suc (suc (suc (suc zero)))) a b c d h f = f
+  no-if scope (suc (suc (suc (suc (suc zero))))) a b c d h f = f
+  no-if scope (suc (suc (suc (suc (suc (suc zero)))))) a b c d h f = f
+  no-if scope (suc (suc (suc (suc (suc (suc (suc zero))))))) a b c d h f = absurd (h refl)
+  no-if scope (suc (suc (suc (suc (suc (suc (suc (suc k)))))))) a b c d h f = f

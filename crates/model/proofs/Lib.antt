@@ -4,6 +4,7 @@ pub mod Sampled
 pub mod Samples
 pub mod All
 pub mod Accepted
+pub mod ListLaws
 pub mod Lengths
 pub mod Ranges
 pub mod Counts

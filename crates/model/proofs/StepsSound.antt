@@ -7,7 +7,7 @@ use mathlib.Core.Bool.{Bool, true, false, not, _||_, cond}
 use mathlib.Core.List.{List, [], _∷_, _++_, map, List·Memᴰ}
 use mathlib.Core.Option.{Option, none, some}
 use borrow.Author.Tests.{eqb-true, eqb-false}
-use lib.Dec.{T, ltb, eqb, leb→le, ltb→lt, lt→ltb, le→leb, eqb→eq}
+use lib.Dec.{T, eqb, leb→le, ltb→lt, lt→ltb, le→leb, eqb→eq}
 use lib.ListN.{length, getD, length-append, length-map}
 use Rattle.value.specs.declared.Value.{Value}
 use Rattle.model.specs.Lists.{range, sum, largest, all}
@@ -86,7 +86,7 @@ index-below sizes n r j i h k l m = omega (arith, sum-below sizes 0 n r h, ap si
     go false e m = let p : ¬ (j ≡ 0) = eqb-false j 0 e in omega arith
 
 -- a round below the largest of sizes that match is below each but 1
-matched : (x n i : ℕ) → T (eqb x 1 || eqb x n) → i < n → ¬ (x ≡ 1) → i < x
+pub matched : (x n i : ℕ) → T (eqb x 1 || eqb x n) → i < n → ¬ (x ≡ 1) → i < x
 matched x n i t h ne = go (eqb x 1) refl t
   where
     go : (b : Bool) → eqb x 1 ≡ b → T (b || eqb x n) → i < x
@@ -100,15 +100,15 @@ guarded false m n e = absurd (omega arith)
 module _ (w : List ℕ) (acc : Accepted w) where
   -- ---- frames
 
-  abbrev Declared : List ℕ → Type 0
+  abbrev pub Declared : List ℕ → Type 0
   Declared qs = All (λ q. T (isQubit w q)) qs
 
   -- a frame of an accepted program: in a body the trace has at most a frame for main and one for each gate above, and the formals' qubits are declared
-  abbrev FrameOk : ℕ → List ℕ → List ℕ → Type 0
+  abbrev pub FrameOk : ℕ → List ℕ → List ℕ → Type 0
   FrameOk zero t qs = length t ≡ 0
   FrameOk (suc g) t qs = (g < gates w) × (length t ≤ 2 * (gates w - g)) × (length qs ≡ gateArguments w g) × Declared qs
 
-  abbrev Ready : Frame → Type 0
+  abbrev pub Ready : Frame → Type 0
   Ready frame = FrameOk (frame .scope) (frame .trace) (frame .qubits)
 
   in-scope : (scope : ℕ) (t qs : List ℕ) → FrameOk scope t qs → (scope ≤ gates w) × (length t ≤ 256)
@@ -130,7 +130,7 @@ module _ (w : List ℕ) (acc : Accepted w) where
 
   -- ---- arguments
 
-  argument : (scope : ℕ) (t qs : List ℕ) (a i : ℕ) → FrameOk scope t qs → T (argumentOk w scope a) → (¬ (argumentSize w scope a ≡ 1) → i < argumentSize w scope a)
+  pub argument : (scope : ℕ) (t qs : List ℕ) (a i : ℕ) → FrameOk scope t qs → T (argumentOk w scope a) → (¬ (argumentSize w scope a ≡ 1) → i < argumentSize w scope a)
       → resolveQreg w scope qs a + cond (eqb (argumentSize w scope a) 1) 0 i < qubits w
   unfolding resolveQreg argumentSize argumentOk firstQubit
   argument zero t qs a i ok h k =
@@ -141,13 +141,13 @@ module _ (w : List ℕ) (acc : Accepted w) where
       let q : getD qs (argumentRegister w a) 0 < qubits w = ltb→lt _ _ (All-getD {P = λ q. T (isQubit w q)} (argumentRegister w a) 0 (omega arith) (ok .3)) in
       omega arith
 
-  bit-below : (c i : ℕ) → T (classicalArgumentOk w c) → (¬ (classicalArgumentSize w c ≡ 1) → i < classicalArgumentSize w c) → bitIn w i c < bits w
+  pub bit-below : (c i : ℕ) → T (classicalArgumentOk w c) → (¬ (classicalArgumentSize w c ≡ 1) → i < classicalArgumentSize w c) → bitIn w i c < bits w
   unfolding bitIn classicalArgumentSize classicalArgumentOk firstBit
   bit-below c i h k =
       let r = ltb→lt _ _ (test 0 _ h) in
       index-below (classicalSize w) (classicalRegisters w) (argumentRegister w c) (argumentIndex w c) i r (acc .csizes _ r) (leb→le _ _ (test 1 _ h)) k
 
-  register-below : (r : ℕ) → r < classicalRegisters w → firstBit w r + classicalSize w r ≤ bits w
+  pub register-below : (r : ℕ) → r < classicalRegisters w → firstBit w r + classicalSize w r ≤ bits w
   unfolding firstBit
   register-below r h = omega (arith, sum-below (classicalSize w) 0 (classicalRegisters w) r h, ap (classicalSize w) (zero-add r))
 
@@ -159,17 +159,17 @@ module _ (w : List ℕ) (acc : Accepted w) where
     bounds : (frame .scope ≤ gates w) × (length (frame .trace) ≤ 256)
     bounds = in-scope (frame .scope) (frame .trace) (frame .qubits) ready
 
-    qubit-below : (a i : ℕ) → T (argumentOk w (frame .scope) a) → (¬ (argumentSize w (frame .scope) a ≡ 1) → i < argumentSize w (frame .scope) a) → T (isQubit w (qubitIn w frame i a))
+    pub qubit-below : (a i : ℕ) → T (argumentOk w (frame .scope) a) → (¬ (argumentSize w (frame .scope) a ≡ 1) → i < argumentSize w (frame .scope) a) → T (isQubit w (qubitIn w frame i a))
     unfolding qubitIn
     qubit-below a i h k = lt→ltb _ _ (argument (frame .scope) (frame .trace) (frame .qubits) a i ready h k)
 
     -- one argument
-    one-below : (a i : ℕ) → T (argumentOk w (frame .scope) a) → i < rounds w (frame .scope) (a ∷ []) → T (isQubit w (qubitIn w frame i a))
+    pub one-below : (a i : ℕ) → T (argumentOk w (frame .scope) a) → i < rounds w (frame .scope) (a ∷ []) → T (isQubit w (qubitIn w frame i a))
     unfolding rounds largest
     one-below a i h k = qubit-below a i h (λ n. omega arith)
 
     -- arguments whose sizes match
-    all-below : (i : ℕ) (al : List ℕ) → All (λ a. T (argumentOk w (frame .scope) a)) al → T (matching (map (argumentSize w (frame .scope)) al))
+    pub all-below : (i : ℕ) (al : List ℕ) → All (λ a. T (argumentOk w (frame .scope) a)) al → T (matching (map (argumentSize w (frame .scope)) al))
         → i < rounds w (frame .scope) al → Declared (map (qubitIn w frame i) al)
     unfolding rounds matching
     all-below i al h m k =
@@ -177,7 +177,7 @@ module _ (w : List ℕ) (acc : Accepted w) where
         All-of (qubitIn w frame i) (All-members al λ a n. qubit-below a i (members-All h a n) (matched _ _ i (members-All sizes a n) k))
 
     -- a whole argument
-    whole-below : (a : ℕ) → T (argumentOk w (frame .scope) a) → Declared (argumentQubits w frame a)
+    pub whole-below : (a : ℕ) → T (argumentOk w (frame .scope) a) → Declared (argumentQubits w frame a)
     unfolding argumentQubits
     whole-below a h = All-of (λ i. qubitIn w frame i a) (All-range 0 (argumentSize w (frame .scope) a) (λ i x y. qubit-below a i h (λ n. omega arith)))
 

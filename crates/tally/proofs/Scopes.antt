@@ -10,13 +10,12 @@ use Rattle.model.specs.Lists.{range, sum}
 use Rattle.model.specs.Image.{Conditional, statement, statementOf, word, gates, mainStatements, statementAt, quantumRegisters, qubits, bits, firstQubit, firstBit, scopeStatements}
 use Rattle.model.specs.Check.{fine, check}
 use Rattle.model.specs.Tally.{plainTally, conditionalTally, statementTally, bodyTally, weightTally}
-use Rattle.model.proofs.All.{All, All-members, range-All}
 use Rattle.model.proofs.Accepted.{accepts}
-use Rattle.model.proofs.Facts.{PlainFacts, Facts, facts}
+use Rattle.model.proofs.Facts.{PlainFacts, Facts, run-facts, no-if}
 use Rattle.image.specs.declared.Layout.{Layout}
 use Rattle.image.proofs.KindLaws.{words-are, if-is}
 use Rattle.tally.specs.Weights.{weightOf, entryOf, cut, opening, Ready}
-use Rattle.tally.proofs.StatementKinds.{no-if, plain-any}
+use Rattle.tally.proofs.StatementKinds.{plain-any}
 
 module _ (image : List ℕ) where
   -- ---- one statement
@@ -46,9 +45,7 @@ module _ (image : List ℕ) where
 
   -- ---- a run of statements
   pub body-facts : check image ≡ fine → (scope first count i : ℕ) → scope ≤ gates image → scopeStatements image scope ≡ range first count → i < count → Facts image scope (statement image (first + i))
-  body-facts ok scope first count i within run h =
-      let each = All-members {P = λ s. Facts image scope (statement image s)} (scopeStatements image scope) (λ s m. facts image (accepts image ok) scope s within m) in
-      range-All {P = λ s. Facts image scope (statement image s)} first count (first + i) (subst (All (λ s. Facts image scope (statement image s))) run each) (omega arith) (omega arith)
+  body-facts ok scope first count i within run h = run-facts image (accepts image ok) scope first count i within run h
 
   pub body-is : (scope first count j n r : ℕ) → scopeStatements image scope ≡ range first count → r ≡ cut (0 + sum (map (statementTally image (weightOf j) (entryOf j) (opening image j n) scope) (range first count))) → r ≡ cut (bodyTally image (weightOf j) (entryOf j) (opening image j n) scope)
   unfolding bodyTally

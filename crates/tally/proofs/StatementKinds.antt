@@ -5,39 +5,13 @@ use mathlib.Core.Path.{_≡_, refl}
 use mathlib.Core.List.{List, map}
 use mathlib.Core.Option.{Option}
 use Rattle.model.specs.Lists.{range, sum}
-use Rattle.model.specs.Image.{Statement, U, CX, Gate, Barrier, Measure, Reset, Conditional, Unknown, statementOf, arguments, allStatements, argumentSize}
+use Rattle.model.specs.Image.{Statement, U, CX, Gate, Barrier, Measure, Reset, Conditional, Unknown, arguments, allStatements, argumentSize}
 use Rattle.model.specs.Tally.{plainTally}
-use Rattle.model.proofs.Facts.{PlainFacts, Facts}
+use Rattle.model.proofs.Facts.{PlainFacts}
 use Rattle.image.specs.declared.Layout.{Layout}
 use Rattle.image.specs.Layout.{Laid}
 
--- other kinds are no plain statement
-pub no-kind : (image : List ℕ) (scope kind a b c d : ℕ) → (1 ≤ kind → 7 ≤ kind) → PlainFacts image scope (statementOf kind a b c d) → ⊥
-unfolding statementOf
-no-kind image scope zero a b c d h f = f
-no-kind image scope (suc zero) a b c d h f = absurd (let k = h (omega arith) in omega arith)
-no-kind image scope (suc (suc zero)) a b c d h f = absurd (let k = h (omega arith) in omega arith)
-no-kind image scope (suc (suc (suc zero))) a b c d h f = absurd (let k = h (omega arith) in omega arith)
-no-kind image scope (suc (suc (suc (suc zero)))) a b c d h f = absurd (let k = h (omega arith) in omega arith)
-no-kind image scope (suc (suc (suc (suc (suc zero))))) a b c d h f = absurd (let k = h (omega arith) in omega arith)
-no-kind image scope (suc (suc (suc (suc (suc (suc zero)))))) a b c d h f = absurd (let k = h (omega arith) in omega arith)
-no-kind image scope (suc (suc (suc (suc (suc (suc (suc zero))))))) a b c d h f = f
-no-kind image scope (suc (suc (suc (suc (suc (suc (suc (suc k)))))))) a b c d h f = f
-
 module _ (image : List ℕ) (scope : ℕ) where
-  -- a statement that is no if has the facts of a plain one
-  pub no-if : (kind a b c d : ℕ) → ¬ (kind ≡ 7) → Facts image scope (statementOf kind a b c d) → PlainFacts image scope (statementOf kind a b c d)
-  unfolding statementOf
-  no-if zero a b c d h f = f
-  no-if (suc zero) a b c d h f = f
-  no-if (suc (suc zero)) a b c d h f = f
-  no-if (suc (suc (suc zero))) a b c d h f = f
-  no-if (suc (suc (suc (suc zero)))) a b c d h f = f
-  no-if (suc (suc (suc (suc (suc zero))))) a b c d h f = f
-  no-if (suc (suc (suc (suc (suc (suc zero)))))) a b c d h f = f
-  no-if (suc (suc (suc (suc (suc (suc (suc zero))))))) a b c d h f = absurd (h refl)
-  no-if (suc (suc (suc (suc (suc (suc (suc (suc k)))))))) a b c d h f = f
-
   -- what a plain statement comes to does not hang on what an if comes to
   pub plain-any : (weight : ℕ → ℕ → ℕ) (entry : ℕ) (v w : ℕ → ℕ) (o : Option (ℕ → ℕ)) (x : Statement) → PlainFacts image scope x → plainTally image weight entry v o scope x ≡ plainTally image weight entry w o scope x
   unfolding plainTally

@@ -6,8 +6,7 @@ ghost use mathlib.Core.Path.{_≡_};
 ghost use mathlib.Core.Bool.{cond};
 ghost use mathlib.Core.List.{[], _∷_, map};
 ghost use lib.Dec.{eqb};
-ghost use lib.ListN.{length, set};
-ghost use Prim.Native.Nat.{suc, _+_, _-_, _*_, _<_, _≤_, _^_, min, max};
+ghost use Prim.Native.Nat.{suc, _+_, _-_, _*_, _<_, _≤_, _^_, min};
 ghost use Rattle.model.specs.Lists.{range, sum, largest};
 ghost use Rattle.model.specs.Image.{word, statement, argumentSize, classicalArgumentSize, rounds, gateArguments, qubits, bits};
 ghost use Rattle.model.specs.Check.{fine, check};
@@ -84,12 +83,6 @@ fn record_figure(rounds: u64, j: u64, kind: u64, words: u64) -> u64
     cut_product(rounds, weight(j, kind, words))
 }
 
-fn larger(a: u64, b: u64) -> u64
-    ensures { λ r. ⌜ r ≡ max a b ⌝ }
-{
-    if a < b { b } else { a }
-}
-
 // ---- statements
 
 // The words of a barrier: 2, and its argument sizes added up. In a body each size is 1.
@@ -128,7 +121,7 @@ fn rounds_of_two(image: &[u64], l: Layout, scope: u64, a: u64, b: u64) -> u64
     requires { ⌜ Laid (now image) l × (a ≤ 8192) × (b ≤ 8192) ⌝ }
     ensures { λ r. ⌜ r ≡ rounds (now (image .entry)) scope (a ∷ b ∷ []) ⌝ }
 {
-    larger(
+    image::larger(
         image::argument_size(image, l, scope, a),
         image::argument_size(image, l, scope, b),
     )
@@ -138,7 +131,7 @@ fn rounds_of_measure(image: &[u64], l: Layout, scope: u64, q: u64, c: u64) -> u6
     requires { ⌜ Laid (now image) l × (q ≤ 8192) × (c ≤ 8192) ⌝ }
     ensures { λ r. ⌜ r ≡ largest (argumentSize (now (image .entry)) scope q ∷ classicalArgumentSize (now (image .entry)) c ∷ []) ⌝ }
 {
-    larger(
+    image::larger(
         image::argument_size(image, l, scope, q),
         image::classical_argument_size(image, l, c),
     )
@@ -278,14 +271,6 @@ fn body_figure(image: &[u64], l: Layout, table: &[u64; 1152], n: u64, scope: u64
     total
 }
 
-// Stores a figure.
-fn put(table: &mut [u64], i: usize, figure: u64)
-    requires { ⌜ i < length (now table) ⌝ }
-    ensures { λ r. ⌜ now (table .exit) ≡ set (now (table .entry)) i figure ⌝ }
-{
-    table[i] = figure;
-}
-
 // The nine figures of gate g's body.
 fn fill_row(image: &[u64], l: Layout, table: &[u64; 1152], n: u64, g: u64, next: &mut [u64; 1152])
     requires { ⌜ Ready (now image) l × Tabled (now image) n (now table) × (g < l .gates) ⌝ }
@@ -295,7 +280,7 @@ fn fill_row(image: &[u64], l: Layout, table: &[u64; 1152], n: u64, g: u64, next:
     while j < 9 {
         let i = (9 * g + j) as usize;
         let figure = body_figure(image, l, table, n, g + 1, j);
-        put(next, i, figure);
+        image::put(next, i, figure);
         j += 1;
     }
 }
@@ -400,10 +385,10 @@ fn nine_figures(image: &[u64], l: Layout, table: &[u64; 1152], n: u64) -> Figure
 fn largest_figure(f: Figures) -> u64
     ensures { λ r. ⌜ r ≡ largest (nineOf f) ⌝ }
 {
-    let most = larger(f.entries, f.words);
-    let most = larger(f.reset, larger(f.conditional, most));
-    let most = larger(f.barrier, larger(f.measure, most));
-    larger(f.u, larger(f.cx, larger(f.opaque, most)))
+    let most = image::larger(f.entries, f.words);
+    let most = image::larger(f.reset, image::larger(f.conditional, most));
+    let most = image::larger(f.barrier, image::larger(f.measure, most));
+    image::larger(f.u, image::larger(f.cx, image::larger(f.opaque, most)))
 }
 
 fn laid_tally(image: &[u64], l: Layout, depth: u64) -> Tallied

@@ -5,10 +5,10 @@ use denote.Ref.{now}
 use borrow.Author.Needs.{needs}
 use Rattle.model.specs.Tally.{plainTally}
 use Rattle.model.specs.Image as Image
-use Rattle.model.proofs.Facts.{PlainFacts}
+use Rattle.model.proofs.Facts.{PlainFacts, no-kind}
 use Rattle.image.proofs.KindLaws.{words-are, u-is, cx-is, gate-is, barrier-is, measure-is, reset-is}
 use Rattle.tally.specs.Weights.{weightOf, cut}
-use Rattle.tally.proofs.StatementKinds.{no-kind, arguments-few}
+use Rattle.tally.proofs.StatementKinds.{arguments-few}
 use Rattle.tally.proofs.plain_figure.Statement.{statement}
 use Rattle.tally.proofs.plain_figure.Tie as tie
 

@@ -1,0 +1,4 @@
+pub mod OperandLaws
+pub mod EntryLaws
+pub mod ParameterLaws
+pub mod TableLaws

@@ -1,0 +1,10 @@
+use mathlib.Core.Path.{refl}
+use Rattle.expression.proofs.ParameterLaws.{zero-sound}
+use Rattle.expression.proofs.zero.Statement.{statement}
+use Rattle.expression.proofs.zero.Tie as tie
+
+returns : tie.Need-returns
+returns c = (refl, zero-sound)
+
+pub zero-spec : {M : Type 1} → statement M
+zero-spec = tie.close (tie.spec returns)

@@ -1,0 +1,148 @@
+-- A body: the frame that a call opens it with, and its statements in turn.
+use Prim.Native.Nat.{ℕ, zero, suc, _+_, _-_, _*_, _≤_, _<_, min}
+use native.Mathlib.Nat.{add-zero, zero-add}
+use native.Mathlib.Omega.{arith}
+use mathlib.Core.Path.{_≡_, refl, sym, ap, ap₂, subst, fun-ext, _∙_}
+use mathlib.Core.List.{List, [], _∷_, _++_, map, flatMap}
+use borrow.Author.Tests.{ne-eqb, eq-eqb}
+use lib.Dec.{T, leb→le}
+use Rattle.model.specs.Check.{gateOk}
+use lib.ListN.{length, take, length-take}
+use Rattle.value.specs.declared.Value.{Value}
+use Rattle.model.specs.Lists.{range}
+use Rattle.model.specs.Image.{Statement, U, CX, Gate, Barrier, Measure, Reset, Conditional, Unknown, statement, statementAt, gates, gateParameters, gateArguments, gateBody, variables, rounds, scopeStatements}
+use Rattle.model.specs.Records.{Record}
+use Rattle.model.specs.Steps.{Frame, Step, write, enter, inRounds, qubitIn, pushFrame, openGate, writeOpaque, visitGate, visitPlain, visitConditional, visitStatement, visitBody, opening}
+use Rattle.model.proofs.All.{All, test, all-All, All-members, range-All}
+use Rattle.model.proofs.Accepted.{Accepted}
+use Rattle.model.proofs.Facts.{PlainFacts, Facts, run-facts}
+use Rattle.model.proofs.StepsSound.{FrameOk, Declared, all-below}
+use Rattle.model.proofs.TraceLaws.{under, opening-under}
+use Rattle.image.specs.declared.Layout.{Layout}
+use Rattle.linearize.specs.declared.Call.{Call}
+use Rattle.statement.specs.Frames.{standing, formalsOf, Stands, Called, QubitsAre}
+use Rattle.linearize.specs.Running.{plainSteps, Calls, callSteps}
+
+-- ---- a round of a call
+
+module _ {image : List ℕ} {l : Layout} {qs bs : List ℕ} {scope : ℕ} {formals : List ℕ} (st : Stands image l qs bs scope formals) {s : ℕ} {call : Call} (c : Calls image l scope s call) where
+  -- what it says of its gate
+  arguments-are : call .arguments ≡ gateArguments image (call .gate)
+  arguments-are = ap (λ (x : Call). x .arguments) (c .told) ∙ sym (ap (λ (x : Call). gateArguments image (x .gate)) (c .told))
+
+  parameters-are : call .parameters ≡ gateParameters image (call .gate)
+  parameters-are = ap (λ (x : Call). x .parameters) (c .told) ∙ sym (ap (λ (x : Call). gateParameters image (x .gate)) (c .told))
+
+  body-is : call .body ≡ gateBody image (call .gate)
+  body-is = ap (λ (x : Call). x .body) (c .told) ∙ sym (ap (λ (x : Call). gateBody image (x .gate)) (c .told))
+
+  place-is : call .place ≡ statementAt image s
+  place-is = ap (λ (x : Call). x .place) (c .told)
+
+  -- the frame that it opens a body with
+  module _ {i : ℕ} {q : List ℕ} (k : QubitsAre image scope formals (call .argument) (call .arguments) i q) where
+    new-qubits : take (gateArguments image (call .gate)) q ≡ map (qubitIn image (standing image scope [] formals) i) (range (call .argument) (call .arguments))
+    new-qubits = ap (λ (n : ℕ). take n q) (sym arguments-are) ∙ k .front
+
+    pub opened-stands : i < rounds image scope (range (call .argument) (call .arguments)) → Stands image l qs bs (suc (call .gate)) q
+    unfolding formalsOf
+    opened-stands h =
+        record {
+          laid = st .laid;
+          accepted = st .accepted;
+          quantum = st .quantum;
+          classical = st .classical;
+          wide = k .full;
+          ready = (
+            omega (arith, c .known, st .laid .gates-is),
+            omega arith,
+            length-take (gateArguments image (call .gate)) q ∙ omega (arith, arguments-are, c .arguments-fit .few, k .full),
+            subst (Declared image (st .accepted)) (sym new-qubits)
+            (all-below image (st .accepted) (standing image scope [] formals) (st .ready) i (range (call .argument) (call .arguments)) (all-All _ _ (c .arguments-fit .each)) (c .arguments-fit .match) h),
+          );
+        }
+
+    -- the round's steps: those of the opened gate under the call's pair of words
+    pub body-round : (left : ℕ) (angles new : List Value) → ¬ (call .body ≡ 0)
+        → map (under (scope ∷ call .place ∷ [])) (openGate image (opening image left) (standing image (suc (call .gate)) new q) (call .gate))
+        ≡ visitGate image (opening image left) (standing image scope angles formals) s (call .gate) (range (call .argument) (call .arguments)) (take (call .parameters) new) i
+    unfolding visitGate pushFrame formalsOf variables qubitIn
+    body-round left angles new h =
+        sym (opening-under (scope ∷ call .place ∷ []) image left (standing image (suc (call .gate)) new q) (call .gate))
+        ∙ rw (ne-eqb (gateBody image (call .gate)) 0 (λ e. h (body-is ∙ e)), new-qubits, parameters-are, place-is) refl
+
+  -- an opaque gate's rounds
+  pub opaque-rounds : (left : ℕ) (angles : List Value) (xs : List Value) → call .body ≡ 0
+      → inRounds (rounds image scope (range (call .argument) (call .arguments))) (writeOpaque image (standing image scope [] formals) (call .gate) (range (call .argument) (call .arguments)) xs)
+      ≡ callSteps image left (standing image scope angles formals) s call xs
+  unfolding visitGate writeOpaque qubitIn
+  opaque-rounds left angles xs h =
+      ap (inRounds (rounds image scope (range (call .argument) (call .arguments)))) (fun-ext λ i. rw (eq-eqb (gateBody image (call .gate)) 0 (sym body-is ∙ h)) refl)
+
+-- ---- statements in turn
+
+-- statements from one on, as rounds
+from-later : (g : ℕ → List Step) (a k n : ℕ) → flatMap g (range (a + k) n) ≡ flatMap (λ i. g (a + i)) (range k n)
+unfolding flatMap range
+from-later g a k zero = refl
+from-later g a k (suc n) =
+    let e : suc (a + k) ≡ a + suc k = omega arith in
+    ap (λ (l : List Step). g (a + k) ++ l) (ap (λ (m : ℕ). flatMap g (range m n)) e ∙ from-later g a (suc k) n)
+
+pub from-first : (g : ℕ → List Step) (a n : ℕ) → flatMap g (range a n) ≡ inRounds n (λ i. g (a + i))
+unfolding inRounds
+from-first g a n = ap (λ (m : ℕ). flatMap g (range m n)) (sym (add-zero a)) ∙ from-later g a 0 n
+
+-- a plain statement does what it does, whatever an if would
+plain-any : (image : List ℕ) (scope : ℕ) (c d : ℕ → ℕ → ℕ → List Step) (left : ℕ) (frame : Frame) (s : ℕ) (x : Statement) → PlainFacts image scope x
+    → visitPlain image c (opening image left) frame s x ≡ visitPlain image d (opening image left) frame s x
+unfolding visitPlain
+plain-any image scope c d left frame s (U p q r t) f = refl
+plain-any image scope c d left frame s (CX a b) f = refl
+plain-any image scope c d left frame s (Gate g p a) f = refl
+plain-any image scope c d left frame s (Barrier a n) f = refl
+plain-any image scope c d left frame s (Measure q b) f = refl
+plain-any image scope c d left frame s (Reset q) f = refl
+plain-any image scope c d left frame s (Conditional r v t) f = absurd f
+plain-any image scope c d left frame s Unknown f = absurd f
+
+pub statement-steps : (image : List ℕ) (scope left : ℕ) (frame : Frame) (s : ℕ) → PlainFacts image scope (statement image s) → plainSteps image left frame s ≡ visitStatement image (opening image left) frame s
+unfolding visitStatement
+statement-steps image scope left frame s f = plain-any image scope _ _ left frame s (statement image s) f
+
+module _ (image : List ℕ) (acc : Accepted image) where
+  no-if-in-bodies : (g : ℕ) (x : Statement) → Facts image (suc g) x → PlainFacts image (suc g) x
+  no-if-in-bodies g (U p q r t) f = f
+  no-if-in-bodies g (CX a b) f = f
+  no-if-in-bodies g (Gate h p a) f = f
+  no-if-in-bodies g (Barrier a n) f = f
+  no-if-in-bodies g (Measure q b) f = f
+  no-if-in-bodies g (Reset q) f = f
+  no-if-in-bodies g (Conditional r v t) f = absurd (let e = f .0 in omega arith)
+  no-if-in-bodies g Unknown f = f
+
+  pub body-facts : (g first count i : ℕ) → g < gates image → scopeStatements image (suc g) ≡ range first count → i < count → PlainFacts image (suc g) (statement image (first + i))
+  body-facts g first count i h run k = no-if-in-bodies g (statement image (first + i)) (run-facts image acc (suc g) first count i h run k)
+
+module _ (image : List ℕ) (g left : ℕ) (angles : List Value) (q : List ℕ) where
+  abbrev opened : Frame
+  opened = standing image (suc g) angles q
+
+  pub cut-steps : left ≡ 0 → _≡_ {A = List Step} (write [] (Record.Opaque g [] (take (gateArguments image g) q)) ∷ []) (openGate image (opening image left) opened g)
+  unfolding openGate opening formalsOf
+  cut-steps e = rw e refl
+
+  abbrev pub bodyStatement : ℕ → ℕ → List Step
+  bodyStatement first i = visitStatement image (opening image (left - 1)) opened (first + i)
+
+  pub open-steps : (first n : ℕ) → ¬ (left ≡ 0) → scopeStatements image (suc g) ≡ range first n → enter [] g ∷ inRounds n (bodyStatement first) ≡ openGate image (opening image left) opened g
+  unfolding openGate opening visitBody
+  open-steps first n h run =
+      let e : suc (left - 1) ≡ left = omega arith in
+      ap (λ (l : List Step). enter [] g ∷ l) (sym (from-first (visitStatement image (opening image (left - 1)) opened) first n))
+      ∙ rw (← run) refl ∙ ap (λ (k : ℕ). openGate image (opening image k) opened g) e
+
+-- a gate has at most 16 arguments
+pub few-arguments : {image : List ℕ} {l : Layout} {qs bs : List ℕ} {g : ℕ} {formals : List ℕ} → Stands image l qs bs (suc g) formals → g < l .gates → gateArguments image g ≤ 16
+unfolding gateOk
+few-arguments {image} {g = g} st h = leb→le (gateArguments image g) 16 (test 1 _ (st .accepted .gateEntry g (omega (arith, h, st .laid .gates-is))))

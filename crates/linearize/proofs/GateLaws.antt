@@ -1,0 +1,118 @@
+-- A call: what the check accepted of it, its frame in a round, and its steps.
+use Prim.Native.Nat.{ℕ, zero, suc, _+_, _*_, _≤_, _<_}
+use native.Mathlib.Nat.{add-zero, zero-add}
+use native.Mathlib.Omega.{arith}
+use mathlib.Core.Path.{_≡_, refl, sym, ap, ap₂, subst, fun-ext, _∙_}
+use mathlib.Core.Bool.{cond}
+use mathlib.Core.List.{List, [], _∷_, _++_, map, flatMap}
+use borrow.Author.Tests.{ne-eqb, eq-eqb}
+use lib.Dec.{T, ltb→lt, leb→le}
+use lib.ListN.{length, take, length-take}
+use Rattle.value.specs.declared.Value.{Value}
+use Rattle.model.specs.Lists.{range, all}
+use Rattle.model.specs.Image.{Statement, Gate, word, statement, statementAt, parameterAt, parameter, parameters, gates, gateParameters, gateArguments, gateBody, variables, rounds, scopeStatements}
+use Rattle.model.specs.Check.{expressionOk, argumentOk, downward, gateOk}
+use Rattle.model.specs.Steps.{Frame, Step, refuse, Refusal, enter, Values, have, lack, given, parameterValues, withValues, inRounds, qubitIn, pushFrame, openGate, writeOpaque, visitGate, visitPlain, visitConditional, visitStatement, visitBody, opening}
+use Rattle.model.proofs.All.{All, nil, cons, test, all-All, All-all, All-of, of-All}
+use Rattle.model.proofs.Accepted.{Accepted}
+use Rattle.model.proofs.Facts.{PlainFacts, Facts, facts}
+use Rattle.model.proofs.StepsSound.{FrameOk, Declared, all-below}
+use Rattle.model.proofs.TraceLaws.{under, opening-under}
+use Rattle.image.specs.declared.Layout.{Layout}
+use Rattle.image.specs.Layout.{Laid}
+use Rattle.image.proofs.KindLaws.{gate-is, words-are}
+use Rattle.linearize.specs.declared.Call.{Call}
+use Rattle.writer.specs.Promise.{SoundAngles}
+use Rattle.statement.specs.Frames.{standing, formalsOf, namedAt, Listed, Stands, Called, QubitsAre}
+use Rattle.linearize.specs.Running.{nested, plainSteps, callOf, Calls, callSteps}
+use Rattle.statement.proofs.GivenLaws.{listed-values}
+
+-- the words of consecutive parameters
+parameters-from : (image : List ℕ) (p k n : ℕ) → map (λ i. word image (parameterAt image p + i)) (range k n) ≡ map (parameter image) (range (p + k) n)
+unfolding range
+parameters-from image p k zero = refl
+parameters-from image p k (suc n) =
+    let e : parameterAt image p + k ≡ parameterAt image (p + k) = omega arith in
+    let f : p + suc k ≡ suc (p + k) = omega arith in
+    ap₂ (λ (x : ℕ) (y : List ℕ). x ∷ y) (ap (word image) e) (parameters-from image p (suc k) n ∙ ap (λ (m : ℕ). map (parameter image) (range m n)) f)
+
+named-is : (image : List ℕ) (p n : ℕ) → namedAt image (parameterAt image p) n ≡ map (parameter image) (range p n)
+named-is image p n = parameters-from image p 0 n ∙ ap (λ (m : ℕ). map (parameter image) (range m n)) (add-zero p)
+
+-- ---- what the check says
+
+module _ {image : List ℕ} {l : Layout} {qs bs : List ℕ} {scope : ℕ} {formals : List ℕ} (st : Stands image l qs bs scope formals) where
+  -- a body has at most 16 variables
+  few-variables : (scope : ℕ) (t q : List ℕ) → FrameOk image (st .accepted) scope t q → variables image scope ≤ 16
+  unfolding variables gateOk
+  few-variables zero t q f = omega arith
+  few-variables (suc g) t q f = leb→le (gateParameters image g) 16 (test 0 _ (st .accepted .gateEntry g (f .0)))
+
+  below : (g : ℕ) → g < gates image → (scope : ℕ) → T (downward image scope g) → g < nested scope
+  unfolding downward
+  below g h zero d = omega (arith, st .accepted .fewGates)
+  below g h (suc k) d = ltb→lt g k d
+
+  module _ (s : ℕ) (is3 : word image (statementAt image s) ≡ 3) where
+    abbrev at : ℕ
+    at = statementAt image s
+
+    abbrev gate : ℕ
+    gate = word image (at + 1)
+
+    pub is-call : statement image s ≡ Gate gate (word image (at + 2)) (word image (at + 3))
+    is-call = words-are image s at _ _ _ _ _ refl refl refl refl refl refl ∙ gate-is _ _ _ _ (word image (at + 4)) is3
+
+    module _ (f : PlainFacts image scope (statement image s)) where
+      abbrev call-facts : PlainFacts image scope (Gate gate (word image (at + 2)) (word image (at + 3)))
+      call-facts = subst (PlainFacts image scope) is-call f
+
+      pub known-gate : (gate < l .gates) × (word image (at + 2) ≤ 8192)
+      known-gate = omega (arith, call-facts .0, call-facts .1, st .laid .gates-is, st .laid .whole, st .laid .short)
+
+      module _ {call : Call} (e : call ≡ callOf image s) where
+        pub calls : Calls image l scope s call
+        unfolding gateOk
+        calls =
+            let ok = st .accepted .gateEntry gate (call-facts .0) in
+            subst (Calls image l scope s) (sym e) (record {
+              told = refl;
+              known = known-gate .0;
+              downward = below gate (call-facts .0) scope (call-facts .3);
+              few = leb→le (gateParameters image gate) 16 (test 0 _ ok);
+              arguments-fit = record {
+                few = leb→le (gateArguments image gate) 16 (test 1 _ ok);
+                listed = omega (arith, call-facts .2, st .laid .arguments-is);
+                each = call-facts .5;
+                match = call-facts .6;
+              };
+            })
+
+        pub named-listed : Listed image (variables image scope) (call .named) (call .parameters)
+        unfolding gateOk
+        named-listed =
+            subst (λ (c : Call). Listed image (variables image scope) (c .named) (c .parameters)) (sym e) (record {
+              few = (leb→le (gateParameters image gate) 16 (test 0 _ (st .accepted .gateEntry gate (call-facts .0))), few-variables scope [] _ (st .ready));
+              near = omega (arith, call-facts .1, st .laid .whole, st .laid .short);
+              each = subst (λ (es : List ℕ). T (all (expressionOk image (variables image scope) 32) es)) (sym (named-is image (word image (at + 2)) (gateParameters image gate)))
+                (All-all _ (All-of (parameter image) (all-All _ _ (call-facts .4))));
+            })
+
+    -- ---- its steps
+
+    module _ {call : Call} (e : call ≡ callOf image s) (left : ℕ) (angles : List Value) where
+      abbrev frame : Frame
+      frame = standing image scope angles formals
+
+      gate-steps : plainSteps image left frame s ≡ withValues image frame (namedAt image (call .named) (call .parameters)) (callSteps image left frame s call)
+      unfolding visitPlain
+      gate-steps = rw (is-call, e, named-is image (word image (at + 2)) (gateParameters image gate)) refl
+
+      module _ (li : Listed image (variables image scope) (call .named) (call .parameters)) where
+        pub gate-given : {xs : List Value} → parameterValues image angles (namedAt image (call .named) (call .parameters)) ≡ have xs → plainSteps image left frame s ≡ callSteps image left frame s call xs
+        unfolding withValues given
+        gate-given h = gate-steps ∙ rw (listed-values image (variables image scope) angles li ∙ h) refl
+
+        pub gate-refused : {x : Refusal} → parameterValues image angles (namedAt image (call .named) (call .parameters)) ≡ lack x → plainSteps image left frame s ≡ refuse [] x ∷ []
+        unfolding withValues given
+        gate-refused h = gate-steps ∙ rw (listed-values image (variables image scope) angles li ∙ h) refl

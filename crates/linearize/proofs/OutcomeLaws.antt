@@ -1,0 +1,136 @@
+-- From the steps that were run to the whole promise.
+use Prim.Native.Nat.{ℕ, _+_, _≤_, _<_}
+use native.Mathlib.Nat.{zero-add}
+use native.Mathlib.Omega.{arith}
+use mathlib.Core.Path.{_≡_, refl, sym, ap, ap₂, subst, _∙_}
+use mathlib.Core.Bool.{Bool, true, false, cond}
+use mathlib.Core.List.{List, [], _∷_, _++_, map, flatMap, List·Memᴰ}
+use borrow.Author.Tests.{le-ltb, lt-ltb}
+use lib.Dec.{T, eqb, ltb}
+use lib.ListN.{length, take, drop}
+use lib.Seq.{sets, sets-eq, take-append-seam}
+use Rattle.model.specs.Lists.{range, sum}
+use Rattle.model.specs.Image.{mainStatements}
+use Rattle.model.specs.Check.{Verdict, fine, bad, check, contentsOk}
+use Rattle.model.specs.Steps.{steps}
+use Rattle.model.specs.Run.{Answer, done, full, traceOf, Played, stop, shortTrace, rejected, accepted, play, runs, output, Outcome, laidOver, outcomeOf, linearize}
+use Rattle.model.specs.Tally.{recordFigure, wordBound}
+use Rattle.model.specs.Reader.{recordsIn}
+use Rattle.model.specs.Claims.{Claims, count, declared, distinct}
+use Rattle.model.proofs.PlayLaws.{plays-all}
+use Rattle.model.proofs.Outcome.{claims}
+use types.Run.{OneOf, miss}
+use denote.Enum.Declared.{tagOf}
+use Rattle.image.proofs.CheckAnswer.{the-type}
+use Rattle.image.specs.declared.CheckAnswer.the-variants as answer
+use Rattle.image.specs.declared.CheckAnswer.{CheckAnswer}
+use Rattle.image.specs.Answer.{verdictOf, numberIn, placeIn}
+use Rattle.writer.specs.declared.Position.{Position}
+use Rattle.writer.specs.declared.LinearizeErrorKind.{LinearizeErrorKind}
+use Rattle.writer.specs.declared.LinearizeErrorKind.the-variants as kind
+use Rattle.writer.specs.declared.LinearizeError.{LinearizeError}
+use Rattle.writer.specs.declared.Linearized.{Linearized}
+use Rattle.writer.specs.declared.Linearized.the-variants as linearized
+use Rattle.writer.specs.Promise.{answerTo, answerOf, positionOf}
+use Rattle.linearize.specs.Running.{Ran}
+use Rattle.linearize.specs.Linearizes as promise
+use Rattle.linearize.specs.Linearizes.{refusedWith, Linearizes}
+
+-- the claims of every run, said of the slices as they are left
+module _ (image : List ℕ) (depth : ℕ) (out trace : List ℕ) {r : Linearized} {out′ trace′ : List ℕ} where
+  pub linearizes : promise.outcomeOf r out′ trace′ ≡ linearize image depth out trace → Linearizes image depth out trace r out′ trace′
+  linearizes e =
+      let c : Claims image depth out trace = claims image depth out trace in
+      let found : Outcome → List (List ℕ) = λ o. recordsIn (take (o .outputWords) (o .outputLeft)) in
+      record {
+        outcome = e;
+        tallied = λ k. subst (λ (o : Outcome). count k (found o) ≤ recordFigure image depth k) (sym e) (c .most k);
+        exactly = λ d k. subst (λ (o : Outcome). o .answer ≡ done → count k (found o) ≡ recordFigure image depth k) (sym e) (λ z. c .exactly z k) d;
+        number = subst (λ (o : Outcome). o .answer ≡ done → o .records ≡ sum (map (recordFigure image depth) (range 1 7)) + recordFigure image depth 7 + cond (eqb (mainStatements image) 0) 0 1) (sym e) (c .number);
+        read = subst (λ (o : Outcome). length (found o) ≡ o .records) (sym e) (c .read);
+        filled = subst (λ (o : Outcome). flatMap (λ x. x) (found o) ≡ take (o .outputWords) (o .outputLeft)) (sym e) (c .filled);
+        bounded = subst (λ (o : Outcome). o .outputWords ≤ wordBound image depth) (sym e) (c .bounded);
+        ample = λ h t. subst (λ (o : Outcome). ¬ (o .answer ≡ full t)) (sym e) (c .ample h t);
+        declares = subst (λ (o : Outcome). (x : List ℕ) → List·Memᴰ x (found o) → T (declared image x)) (sym e) (c .declares);
+        differs = subst (λ (o : Outcome). (x : List ℕ) → List·Memᴰ x (found o) → T (distinct image x)) (sym e) (c .differs);
+      }
+
+-- a refusal's trace is the words that stand in front of the trace
+told-trace : (k : LinearizeErrorKind) (calls : List ℕ) → answerTo k (traceOf (answerTo k calls)) ≡ answerTo k calls
+unfolding traceOf
+told-trace (kind.DivideByZero p) c = refl
+told-trace (kind.ApproximateFail p f) c = refl
+told-trace (kind.NumericalOverflow p) c = refl
+told-trace (kind.OverlappingRegs p q) c = refl
+told-trace (kind.FunctionOfFloats p) c = refl
+told-trace kind.OutputFull c = refl
+told-trace (kind.Rejected v) c = refl
+told-trace kind.ShortTrace c = refl
+
+told : (r : Linearized) (calls : List ℕ) → answerOf r (traceOf (answerOf r calls)) ≡ answerOf r calls
+unfolding traceOf
+told (linearized.Done p) c = refl
+told (linearized.Refused e) c = told-trace (e .kind) c
+
+module _ (image : List ℕ) (depth : ℕ) (out trace : List ℕ) where
+  -- an accepted image plays its steps
+  plays-steps : check image ≡ fine → 256 ≤ length trace → runs image depth (length out) (length trace) ≡ play (length out) (steps image depth)
+  unfolding runs accepted
+  plays-steps e h = rw (le-ltb (length trace) 256 h, e) refl
+
+  pub accepted-run : {r : Linearized} {out′ trace′ : List ℕ} {at : Position} → check image ≡ fine → 256 ≤ length trace → at ≡ record { records = 0; words = 0; trace = 0 } → Ran (steps image depth) out at trace r out′ trace′
+      → Linearizes image depth out trace r out′ trace′
+  unfolding linearize
+  accepted-run {r} {out′} {trace′} {at} e h z w =
+      let v : Ran (steps image depth) out (record { records = 0; words = 0; trace = 0 }) trace r out′ trace′ = rw z at w in
+      let p = plays-all (steps image depth) (v .plays) in
+      let x = runs image depth (length out) (length trace) in
+      let same = plays-steps e h in
+      let answers : answerOf r (v .calls) ≡ x .answer = p .0 ∙ ap (λ (y : Played). y .answer) (sym same) in
+      let t : List ℕ = traceOf (answerOf r (v .calls)) in
+      let short : 0 + length t ≤ length trace = omega (arith, claims image depth out trace .traces, ap (λ (a : Answer). length (traceOf a)) answers) in
+      let left : trace′ ≡ laidOver t trace = v .tracing ∙ sets-eq t trace 0 short ∙ ap (λ (n : ℕ). t ++ drop n trace) (zero-add (length t)) in
+      let count : positionOf r .trace ≡ length t = v .level ∙ zero-add (length t) in
+      let front : take (positionOf r .trace) trace′ ≡ t = ap₂ take count left ∙ take-append-seam t (drop (length t) trace) in
+      let answer : answerOf r (take (positionOf r .trace) trace′) ≡ x .answer = ap (answerOf r) front ∙ told r (v .calls) ∙ answers in
+      linearizes image depth out trace λ i. record {
+        answer = answer i;
+        records = (p .1 ∙ ap (λ (y : Played). length (y .written)) (sym same)) i;
+        outputWords = (p .2 ∙ ap (λ (y : Played). length (output y)) (sym same)) i;
+        traceWords = (count ∙ ap (λ (a : Answer). length (traceOf a)) answers) i;
+        outputLeft = (p .3 ∙ ap (λ (y : Played). laidOver (output y) out) (sym same)) i;
+        traceLeft = (left ∙ ap (λ (a : Answer). laidOver (traceOf a) trace) answers) i;
+      }
+
+  -- a refusal before the first record
+  pub short-trace : length trace < 256 → Linearizes image depth out trace (refusedWith kind.ShortTrace) out trace
+  unfolding linearize runs output flatMap traceOf
+  short-trace h = linearizes image depth out trace (sym (rw (lt-ltb (length trace) 256 h) refl))
+
+  pub not-accepted : {c : CheckAnswer} → 256 ≤ length trace → verdictOf c ≡ check image → ¬ (verdictOf c ≡ fine) → Linearizes image depth out trace (refusedWith (kind.Rejected c)) out trace
+  unfolding linearize runs accepted output flatMap traceOf
+  not-accepted {c} h e n = linearizes image depth out trace (sym (rw (le-ltb (length trace) 256 h, ← e) (go (verdictOf c) n)))
+    where
+      go : (v : Verdict) → ¬ (v ≡ fine) → outcomeOf (accepted v (play (length out) (steps image depth))) out trace ≡ record { answer = rejected (numberIn v) (placeIn v); records = 0; outputWords = 0; traceWords = 0; outputLeft = out; traceLeft = trace }
+      go fine n = absurd (n refl)
+      go (bad k p) n = refl
+
+-- an accepted image's contents add up
+pub contents-right : (image : List ℕ) → check image ≡ fine → contentsOk image ≡ false → ⊥
+unfolding check
+contents-right image ok wrong = let e : bad 1 0 ≡ fine = rw wrong at ok in let z : _≡_ {A = ℕ} 0 1 = cc in omega arith
+
+-- an answer other than Accepted
+bad-is-not-fine : {n p : ℕ} → ¬ (bad n p ≡ fine)
+bad-is-not-fine e = let z : _≡_ {A = ℕ} 0 1 = cc in omega arith
+
+pub not-fine : (v : CheckAnswer) → OneOf (1 ∷ 2 ∷ 3 ∷ 4 ∷ 5 ∷ 6 ∷ 7 ∷ 8 ∷ []) (tagOf the-type v) → ¬ (verdictOf v ≡ fine)
+not-fine answer.Accepted k e = absurd (miss (1 ∷ 2 ∷ 3 ∷ 4 ∷ 5 ∷ 6 ∷ 7 ∷ 8 ∷ []) 0 tt k)
+not-fine answer.Contents k e = bad-is-not-fine e
+not-fine (answer.Register p) k e = bad-is-not-fine e
+not-fine (answer.GateEntry p) k e = bad-is-not-fine e
+not-fine (answer.Form p) k e = bad-is-not-fine e
+not-fine (answer.Argument p) k e = bad-is-not-fine e
+not-fine (answer.Expression p) k e = bad-is-not-fine e
+not-fine (answer.Sizes p) k e = bad-is-not-fine e
+not-fine (answer.Upward p) k e = bad-is-not-fine e

@@ -1,0 +1,138 @@
+-- Main: conditionals, the statements in turn, and the head before them.
+use Prim.Native.Nat.{ℕ, zero, suc, _+_, _-_, _≤_, _<_, zero-le}
+use native.Mathlib.Nat.{zero-add}
+use native.Mathlib.Omega.{arith}
+use mathlib.Core.Path.{_≡_, refl, sym, ap, ap₂, subst, _∙_}
+use mathlib.Core.Bool.{true, false, cond}
+use mathlib.Core.List.{List, [], _∷_, _++_, map}
+use borrow.Author.Tests.{eq-eqb, ne-eqb}
+use lib.ListN.{length, getD}
+use Rattle.value.specs.declared.Value.{Value}
+use Rattle.value.specs.Value.{Sound}
+use Rattle.model.specs.Lists.{range, sum}
+use Rattle.model.specs.Image.{Statement, Conditional, word, quantumRegisters, quantumSize, firstQubit, statement, statementAt, mainStatements, classicalRegisters, classicalSize, firstBit, variables, scopeStatements}
+use Rattle.model.specs.Records.{Record}
+use Rattle.model.specs.Steps.{Step, write, inRounds, visitPlain, visitConditional, visitStatement, visitBody, opening, mainFrame, headRecord, steps}
+use Rattle.model.specs.Evaluate.{zeroValue}
+use Rattle.model.proofs.All.{All, nil, cons, All-getD}
+use Rattle.model.proofs.Facts.{PlainFacts, Facts, no-if, run-facts}
+use Rattle.model.specs.Run.{play}
+use Rattle.model.proofs.PlayLaws.{plays-stop}
+use Rattle.model.proofs.Accepted.{Accepted}
+use Rattle.image.specs.declared.Layout.{Layout}
+use Rattle.image.specs.Layout.{Laid}
+use Rattle.image.specs.Firsts.{Firsts}
+use Rattle.writer.specs.declared.Linearized.{Linearized}
+use Rattle.writer.specs.declared.Linearized.the-variants as linearized
+use Rattle.statement.proofs.LoopLaws.{wrote-open}
+use Rattle.image.proofs.KindLaws.{if-is, words-are}
+use Rattle.statement.specs.Frames.{standing, formalsOf, Stands}
+use Rattle.statement.specs.declared.Frame.{Frame}
+use Rattle.writer.specs.declared.Position.{Position}
+use Rattle.writer.specs.Promise.{Open, Wrote, SoundAngles}
+use Rattle.linearize.specs.Running.{Tabled, Ready, plainSteps}
+use Rattle.statement.proofs.ArgumentLaws.{few-classical, count-sum}
+use Rattle.linearize.proofs.BodyLaws.{statement-steps}
+
+-- ---- a main statement by its kind
+
+module _ (image : List ℕ) (s : ℕ) where
+
+  is-if : word image (statementAt image s) ≡ 7 → statement image s ≡ Conditional (word image (statementAt image s + 1)) (word image (statementAt image s + 2)) (word image (statementAt image s + 3))
+  is-if e = words-are image s (statementAt image s) _ _ _ _ _ refl refl refl refl refl refl ∙ if-is _ _ _ _ (word image (statementAt image s + 4)) e
+
+  pub if-facts : word image (statementAt image s) ≡ 7 → Facts image 0 (statement image s) → Facts image 0 (Conditional (word image (statementAt image s + 1)) (word image (statementAt image s + 2)) (word image (statementAt image s + 3)))
+  if-facts e f = subst (Facts image 0) (is-if e) f
+
+  pub plain-in-main : ¬ (word image (statementAt image s) ≡ 7) → Facts image 0 (statement image s) → PlainFacts image 0 (statement image s)
+  plain-in-main h f =
+      let p = statementAt image s in
+      let e = words-are image s p (word image p) (word image (p + 1)) (word image (p + 2)) (word image (p + 3)) (word image (p + 4)) refl refl refl refl refl refl in
+      subst (PlainFacts image 0) (sym e) (no-if image 0 (word image p) (word image (p + 1)) (word image (p + 2)) (word image (p + 3)) (word image (p + 4)) h (subst (Facts image 0) e f))
+
+  -- a conditional's steps: its start, what it holds, its end
+  module _ {l : Layout} {qs bs formals : List ℕ} (st : Stands image l qs bs 0 formals) (e : word image (statementAt image s) ≡ 7) (f : Facts image 0 (statement image s))
+      {p r t v : ℕ} (ep : p ≡ statementAt image s) (er : r ≡ word image (p + 1)) (ev : v ≡ word image (p + 2)) (et : t ≡ word image (p + 3)) where
+    register-is : r ≡ word image (statementAt image s + 1)
+    register-is = er ∙ ap (λ (n : ℕ). word image (n + 1)) ep
+
+    pub register-listed : r < 4096
+    register-listed = omega (arith, if-facts e f .1, few-classical st, register-is)
+
+    pub held-listed : (t < l .all) × PlainFacts image 0 (statement image t)
+    held-listed =
+        let h : t ≡ word image (statementAt image s + 3) = et ∙ ap (λ (n : ℕ). word image (n + 3)) ep in
+        (omega (arith, if-facts e f .3, h, st .laid .all-is), subst (λ (n : ℕ). PlainFacts image 0 (statement image n)) (sym h) (if-facts e f .5))
+
+    pub conditional-steps : (left : ℕ) (angles : List Value) {first size : ℕ} → first ≡ getD bs r 0 → {q : ℕ} → size ≡ word image (9 + q + r) → q ≡ l .quantum
+        → (write [] (Record.ConditionalStart first size v) ∷ []) ++ (plainSteps image left (standing image 0 angles formals) t ++ write [] Record.ConditionalEnd ∷ [])
+        ≡ visitStatement image (opening image left) (standing image 0 angles formals) s
+    unfolding visitStatement visitPlain visitConditional firstBit
+    conditional-steps left angles {first} {size} ef {q} ez eq =
+        let a : first ≡ firstBit image (word image (statementAt image s + 1)) = ef ∙ ap (λ (n : ℕ). getD bs n 0) register-is ∙ st .classical .each _ (if-facts e f .1) in
+        let b : size ≡ classicalSize image (word image (statementAt image s + 1)) = ez ∙ ap₂ (λ (m n : ℕ). word image (9 + m + n)) (eq ∙ st .laid .quantum-is) register-is in
+        let c : v ≡ word image (statementAt image s + 2) = ev ∙ ap (λ (n : ℕ). word image (n + 2)) ep in
+        let d : t ≡ word image (statementAt image s + 3) = et ∙ ap (λ (n : ℕ). word image (n + 3)) ep in
+        sym (rw (is-if e, ← a, ← b, ← c, ← d) refl)
+
+-- ---- the statements of main
+
+module _ {image : List ℕ} {l : Layout} {qs bs : List ℕ} (tb : Tabled image l qs bs) where
+  pub main-stands : {formals : List ℕ} → length formals ≡ 16 → Stands image l qs bs 0 formals
+  main-stands h = record { laid = tb .laid; accepted = tb .accepted; quantum = tb .quantum; classical = tb .classical; wide = h; ready = refl }
+
+pub main-steps : (image : List ℕ) (left : ℕ) (angles : List Value) (formals : List ℕ) {n : ℕ} → n ≡ mainStatements image
+    → inRounds n (visitStatement image (opening image left) (standing image 0 angles formals)) ≡ visitBody image (opening image left) mainFrame
+unfolding visitBody scopeStatements inRounds variables formalsOf
+main-steps image left angles formals e = rw e refl
+
+-- ---- the program
+
+pub no-steps : (image : List ℕ) (depth : ℕ) {n : ℕ} → n ≡ mainStatements image → n ≡ 0 → [] ≡ steps image depth
+unfolding steps
+no-steps image depth e h = sym (rw (eq-eqb (mainStatements image) 0 (sym e ∙ h)) refl)
+
+pub head-steps : (image : List ℕ) (depth : ℕ) {n left : ℕ} → n ≡ mainStatements image → ¬ (n ≡ 0) → left ≡ depth - 1
+    → (write [] (headRecord image) ∷ []) ++ visitBody image (opening image left) mainFrame ≡ steps image depth
+unfolding steps
+head-steps image depth e h d = sym (rw (ne-eqb (mainStatements image) 0 (λ z. h (e ∙ z)), ← d) refl)
+
+-- sixteen angles of 0
+pub sound-zeros : {x : Value} → Sound x → SoundAngles (x ∷ x ∷ x ∷ x ∷ x ∷ x ∷ x ∷ x ∷ x ∷ x ∷ x ∷ x ∷ x ∷ x ∷ x ∷ x ∷ [])
+sound-zeros h = record { full = refl; each = λ i k. All-getD {P = Sound} i zeroValue k (cons h (cons h (cons h (cons h (cons h (cons h (cons h (cons h (cons h (cons h (cons h (cons h (cons h (cons h (cons h (cons h nil)))))))))))))))) }
+
+-- where main's statements are run
+pub main-ready : {image : List ℕ} {l : Layout} {qs bs : List ℕ} {frame : Frame} {out trace : List ℕ} {at : Position} → Tabled image l qs bs → length (frame .qubits) ≡ 16 → SoundAngles (frame .angles) → Open out at → 256 ≤ length trace → at .trace ≡ 0
+    → Ready image l qs bs 0 frame out trace at
+main-ready t h a o r z = record { stands = main-stands t h; angles = a; opens = o; room = r; deep = omega arith }
+
+pub main-facts : {image : List ℕ} {l : Layout} {qs bs : List ℕ} {s : ℕ} → Tabled image l qs bs → s < l .main → Facts image 0 (statement image s)
+unfolding scopeStatements
+main-facts {image} {s = s} t h =
+    subst (λ (n : ℕ). Facts image 0 (statement image n)) (zero-add s) (run-facts image (t .accepted) 0 0 (mainStatements image) s zero-le refl (omega (arith, h, t .laid .main-is)))
+
+-- ---- the tables of where registers start
+
+module _ {image : List ℕ} {l : Layout} (laid : Laid image l) (acc : Accepted image) where
+  pub quantum-fits : (l .quantum ≤ 4096) × (sum (map (λ i. word image (9 + i)) (range 0 (l .quantum))) ≤ 4096)
+  unfolding firstQubit
+  quantum-fits =
+      rw (laid .quantum-is) (omega (arith, count-sum (quantumSize image) 0 (quantumRegisters image) (λ r p q. acc .qsizes r (omega arith)), acc .fewQubits), acc .fewQubits)
+
+  pub classical-fits : (9 + l .quantum ≤ 16384) × (l .classical ≤ 4096) × (sum (map (λ i. word image (9 + l .quantum + i)) (range 0 (l .classical))) ≤ 4096)
+  unfolding firstBit
+  classical-fits =
+      rw (laid .quantum-is, laid .classical-is) (omega (arith, laid .whole, laid .short), omega (arith, count-sum (classicalSize image) 0 (classicalRegisters image) (λ r p q. acc .csizes r (omega arith)), acc .fewBits), acc .fewBits)
+
+  pub tabled : {qs bs : List ℕ} → Firsts (λ i. word image (9 + i)) (l .quantum) qs → Firsts (λ i. word image (9 + l .quantum + i)) (l .classical) bs → Tabled image l qs bs
+  tabled {qs} {bs} q b = record { laid = laid; accepted = acc; quantum = rw (laid .quantum-is) at q; classical = rw (laid .quantum-is, laid .classical-is) at b }
+
+-- nothing to do
+pub wrote-nothing : {out : List ℕ} {at : Position} → Open out at → Wrote [] out at (linearized.Done at) out
+unfolding play
+wrote-nothing o = record { plays = plays-stop [] (o .inside) refl; level = refl }
+
+pub open-after : {ss : List Step} {out out′ : List ℕ} {at p : Position} {r : Linearized} → Open out at → Wrote ss out at r out′ → r ≡ linearized.Done p → Open out′ p × (p .trace ≡ at .trace)
+open-after {ss} {out} {out′} {at} {p} o w e =
+    let v : Wrote ss out at (linearized.Done p) out′ = rw e at w in
+    (wrote-open o v, v .level)

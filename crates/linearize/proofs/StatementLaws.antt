@@ -1,0 +1,169 @@
+-- What a statement, a call and a gate are by their words, and what a statement does that opens no gate.
+use Prim.Native.Nat.{ℕ, zero, suc, _+_, _≤_, _<_}
+use native.Mathlib.Omega.{arith}
+use mathlib.Core.Path.{_≡_, refl, sym, ap, subst, _∙_}
+use mathlib.Core.Bool.{Bool, true, false}
+use mathlib.Core.List.{List, [], _∷_, flatMap}
+use borrow.Author.Tests.{eqb-false}
+use lib.Dec.{T, eqb, leb→le, eqb→eq}
+use lib.ListN.{take}
+use Rattle.value.specs.declared.Value.{Value}
+use Rattle.model.specs.Lists.{range, largest, all, rising}
+use Rattle.model.specs.Image.{Statement, U, CX, Barrier, Measure, Reset, statementOf, word, statement, statementAt, gateAt, parameterAt, gateParameters, variables, rounds, argumentSize, classicalArgumentSize}
+use Rattle.model.specs.Check.{gateOk, expressionOk, argumentOk, classicalArgumentOk, matching}
+use Rattle.model.specs.Records.{Record}
+use Rattle.model.specs.Steps.{write, inRounds, withValues, qubitIn, argumentQubits, writeU, writeCX, writeMeasure, writeReset, visitPlain}
+use Rattle.model.proofs.All.{test}
+use Rattle.model.proofs.Accepted.{Accepted}
+use Rattle.model.proofs.StepsSound.{FrameOk}
+use Rattle.model.proofs.Facts.{PlainFacts, no-kind}
+use Rattle.image.specs.declared.Layout.{Layout}
+use Rattle.image.specs.Layout.{Laid}
+use Rattle.image.proofs.KindLaws.{u-is, cx-is, barrier-is, measure-is, reset-is, words-are}
+use Rattle.writer.specs.declared.Position.{Position}
+use Rattle.writer.specs.declared.Linearized.{Linearized}
+use Rattle.linearize.specs.declared.Call.{Call}
+use Rattle.writer.specs.Promise.{Wrote}
+use Rattle.statement.specs.Frames.{standing, Stands, namedAt, Listed}
+use Rattle.linearize.specs.Running.{plainSteps, callOf}
+
+-- ---- kinds
+
+-- a plain statement of no kind below 6 is a reset
+only-reset : (image : List ℕ) (scope kind a b c d : ℕ) → ¬ (kind ≡ 1) → ¬ (kind ≡ 2) → ¬ (kind ≡ 3) → ¬ (kind ≡ 4) → ¬ (kind ≡ 5) → PlainFacts image scope (statementOf kind a b c d) → kind ≡ 6
+only-reset image scope kind a b c d n1 n2 n3 n4 n5 f = go (eqb kind 6) refl
+  where
+    go : (t : Bool) → eqb kind 6 ≡ t → kind ≡ 6
+    go true e = eqb→eq kind 6 (subst T (sym e) tt)
+    go false e = let n6 = eqb-false kind 6 e in absurd (no-kind image scope kind a b c d (λ h. omega arith) f)
+
+-- ---- words
+
+-- a word read behind a place that is known
+pub read-at : (image : List ℕ) (n : ℕ) {p q r : ℕ} → p ≡ q → r ≡ word image (p + n) → r ≡ word image (q + n)
+read-at image n e f = f ∙ ap (λ (p : ℕ). word image (p + n)) e
+
+-- a call's gate, where the place of the call is known
+pub known-gate : (image : List ℕ) {p q g n : ℕ} → p ≡ q → g ≡ word image (p + 1) → word image (q + 1) < n → g < n
+known-gate image {p} {q} {g} {n} e f h = subst (λ (x : ℕ). x < n) (sym (read-at image 1 e f)) h
+
+-- an entry ends within the image
+module _ {image : List ℕ} {l : Layout} (laid : Laid image l) where
+  pub near-statement : (s : ℕ) {p : ℕ} → s < l .all → p ≡ statementAt image s → p + 5 ≤ 8192
+  near-statement s h e = omega (arith, laid .all-is, laid .whole, laid .short)
+
+  pub near-gate : (g : ℕ) {at : ℕ} → g < l .gates → at ≡ gateAt image g → at + 5 ≤ 8192
+  near-gate g h e = omega (arith, laid .gates-is, laid .whole, laid .short)
+
+pub call-is : (image : List ℕ) (s : ℕ) {p g at i n k a m b : ℕ} → p ≡ statementAt image s → g ≡ word image (p + 1) → at ≡ gateAt image g → i ≡ word image (p + 2) → n ≡ parameterAt image i → k ≡ word image at → a ≡ word image (p + 3)
+    → m ≡ word image (at + 1) → b ≡ word image (at + 2) → _≡_ {A = Call} (record { place = p; gate = g; named = n; parameters = k; argument = a; arguments = m; body = b }) (callOf image s)
+call-is image s ep eg eat ei en ek ea em eb =
+    let g = read-at image 1 ep eg in
+    let at = eat ∙ ap (gateAt image) g in
+    let named = en ∙ ap (parameterAt image) (read-at image 2 ep ei) in
+    let parameters = ek ∙ ap (word image) at in
+    let argument = read-at image 3 ep ea in
+    let arguments = read-at image 1 at em in
+    let body = read-at image 2 at eb in
+    λ x. record { place = ep x; gate = g x; named = named x; parameters = parameters x; argument = argument x; arguments = arguments x; body = body x }
+
+-- a gate that is not opened, with the number of its qubits
+pub cut-is : (g : ℕ) (qubits : List ℕ) {m n : ℕ} {out out′ : List ℕ} {at : Position} {r : Linearized} → m ≡ n → Wrote (write [] (Record.Opaque g [] (take m qubits)) ∷ []) out at r out′ → Wrote (write [] (Record.Opaque g [] (take n qubits)) ∷ []) out at r out′
+cut-is g qubits {m} {n} {out} {out′} {at} {r} e w = subst (λ (k : ℕ). Wrote (write [] (Record.Opaque g [] (take k qubits)) ∷ []) out at r out′) e w
+
+-- ---- angles of a U
+
+few-variables : (image : List ℕ) (acc : Accepted image) (scope : ℕ) (qs : List ℕ) → FrameOk image acc scope [] qs → variables image scope ≤ 16
+unfolding variables gateOk
+few-variables image acc zero qs f = omega arith
+few-variables image acc (suc g) qs f = leb→le (gateParameters image g) 16 (test 0 _ (acc .gateEntry g (f .0)))
+
+three : (image : List ℕ) (p : ℕ) → namedAt image (p + 1) 3 ≡ word image (p + 1) ∷ word image (p + 2) ∷ word image (p + 3) ∷ []
+unfolding range
+three image p =
+    let a : p + 1 + 0 ≡ p + 1 = omega arith in
+    let b : p + 1 + 1 ≡ p + 2 = omega arith in
+    let c : p + 1 + 2 ≡ p + 3 = omega arith in
+    λ i. word image (a i) ∷ word image (b i) ∷ word image (c i) ∷ []
+
+-- ---- a statement that opens no gate, by its first words
+
+module _ {image : List ℕ} {l : Layout} {qs bs : List ℕ} {scope : ℕ} {formals : List ℕ} (st : Stands image l qs bs scope formals) (s : ℕ) {p k a b : ℕ}
+    (ep : p ≡ statementAt image s) (ek : k ≡ word image p) (ea : a ≡ word image (p + 1)) (eb : b ≡ word image (p + 2)) (f : PlainFacts image scope (statement image s)) where
+  known : {x : Statement} → statement image s ≡ x → PlainFacts image scope x
+  known e = subst (PlainFacts image scope) e f
+
+  listed : {x n : ℕ} → x < n → l .arguments ≡ n → x < l .arguments
+  listed h e = omega arith
+
+  u-statement : {q : ℕ} → k ≡ 1 → q ≡ word image (p + 4) → statement image s ≡ U (word image (p + 1)) (word image (p + 2)) (word image (p + 3)) q
+  u-statement e eq = words-are image s p k _ _ _ _ ep ek refl refl refl eq ∙ u-is k _ _ _ _ e
+
+  cx-statement : k ≡ 2 → statement image s ≡ CX a b
+  cx-statement e = words-are image s p k a b _ _ ep ek ea eb refl refl ∙ cx-is k a b _ _ e
+
+  barrier-statement : k ≡ 4 → statement image s ≡ Barrier a b
+  barrier-statement e = words-are image s p k a b _ _ ep ek ea eb refl refl ∙ barrier-is k a b _ _ e
+
+  measure-statement : k ≡ 5 → statement image s ≡ Measure a b
+  measure-statement e = words-are image s p k a b _ _ ep ek ea eb refl refl ∙ measure-is k a b _ _ e
+
+  reset-statement : ¬ (k ≡ 1) → ¬ (k ≡ 2) → ¬ (word image (statementAt image s) ≡ 3) → ¬ (k ≡ 4) → ¬ (k ≡ 5) → statement image s ≡ Reset a
+  reset-statement n1 n2 n3 n4 n5 =
+      let w = words-are image s p k a b _ _ ep ek ea eb refl refl in
+      w ∙ reset-is k a b _ _ (only-reset image scope k a b _ _ n1 n2 (λ e. n3 (sym (ek ∙ ap (word image) ep) ∙ e)) n4 n5 (known w))
+
+  -- what its acceptance says
+
+  pub u-needs : {q : ℕ} → s < l .all → k ≡ 1 → q ≡ word image (p + 4) → Listed image (variables image scope) (p + 1) 3 × (q < l .arguments) × T (argumentOk image scope q)
+  u-needs h e eq =
+      let g = known (u-statement e eq) in (
+        record {
+          few = (omega arith, few-variables image (st .accepted) scope _ (st .ready));
+          near = omega (arith, near-statement (st .laid) s h ep);
+          each = subst (λ (es : List ℕ). T (all (expressionOk image (variables image scope) 32) es)) (sym (three image p)) (g .4);
+        },
+        listed (g .3) (st .laid .arguments-is),
+        g .5,
+      )
+
+  pub cx-needs : k ≡ 2 → (a < l .arguments) × (b < l .arguments) × T (argumentOk image scope a) × T (argumentOk image scope b) × T (matching (argumentSize image scope a ∷ argumentSize image scope b ∷ []))
+  cx-needs e = let g = known (cx-statement e) in (listed (g .0) (st .laid .arguments-is), listed (g .1) (st .laid .arguments-is), g .2, g .3, g .4)
+
+  pub barrier-needs : k ≡ 4 → (a + b ≤ l .arguments) × T (all (argumentOk image scope) (range a b))
+  barrier-needs e = let g = known (barrier-statement e) in (omega (arith, g .0, st .laid .arguments-is), g .1)
+
+  pub measure-needs : k ≡ 5 → (a < l .arguments) × (b < l .arguments) × T (argumentOk image scope a) × T (classicalArgumentOk image b) × T (matching (argumentSize image scope a ∷ classicalArgumentSize image b ∷ []))
+  measure-needs e = let g = known (measure-statement e) in (listed (g .1) (st .laid .arguments-is), listed (g .2) (st .laid .arguments-is), g .3, g .4, g .5)
+
+  pub reset-needs : ¬ (k ≡ 1) → ¬ (k ≡ 2) → ¬ (word image (statementAt image s) ≡ 3) → ¬ (k ≡ 4) → ¬ (k ≡ 5) → (a < l .arguments) × T (argumentOk image scope a)
+  reset-needs n1 n2 n3 n4 n5 = let g = known (reset-statement n1 n2 n3 n4 n5) in (listed (g .1) (st .laid .arguments-is), g .2)
+
+  -- what it does. The frame's angles show in a U alone.
+
+  module _ (angles : List Value) {out out′ : List ℕ} {at : Position} {r : Linearized} where
+    pub u-leaf : {q : ℕ} → k ≡ 1 → q ≡ word image (p + 4)
+        → Wrote (withValues image (standing image scope angles formals) (namedAt image (p + 1) 3) (λ xs. inRounds (rounds image scope (q ∷ [])) (writeU image (standing image scope angles formals) q xs))) out at r out′
+        → Wrote (plainSteps image 0 (standing image scope angles formals) s) out at r out′
+    unfolding visitPlain
+    u-leaf e eq w = rw (u-statement e eq) (rw (three image p) at w)
+
+    pub cx-leaf : k ≡ 2 → Wrote (inRounds (rounds image scope (a ∷ b ∷ [])) (writeCX image (standing image scope [] formals) a b)) out at r out′
+        → Wrote (plainSteps image 0 (standing image scope angles formals) s) out at r out′
+    unfolding visitPlain writeCX qubitIn
+    cx-leaf e w = rw (cx-statement e) w
+
+    pub barrier-leaf : k ≡ 4 → Wrote (write [] (Record.Barrier (rising (flatMap (argumentQubits image (standing image scope [] formals)) (range a b)))) ∷ []) out at r out′
+        → Wrote (plainSteps image 0 (standing image scope angles formals) s) out at r out′
+    unfolding visitPlain argumentQubits qubitIn
+    barrier-leaf e w = rw (barrier-statement e) w
+
+    pub measure-leaf : k ≡ 5 → Wrote (inRounds (largest (argumentSize image scope a ∷ classicalArgumentSize image b ∷ [])) (writeMeasure image (standing image scope [] formals) a b)) out at r out′
+        → Wrote (plainSteps image 0 (standing image scope angles formals) s) out at r out′
+    unfolding visitPlain writeMeasure qubitIn
+    measure-leaf e w = rw (measure-statement e) w
+
+    pub reset-leaf : ¬ (k ≡ 1) → ¬ (k ≡ 2) → ¬ (word image (statementAt image s) ≡ 3) → ¬ (k ≡ 4) → ¬ (k ≡ 5) → Wrote (inRounds (rounds image scope (a ∷ [])) (writeReset image (standing image scope [] formals) a)) out at r out′
+        → Wrote (plainSteps image 0 (standing image scope angles formals) s) out at r out′
+    unfolding visitPlain writeReset qubitIn
+    reset-leaf n1 n2 n3 n4 n5 w = rw (reset-statement n1 n2 n3 n4 n5) w

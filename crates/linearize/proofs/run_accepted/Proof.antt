@@ -1,0 +1,65 @@
+use native.Mathlib.Omega.{arith}
+use Prim.Native.Nat.{ℕ, _+_, _-_, _*_, _<_}
+use mathlib.Core.Path.{_≡_, refl, sym, ap, subst, _∙_}
+use mathlib.Core.List.{List, [], _∷_}
+use borrow.Author.Needs.{needs}
+use denote.Ref.{now}
+use lib.ListN.{length}
+use Rattle.linearize.proofs.RanLaws.{ran-lengths}
+use Rattle.linearize.proofs.OutcomeLaws.{accepted-run, contents-right}
+use Rattle.model.proofs.Accepted.{accepts}
+use Rattle.image.specs.Layout.{ReadAs}
+use Prim.Native.Nat.{zero-le}
+use Rattle.linearize.proofs.run_accepted.Statement.{statement}
+use Rattle.linearize.proofs.run_accepted.Tie as tie
+use Rattle.linearize.proofs.run_accepted.Reads as reads
+use Rattle.linearize.proofs.run_accepted.Lts as lts
+use Rattle.linearize.proofs.refused.Reads as refused-reads
+use Rattle.linearize.proofs.run_laid.Reads as run-laid-reads
+use Rattle.linearize.proofs.start.Reads as start-reads
+use Rattle.image.proofs.read_contents.Reads as read-contents-reads
+
+read-contents-requires : tie.Need-read-contents-requires
+read-contents-requires c κs = search needs
+
+enum-known-l : tie.Need-enum-known-l
+enum-known-l c = search needs
+
+start-requires : tie.Need-start-requires
+start-requires c κs = search needs
+
+run-laid-requires : tie.Need-run-laid-requires
+run-laid-requires c κs = (subst (ReadAs (now (c .before .before .before .before .before .before .before .before .before .before .args .image))) (c .before .before .before .before .l .given .1) (c .before .before .before .before .before .before .read-contents .ensures) .1, accepts _ (c .before .before .before .before .before .before .before .before .before .before .pre .0), rw (c .start .ensures) (record { inside = zero-le; fewer = zero-le }), c .before .before .before .before .before .before .before .before .before .before .pre .1, ap (λ p. p .trace) (c .start .ensures))
+
+enum-told : tie.Need-enum-told
+enum-told c = search needs
+
+refused-requires : tie.Need-refused-requires
+refused-requires c κs = search needs
+
+same-length : tie.Need-same-length
+same-length c = ran-lengths (c .before .before .before .before .run-laid .ensures) .0
+
+same-length-2 : tie.Need-same-length-2
+same-length-2 c = ran-lengths (c .before .before .before .before .run-laid .ensures) .1
+
+returns : tie.Need-returns
+returns c = accepted-run _ _ _ _ (c .before .before .before .before .before .before .before .before .before .before .before .before .before .before .before .pre .0) (c .before .before .before .before .before .before .before .before .before .before .before .before .before .before .before .pre .1) (c .before .before .before .before .before .start .ensures) (c .before .before .before .before .run-laid .ensures)
+
+returns-2 : tie.Need-returns-2
+returns-2 c = absurd (contents-right (now (c .before .before .before .before .before .before .before .args .image)) (c .before .before .before .before .before .before .before .pre .0) (subst (ReadAs (now (c .before .before .before .before .before .before .before .args .image))) (c .before .enum-told .given .1) (c .before .before .before .read-contents .ensures)))
+
+pub run-accepted-spec : {M : Type 1} → statement M
+run-accepted-spec =
+    tie.close
+    (tie.spec
+    read-contents-requires
+    enum-known-l
+    start-requires
+    run-laid-requires
+    enum-told
+    refused-requires
+    same-length
+    same-length-2
+    returns
+    returns-2)

@@ -1,0 +1,60 @@
+use native.Mathlib.Omega.{arith}
+use Prim.Native.Nat.{ℕ, _+_, _-_, _*_, _<_}
+use mathlib.Core.Path.{_≡_, refl, sym, ap, subst, _∙_}
+use mathlib.Core.List.{List, [], _∷_}
+use borrow.Author.Needs.{needs}
+use denote.Ref.{now}
+use lib.ListN.{length}
+use Rattle.linearize.proofs.RanLaws.{ran-then, ran-stops, ran-lengths}
+use Rattle.linearize.proofs.CycleLaws.{ran-open}
+use Rattle.linearize.proofs.visit_held.Statement.{statement}
+use Rattle.linearize.proofs.visit_held.Tie as tie
+use Rattle.linearize.proofs.visit_held.Reads as reads
+use Rattle.linearize.proofs.visit_held.Lts as lts
+use Rattle.linearize.proofs.visit_statement.Reads as visit-statement-reads
+use Rattle.writer.proofs.write_conditional_end.Reads as write-conditional-end-reads
+
+visit-statement-requires : tie.Need-visit-statement-requires
+visit-statement-requires c κs = (c .before .before .before .before .before .before .pre .0, c .before .before .before .before .before .before .pre .1, c .before .before .before .before .before .before .pre .2)
+
+enum-known-next : tie.Need-enum-known-next
+enum-known-next c = search needs
+
+write-conditional-end-requires : tie.Need-write-conditional-end-requires
+write-conditional-end-requires c κs = ran-open (c .before .before .before .before .before .before .before .before .before .before .before .before .before .before .before .pre .0 .opens) (c .before .before .before .before .before .before .before .before .visit-statement .ensures) (c .before .before .next .given .1)
+
+enum-known-e : tie.Need-enum-known-e
+enum-known-e c = search needs
+
+returns : tie.Need-returns
+returns c = ran-then (c .before .before .before .before .before .before .before .before .before .before .before .visit-statement .ensures) (c .before .before .before .before .before .next .given .1) (c .before .before .write-conditional-end .ensures)
+
+same-length-2 : tie.Need-same-length-2
+same-length-2 c = ran-lengths (returns c) .1
+
+same-length : tie.Need-same-length
+same-length c = ran-lengths (returns c) .0
+
+returns-2 : tie.Need-returns-2
+returns-2 c = ran-stops _ (c .before .before .before .before .before .before .before .visit-statement .ensures) (c .before .e .given .1)
+
+same-length-4 : tie.Need-same-length-4
+same-length-4 c = ran-lengths (returns-2 c) .1
+
+same-length-3 : tie.Need-same-length-3
+same-length-3 c = ran-lengths (returns-2 c) .0
+
+pub visit-held-spec : {M : Type 1} → statement M
+visit-held-spec =
+    tie.close
+    (tie.spec
+    visit-statement-requires
+    enum-known-next
+    write-conditional-end-requires
+    enum-known-e
+    same-length
+    same-length-2
+    returns
+    same-length-3
+    same-length-4
+    returns-2)

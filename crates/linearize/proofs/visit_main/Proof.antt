@@ -1,0 +1,65 @@
+use native.Mathlib.Omega.{arith}
+use Prim.Native.Nat.{ℕ, _+_, _-_, _*_, _<_}
+use mathlib.Core.Path.{_≡_, refl, sym, ap, subst, _∙_}
+use mathlib.Core.List.{List, [], _∷_}
+use borrow.Author.Needs.{needs}
+use denote.Ref.{now}
+use lib.ListN.{length}
+use Rattle.linearize.proofs.RanLaws.{ran-lengths, ran-steps}
+use Rattle.linearize.proofs.CycleLaws.{kind-read}
+use Rattle.linearize.proofs.BodyLaws.{statement-steps}
+use Rattle.linearize.proofs.ProgramLaws.{plain-in-main}
+use Rattle.model.specs.Image.{word}
+use Rattle.linearize.proofs.visit_main.Statement.{statement}
+use Rattle.linearize.proofs.visit_main.Tie as tie
+use Rattle.linearize.proofs.visit_main.Reads as reads
+use Rattle.linearize.proofs.visit_main.Lts as lts
+use Rattle.linearize.proofs.visit_conditional.Reads as visit-conditional-reads
+use Rattle.linearize.proofs.visit_statement.Reads as visit-statement-reads
+use Rattle.image.proofs.statement_at.Reads as statement-at-reads
+use Rattle.image.proofs.word.Reads as word-reads
+
+statement-at-requires : tie.Need-statement-at-requires
+statement-at-requires c κs = (c .before .before .before .pre .0 .stands .laid, omega (arith, c .before .before .before .pre .1, c .before .before .before .pre .0 .stands .laid .all-is, c .before .before .before .pre .0 .stands .laid .whole, c .before .before .before .pre .0 .stands .laid .short))
+
+word-requires : tie.Need-word-requires
+word-requires c κs = search needs
+
+visit-conditional-requires : tie.Need-visit-conditional-requires
+visit-conditional-requires c κs = (c .before .before .before .before .before .before .before .before .before .pre .0, c .before .before .before .before .before .before .before .before .before .pre .1, c .before .before .before .before .before .before .before .before .before .pre .2, kind-read (now (c .before .before .before .before .before .before .before .before .before .args .image)) (c .before .before .before .before .before .before .before .before .before .args .s) (c .before .before .before .before .before .statement-at .ensures) (c .before .before .before .before .word .ensures) (c .before .before .before .if1 .taken))
+
+same-length : tie.Need-same-length
+same-length c = ran-lengths (c .before .before .before .before .visit-conditional .ensures) .0
+
+same-length-2 : tie.Need-same-length-2
+same-length-2 c = ran-lengths (c .before .before .before .before .visit-conditional .ensures) .1
+
+returns : tie.Need-returns
+returns c = c .before .before .before .before .visit-conditional .ensures
+
+visit-statement-requires : tie.Need-visit-statement-requires
+visit-statement-requires c κs = (c .before .before .before .before .before .before .before .before .before .pre .0, c .before .before .before .before .before .before .before .before .before .pre .1, plain-in-main _ _ (λ e. c .before .before .before .if1 .left (c .before .before .before .before .word .ensures ∙ ap (word (now (c .before .before .before .before .before .before .before .before .before .args .image))) (c .before .before .before .before .before .statement-at .ensures) ∙ e)) (c .before .before .before .before .before .before .before .before .before .pre .2))
+
+same-length-3 : tie.Need-same-length-3
+same-length-3 c = ran-lengths (c .before .before .before .before .visit-statement .ensures) .0
+
+same-length-4 : tie.Need-same-length-4
+same-length-4 c = ran-lengths (c .before .before .before .before .visit-statement .ensures) .1
+
+returns-2 : tie.Need-returns-2
+returns-2 c = ran-steps (statement-steps _ 0 _ _ _ (plain-in-main _ _ (λ e. c .before .before .before .before .before .before .before .before .if1 .left (c .before .before .before .before .before .before .before .before .before .word .ensures ∙ ap (word (now (c .before .before .before .before .before .before .before .before .before .before .before .before .before .before .args .image))) (c .before .before .before .before .before .before .before .before .before .before .statement-at .ensures) ∙ e)) (c .before .before .before .before .before .before .before .before .before .before .before .before .before .before .pre .2))) (c .before .before .before .before .visit-statement .ensures)
+
+pub visit-main-spec : {M : Type 1} → statement M
+visit-main-spec =
+    tie.close
+    (tie.spec
+    statement-at-requires
+    word-requires
+    visit-conditional-requires
+    same-length
+    same-length-2
+    returns
+    visit-statement-requires
+    same-length-3
+    same-length-4
+    returns-2)

@@ -1,0 +1,293 @@
+// Replays the runs of standard input: how many agree, and which do not.
+// A line: the number of the image's words, the depth, the lengths of the output and of the trace lent; the number, the places, the
+// records, output words and trace words told; the sum of the output words and that of the trace words; then the image's words, none
+// for the image of the line before.
+use libc::STDIN_FILENO;
+use reader::NextRecord;
+use vector_text::Words;
+use writer::Linearized;
+use writer::Position;
+ghost use mathlib.Core.Path.{_≡_};
+ghost use lib.ListN.{length};
+
+// Of the sums: a prime below 2^32, and a factor below 2^17.
+const PRIME: u64 = 4294967291;
+
+const FACTOR: u64 = 65599;
+
+// Room for the whole input.
+fn room() -> [u8; 524288]
+    ensures { λ r. ⌜ 524288 ≡ length r ⌝ }
+{
+    [0; 524288]
+}
+
+// Room for the longest output that a line lends.
+fn output_room() -> [u64; 81920]
+    ensures { λ r. ⌜ 81920 ≡ length r ⌝ }
+{
+    [0; 81920]
+}
+
+// And for the longest trace.
+fn trace_room() -> [u64; 300]
+    ensures { λ r. ⌜ 300 ≡ length r ⌝ }
+{
+    [0; 300]
+}
+
+fn say_counts(runs: u64, agree: u64) {
+    vector_text::say_counts(runs, b" runs, ", agree);
+}
+
+// ---- what is lent
+
+// The word at a place of what is lent, before the run: no record has it, and no other place.
+fn lent_word(i: usize) -> u64 {
+    0x5A5A_5A5A_0000_0000 + i as u64 % 0x1_0000_0000
+}
+
+fn fill(words: &mut [u64]) {
+    let mut i = 0;
+    while i < words.len() {
+        words[i] = lent_word(i);
+        i += 1;
+    }
+}
+
+// Whether the words from a position on are as they were lent.
+fn untouched(words: &[u64], from: usize) -> bool {
+    let mut i = from;
+    while i < words.len() {
+        if words[i] != lent_word(i) {
+            return false;
+        }
+        i += 1;
+    }
+    true
+}
+
+// ---- sums
+
+// A sum with half a word more. Both are cut first, so that nothing can wrap.
+fn mixed(sum: u64, half: u64) -> u64 {
+    (sum % PRIME * FACTOR + half % 0x1_0000_0000) % PRIME
+}
+
+// A sum with more words, the low half of each first.
+fn summed(sum: u64, words: &[u64]) -> u64 {
+    let mut s = sum;
+    let mut i = 0;
+    while i < words.len() {
+        let low = mixed(s, words[i] % 0x1_0000_0000);
+        s = mixed(low, words[i] / 0x1_0000_0000);
+        i += 1;
+    }
+    s
+}
+
+// Whether so many words are written, with this sum, and all behind them are as they were lent.
+fn written(words: &[u64], count: u64, sum: u64) -> bool {
+    if count > words.len() as u64 {
+        return false;
+    }
+    let n = count as usize;
+    if summed(0, &words[..n]) != sum {
+        return false;
+    }
+    untouched(words, n)
+}
+
+// ---- reading back
+
+// Whether the reader tells the end at a position, and no words.
+fn is_end(words: &[u64], at: usize) -> bool {
+    if unit::next_record(words, at).len() != 0 {
+        return false;
+    }
+    let next = unit::next_at(words, at);
+    match next {
+        NextRecord::End => true,
+        NextRecord::Record(_) => false,
+        NextRecord::Wrong => false,
+    }
+}
+
+// Whether the reader tells a record of so many words at a position.
+fn is_record(words: &[u64], at: usize, n: usize) -> bool {
+    let next = unit::next_at(words, at);
+    match next {
+        NextRecord::Record(m) => m == n,
+        NextRecord::End => false,
+        NextRecord::Wrong => false,
+    }
+}
+
+// Whether the words are so many records and no more, and the records have this sum.
+fn are_records(words: &[u64], count: u64, sum: u64) -> bool {
+    let mut s = 0u64;
+    let mut at = 0;
+    let mut k = 0u64;
+    while k < count {
+        let record = unit::next_record(words, at);
+        if !is_record(words, at, record.len()) {
+            return false;
+        }
+        s = summed(s, record);
+        at += record.len();
+        k += 1;
+    }
+    if s != sum {
+        return false;
+    }
+    is_end(words, at)
+}
+
+// ---- a line
+
+// How far a run came.
+fn position(ended: Linearized) -> Position {
+    match ended {
+        Linearized::Done(at) => at,
+        Linearized::Refused(e) => e.at,
+    }
+}
+
+// What a run tells, as a line writes it.
+fn answer(ended: Linearized) -> [u64; 6] {
+    let n = unit::numbers(ended);
+    let at = position(ended);
+    [n.number, n.place, n.second, at.records, at.words, at.trace]
+}
+
+// Whether a run tells what a line says.
+fn tells(ended: Linearized, leading: &[u64; 12]) -> bool {
+    let told = answer(ended);
+    let mut i = 0;
+    while i < 6 {
+        if leading[i + 4] != told[i] {
+            return false;
+        }
+        i += 1;
+    }
+    true
+}
+
+// Whether the check answers what a line says of it: its number and place where the run has them, and otherwise that the image is
+// accepted. A trace that is too short comes before it.
+fn check_agrees(image: &[u64], leading: &[u64; 12]) -> bool {
+    if leading[4] == 15 {
+        return true;
+    }
+    let checked = unit::check(image);
+    if leading[4] > 8 {
+        return image::number_of(checked) == 0;
+    }
+    if image::number_of(checked) == leading[4] {
+        return image::place_of(checked) == leading[5];
+    }
+    false
+}
+
+// Whether a run with this output and trace is as a line says, and its output can be read back.
+fn run_agrees(image: &[u64], leading: &[u64; 12], out: &mut [u64], trace: &mut [u64]) -> bool {
+    fill(out);
+    fill(trace);
+    let ended = unit::run(image, leading[1], out, trace);
+    if !tells(ended, leading) {
+        return false;
+    }
+    if !written(trace, leading[9], leading[11]) {
+        return false;
+    }
+    if !written(out, leading[8], leading[10]) {
+        return false;
+    }
+    if leading[8] > out.len() as u64 {
+        return false;
+    }
+    let n = leading[8] as usize;
+    are_records(&out[..n], leading[7], leading[10])
+}
+
+// Whether the check and the run of an image are as a line says; the lengths that it lends are in room.
+fn agrees(image: &[u64], leading: &[u64; 12]) -> bool {
+    if !check_agrees(image, leading) {
+        return false;
+    }
+    let mut out = output_room();
+    let mut trace = trace_room();
+    if leading[2] > 81920 {
+        return false;
+    }
+    if leading[3] > 300 {
+        return false;
+    }
+    let o = leading[2] as usize;
+    let t = leading[3] as usize;
+    run_agrees(image, leading, &mut out[..o], &mut trace[..t])
+}
+
+// Whether a line has all words of its image, or none, and there is room for them.
+fn in_order(leading: &[u64; 12], read: usize, most: usize) -> bool {
+    if leading[0] > most as u64 {
+        return false;
+    }
+    if read == 0 {
+        return true;
+    }
+    read as u64 == leading[0]
+}
+
+// Whether a line agrees; if not, says so. The words hold the image of the line before, and then that of this line.
+fn line_agrees(text: &[u8], words: &mut [u64], line_number: u64) -> bool {
+    let mut leading = [0u64; 12];
+    let read = vector_text::read_line(text, &mut leading, words);
+    let Words::Read(n) = read else {
+        vector_text::say_malformed(line_number);
+        return false;
+    };
+    if !in_order(&leading, n, words.len()) {
+        vector_text::say_malformed(line_number);
+        return false;
+    }
+    let m = leading[0] as usize;
+    if agrees(&words[..m], &leading) {
+        return true;
+    }
+    vector_text::say_differs(line_number);
+    false
+}
+
+// There is room for images that are too long.
+fn replay(input: &[u8]) {
+    let mut words = [0u64; 8200];
+    let mut runs = 0u64;
+    let mut agree = 0u64;
+    let mut line_number = 0u64;
+    let mut at = 0;
+    while at < input.len() {
+        line_number += 1;
+        let end = vector_text::end(input, at);
+        if end == input.len() {
+            vector_text::say_cut_off(line_number);
+            break;
+        }
+        if input[at] != b'#' {
+            runs += 1;
+            if line_agrees(&input[at..end + 1], &mut words, line_number) {
+                agree += 1;
+            }
+        }
+        at = end + 1;
+    }
+    say_counts(runs, agree);
+}
+
+fn main() {
+    let mut input = room();
+    let n = io::read_full(STDIN_FILENO, &mut input);
+    if vector_text::all_read() {
+        replay(&input[..n]);
+    }
+}

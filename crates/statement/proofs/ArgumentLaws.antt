@@ -1,0 +1,240 @@
+-- Arguments: where they start, how they advance, and that they stay among the declared qubits and bits.
+use Prim.Native.Nat.{ℕ, zero, suc, _+_, _-_, _≤_, _<_, _^_, max}
+use native.Mathlib.Omega.{arith}
+use mathlib.Core.Path.{_≡_, refl, sym, ap, ap₂, subst, _∙_}
+use mathlib.Core.Bool.{Bool, true, false, cond}
+use mathlib.Core.List.{List, [], _∷_, map}
+use borrow.Author.Tests.{eq-eqb, ne-eqb}
+use lib.Dec.{T, eqb, ltb→lt, leb→le}
+use lib.ListN.{getD, take}
+use Rattle.model.specs.Lists.{range, sum, largest}
+use Rattle.model.specs.Image.{word, argumentAt, quantumRegisters, classicalRegisters, quantumSize, classicalSize, argumentRegister, argumentIndex, argumentSize, classicalArgumentSize, gateArguments, firstQubit, firstBit, rounds}
+use Rattle.model.specs.Check.{argumentOk, classicalArgumentOk, gateOk, matching}
+use Rattle.model.specs.Steps.{resolveQreg, qubitIn, bitIn}
+use Rattle.model.proofs.ListLaws.{getD-take}
+use Rattle.model.proofs.All.{test, all-All, head-All, tail-All}
+use Rattle.model.proofs.Accepted.{Accepted}
+use Rattle.model.proofs.StepsSound.{FrameOk, argument, bit-below, matched}
+use Rattle.value.specs.declared.Value.{Value}
+use Rattle.image.specs.declared.Layout.{Layout}
+use Rattle.image.specs.Firsts.{Firsts}
+use Rattle.statement.specs.declared.Argument.{Argument}
+use Rattle.statement.specs.Frames.{formalsOf, standing, Stands, inRound, partOf, Part, quantumArgument, classicalArgument}
+
+-- sizes of 1 at least come to their number at least
+pub count-sum : (f : ℕ → ℕ) (a n : ℕ) → ((r : ℕ) → a ≤ r → r < a + n → 1 ≤ f r) → n ≤ sum (map f (range a n))
+unfolding sum range
+count-sum f a zero h = omega arith
+count-sum f a (suc n) h = omega (arith, h a (omega arith) (omega arith), count-sum f (suc a) n (λ r p q. h r (omega arith) (omega arith)))
+
+either : (b : Bool) {n : ℕ} → 1 ≤ n → 1 ≤ cond b n 1
+either true h = h
+either false h = omega arith
+
+pub same-argument : {f f′ s s′ : ℕ} → f ≡ f′ → s ≡ s′ → _≡_ {A = Argument} (record { first = f; size = s }) (record { first = f′; size = s′ })
+same-argument p q = λ i. record { first = p i; size = q i }
+
+module _ (image : List ℕ) (acc : Accepted image) (formals : List ℕ) (a : ℕ) where
+  -- a formal, in a body
+  pub body-register : (scope : ℕ) (qs : List ℕ) → FrameOk image acc scope [] qs → ¬ (scope ≡ 0) → T (argumentOk image scope a) → argumentRegister image a < 16
+  unfolding argumentOk gateOk
+  body-register zero qs f h k = absurd (h refl)
+  body-register (suc g) qs f h k = omega (arith, ltb→lt (argumentRegister image a) (gateArguments image g) (test 0 _ k), leb→le (gateArguments image g) 16 (test 1 _ (acc .gateEntry g (f .0))))
+
+  pub body-first : (scope : ℕ) → ¬ (scope ≡ 0) → T (argumentOk image scope a) → getD formals (argumentRegister image a) 0 ≡ resolveQreg image scope (take (formalsOf image scope) formals) a
+  unfolding argumentOk resolveQreg formalsOf
+  body-first zero h k = absurd (h refl)
+  body-first (suc g) h k = sym (getD-take _ _ formals 0 (ltb→lt _ _ (test 0 _ k)))
+
+  pub body-size : (scope : ℕ) → ¬ (scope ≡ 0) → 1 ≡ argumentSize image scope a
+  unfolding argumentSize
+  body-size zero h = absurd (h refl)
+  body-size (suc g) h = refl
+
+  pub at-least-one : (scope : ℕ) → T (argumentOk image scope a) → 1 ≤ argumentSize image scope a
+  unfolding argumentOk argumentSize
+  at-least-one zero k = either (eqb (argumentIndex image a) 0) (acc .qsizes _ (ltb→lt _ _ (test 0 _ k)))
+  at-least-one (suc g) k = omega arith
+
+  -- a register's part, in main
+  pub main-register : (scope : ℕ) → scope ≡ 0 → T (argumentOk image scope a) → (argumentRegister image a < quantumRegisters image) × (argumentIndex image a ≤ quantumSize image (argumentRegister image a))
+  unfolding argumentOk
+  main-register zero h k = (ltb→lt _ _ (test 0 _ k), leb→le _ _ (test 1 _ k))
+  main-register (suc g) h k = absurd (omega arith)
+
+  pub main-first : (scope : ℕ) (qs : List ℕ) → scope ≡ 0 → firstQubit image (argumentRegister image a) + (argumentIndex image a - 1) ≡ resolveQreg image scope qs a
+  unfolding resolveQreg
+  main-first zero qs h = refl
+  main-first (suc g) qs h = absurd (omega arith)
+
+  pub main-size : (scope : ℕ) → scope ≡ 0 → cond (eqb (argumentIndex image a) 0) (quantumSize image (argumentRegister image a)) 1 ≡ argumentSize image scope a
+  unfolding argumentSize
+  main-size zero h = refl
+  main-size (suc g) h = absurd (omega arith)
+
+-- the last round is below, so the rounds are few
+last-below : (f n : ℕ) → ((¬ (n ≡ 1) → n - 1 < n) → f + cond (eqb n 1) 0 (n - 1) < 4096) → n ≤ 4096
+last-below f zero h = omega arith
+last-below f (suc zero) h = omega arith
+last-below f (suc (suc n)) h =
+    let m : ¬ (suc (suc n) ≡ 1) = λ e. omega arith in
+    omega (arith, rw (ne-eqb (suc (suc n)) 1 m) at (h (λ k. omega arith)))
+
+pub pair-largest : (m n : ℕ) → max m n ≡ largest (m ∷ n ∷ [])
+unfolding largest
+pair-largest m n = omega arith
+
+-- two sizes that match, in a round below the larger
+pub pair-range : (m n i : ℕ) → T (matching (m ∷ n ∷ [])) → i < largest (m ∷ n ∷ []) → (¬ (m ≡ 1) → i < m) × (¬ (n ≡ 1) → i < n)
+unfolding matching
+pair-range m n i t h =
+    let p = all-All _ _ t in
+    (matched m _ i (head-All p) h, matched n _ i (head-All (tail-All p)) h)
+
+largest-one : (x : ℕ) → x ≡ largest (x ∷ [])
+unfolding largest
+largest-one x = omega arith
+
+module _ {image : List ℕ} {l : Layout} {qs bs : List ℕ} {scope : ℕ} {formals : List ℕ} (s : Stands image l qs bs scope formals) where
+  pub few-quantum : quantumRegisters image ≤ 4096
+  unfolding firstQubit
+  few-quantum = omega (arith, count-sum (quantumSize image) 0 (quantumRegisters image) (λ r p q. s .accepted .qsizes r (omega arith)), s .accepted .fewQubits)
+
+  pub few-classical : classicalRegisters image ≤ 4096
+  unfolding firstBit
+  few-classical = omega (arith, count-sum (classicalSize image) 0 (classicalRegisters image) (λ r p q. s .accepted .csizes r (omega arith)), s .accepted .fewBits)
+
+  abbrev resolved : ℕ → Argument
+  resolved a = quantumArgument image scope formals a
+
+  pub resolved-below : (a i : ℕ) → T (argumentOk image scope a) → (¬ (argumentSize image scope a ≡ 1) → i < argumentSize image scope a) → inRound (resolved a) i < 4096
+  resolved-below a i k h = omega (arith, argument image (s .accepted) scope [] (take (formalsOf image scope) formals) a i (s .ready) k h, s .accepted .fewQubits)
+
+  pub qubit-is : (angles : List Value) (a i : ℕ) {x : Argument} {q : ℕ} → x ≡ resolved a → q ≡ inRound x i → q ≡ qubitIn image (standing image scope angles formals) i a
+  unfolding qubitIn
+  qubit-is angles a i e f = f ∙ ap (λ (x : Argument). inRound x i) e
+
+  first-below : (a : ℕ) → T (argumentOk image scope a) → resolved a .first < 4096
+  first-below a k = omega (arith, resolved-below a 0 k (λ n. at-least-one image (s .accepted) formals a scope k))
+
+  pub in-range : (a i : ℕ) {x : Argument} → T (argumentOk image scope a) → x ≡ resolved a → (¬ (argumentSize image scope a ≡ 1) → i < argumentSize image scope a) → inRound x i < 2 ^ 64
+  in-range a i k e h = omega (arith, resolved-below a i k h, ap (λ (x : Argument). inRound x i) e)
+
+  pub few-rounds : (a : ℕ) {x : Argument} → T (argumentOk image scope a) → x ≡ resolved a → x .size ≤ 4096
+  few-rounds a {x} k e = rw e (last-below (resolved a .first) (argumentSize image scope a) (λ h. resolved-below a (argumentSize image scope a - 1) k h))
+
+  pub one-round-range : (a i : ℕ) {x : Argument} → x ≡ resolved a → i < x .size → (¬ (argumentSize image scope a ≡ 1) → i < argumentSize image scope a)
+  one-round-range a i e h n = omega (arith, ap (λ (x : Argument). x .size) e)
+
+  -- a classical argument
+  pub bit-range : (c i : ℕ) {y : Argument} → T (classicalArgumentOk image c) → y ≡ classicalArgument image c → (¬ (classicalArgumentSize image c ≡ 1) → i < classicalArgumentSize image c) → inRound y i < 2 ^ 64
+  unfolding bitIn
+  bit-range c i k e h = omega (arith, bit-below image (s .accepted) c i k h, s .accepted .fewBits, ap (λ (y : Argument). inRound y i) e)
+
+  pub few-bit-rounds : (c : ℕ) {y : Argument} → T (classicalArgumentOk image c) → y ≡ classicalArgument image c → y .size ≤ 4096
+  unfolding bitIn
+  few-bit-rounds c {y} k e =
+      rw e (last-below (classicalArgument image c .first) (classicalArgumentSize image c) (λ h. omega (arith, bit-below image (s .accepted) c (classicalArgumentSize image c - 1) k h, s .accepted .fewBits)))
+
+  pub two-rounds : (a b : ℕ) {x y : Argument} {n : ℕ} → x ≡ resolved a → y ≡ resolved b → n ≡ max (x .size) (y .size) → n ≡ rounds image scope (a ∷ b ∷ [])
+  unfolding rounds
+  two-rounds a b e f g = g ∙ rw (e, f) (pair-largest (argumentSize image scope a) (argumentSize image scope b))
+
+  pub one-round : (a : ℕ) {x : Argument} → x ≡ resolved a → x .size ≡ rounds image scope (a ∷ [])
+  unfolding rounds largest
+  one-round a e = ap (λ (x : Argument). x .size) e ∙ largest-one (argumentSize image scope a)
+
+  pub measure-rounds : (a c : ℕ) {x y : Argument} {n : ℕ} → x ≡ resolved a → y ≡ classicalArgument image c → n ≡ max (x .size) (y .size)
+      → n ≡ largest (argumentSize image scope a ∷ classicalArgumentSize image c ∷ [])
+  measure-rounds a c e f g = g ∙ rw (e, f) (pair-largest (argumentSize image scope a) (classicalArgumentSize image c))
+
+  -- a round below them is one of both arguments
+  pub cx-range : (a b i : ℕ) {x y : Argument} {n : ℕ} → T (matching (argumentSize image scope a ∷ argumentSize image scope b ∷ [])) → x ≡ resolved a → y ≡ resolved b → n ≡ max (x .size) (y .size) → i < n
+      → (¬ (argumentSize image scope a ≡ 1) → i < argumentSize image scope a) × (¬ (argumentSize image scope b ≡ 1) → i < argumentSize image scope b)
+  cx-range a b i t e f g h =
+      pair-range _ _ i t (subst (λ (n : ℕ). i < n) (g ∙ rw (e, f) (pair-largest (argumentSize image scope a) (argumentSize image scope b))) h)
+
+  pub measure-range : (a c i : ℕ) {x y : Argument} {n : ℕ} → T (matching (argumentSize image scope a ∷ classicalArgumentSize image c ∷ [])) → x ≡ resolved a → y ≡ classicalArgument image c → n ≡ max (x .size) (y .size) → i < n
+      → (¬ (argumentSize image scope a ≡ 1) → i < argumentSize image scope a) × (¬ (classicalArgumentSize image c ≡ 1) → i < classicalArgumentSize image c)
+  measure-range a c i t e f g h = pair-range _ _ i t (subst (λ (n : ℕ). i < n) (measure-rounds a c e f g) h)
+
+  -- the words of an argument entry: a formal in a body, a part of a register in main
+  module _ (a : ℕ) {at : ℕ} (ea : at ≡ argumentAt image a) (near : a < l .arguments) where
+    low : at ≤ 16384
+    low = omega (arith, s .laid .arguments-is, s .laid .whole, s .laid .short)
+
+    module _ (k : T (argumentOk image scope a)) where
+      pub formal : {r : ℕ} → r ≡ word image at → ¬ (scope ≡ 0) → (r < 16) × (_≡_ {A = Argument} (record { first = getD formals r 0; size = 1 }) (resolved a))
+      formal e h =
+          let read = e ∙ ap (word image) ea in (
+            subst (λ (n : ℕ). n < 16) (sym read) (body-register image (s .accepted) formals a scope _ (s .ready) h k),
+            same-argument (ap (λ (n : ℕ). getD formals n 0) read ∙ body-first image (s .accepted) formals a scope h k) (body-size image (s .accepted) formals a scope h),
+          )
+
+      pub quantum-is : scope ≡ 0 → partOf image 9 at ≡ resolved a
+      unfolding firstQubit
+      quantum-is h =
+          ap (partOf image 9) ea
+          ∙ same-argument (main-first image (s .accepted) formals a scope (take (formalsOf image scope) formals) h) (main-size image (s .accepted) formals a scope h)
+
+      pub quantum-part : scope ≡ 0 → Part image qs 9 at
+      unfolding firstQubit
+      quantum-part h =
+          let m = main-register image (s .accepted) formals a scope h k in
+          record {
+            count = quantumRegisters image;
+            table = s .quantum;
+            few = few-quantum;
+            listed = subst (λ (n : ℕ). word image n < quantumRegisters image) (sym ea) (m .0);
+            below = subst (λ (x : Argument). x .first < 4096) (sym (quantum-is h)) (first-below a k);
+            near = (omega arith, low);
+          }
+
+    module _ (k : T (classicalArgumentOk image a)) where
+      register-listed : (argumentRegister image a < classicalRegisters image) × (argumentIndex image a ≤ classicalSize image (argumentRegister image a))
+      unfolding classicalArgumentOk
+      register-listed = (ltb→lt _ _ (test 0 _ k), leb→le _ _ (test 1 _ k))
+
+      pub classical-is : {c : ℕ} → c ≡ 9 + quantumRegisters image → partOf image c at ≡ classicalArgument image a
+      unfolding firstBit classicalArgumentSize
+      classical-is e = ap₂ (partOf image) e ea
+
+      bit-size : 1 ≤ classicalArgumentSize image a
+      unfolding classicalArgumentSize
+      bit-size = either (eqb (argumentIndex image a) 0) (s .accepted .csizes _ (register-listed .0))
+
+      bit-first : classicalArgument image a .first < 4096
+      unfolding bitIn
+      bit-first = omega (arith, bit-below image (s .accepted) a 0 k (λ n. bit-size), s .accepted .fewBits)
+
+      pub classical-part : {c : ℕ} → c ≡ 9 + quantumRegisters image → Part image bs c at
+      unfolding firstBit
+      classical-part {c} e =
+          record {
+            count = classicalRegisters image;
+            table = subst (λ (n : ℕ). Firsts (λ i. word image (n + i)) (classicalRegisters image) bs) (sym e) (s .classical);
+            few = few-classical;
+            listed = subst (λ (n : ℕ). word image n < classicalRegisters image) (sym ea) (register-listed .0);
+            below = subst (λ (x : Argument). x .first < 4096) (sym (classical-is e)) bit-first;
+            near = (omega (arith, few-quantum), low);
+          }
+
+pub bit-is : (image : List ℕ) (c i : ℕ) {y : Argument} {b : ℕ} → y ≡ classicalArgument image c → b ≡ inRound y i → b ≡ bitIn image i c
+unfolding bitIn
+bit-is image c i e f = f ∙ ap (λ (y : Argument). inRound y i) e
+
+-- what the words at a place say
+module _ {image firsts : List ℕ} {sizes at : ℕ} (p : Part image firsts sizes at) {r j : ℕ} (er : r ≡ word image at) (ej : j ≡ word image (at + 1)) where
+  starts : getD firsts r 0 ≡ sum (map (λ i. word image (sizes + i)) (range 0 (word image at)))
+  starts = ap (λ (n : ℕ). getD firsts n 0) er ∙ p .table .each (word image at) (p .listed)
+
+  begins : getD firsts r 0 + (j - 1) ≡ partOf image sizes at .first
+  begins = ap₂ (λ (m n : ℕ). m + (n - 1)) starts ej
+
+  pub part-index : ¬ (j ≡ 0) → (getD firsts r 0 + (j - 1) < 4096) × (_≡_ {A = Argument} (record { first = getD firsts r 0 + (j - 1); size = 1 }) (partOf image sizes at))
+  part-index n = (omega (arith, begins, p .below), same-argument begins (sym (rw (ne-eqb (word image (at + 1)) 0 (λ e. n (ej ∙ e))) refl)))
+
+  pub part-whole : j ≡ 0 → {z : ℕ} → z ≡ word image (sizes + r) → _≡_ {A = Argument} (record { first = getD firsts r 0; size = z }) (partOf image sizes at)
+  part-whole n ez =
+      let f : getD firsts r 0 ≡ getD firsts r 0 + (j - 1) = omega (arith, n) in
+      same-argument (f ∙ begins) (ez ∙ ap (λ (m : ℕ). word image (sizes + m)) er ∙ sym (rw (eq-eqb (word image (at + 1)) 0 (sym ej ∙ n)) refl))

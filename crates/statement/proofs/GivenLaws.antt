@@ -1,0 +1,98 @@
+-- Angles of a frame's expressions, and what is done with them.
+use Prim.Native.Nat.{ℕ, zero, suc, _+_}
+use native.Mathlib.Omega.{arith}
+use mathlib.Core.Path.{_≡_, refl, sym, ap, ap₂, subst, _∙_}
+use mathlib.Core.List.{List, [], _∷_}
+use lib.Dec.{T, ltb→lt}
+use lib.ListN.{take}
+use Rattle.value.specs.declared.Value.{Value}
+use Rattle.value.specs.declared.Evaluation.the-variants as evaluation
+use Rattle.value.specs.Value.{andThen}
+use Rattle.model.specs.Image.{Expr, Pi, Real, Int, Var, Binary, Unary, word, expression, expressionAt, variables}
+use Rattle.model.specs.Evaluate.{unary, binary, valueOf, evaluate, zeroValue}
+use Rattle.model.specs.Check.{entryOk, expressionOk}
+use Rattle.model.specs.Steps.{Step, refuse, Refusal, have, lack, also, given, parameterValues, withValues, inRounds, qubitIn, writeU}
+use Rattle.model.specs.Run.{Answer, refused, play}
+use Rattle.model.specs.Playing.{Plays}
+use Rattle.model.proofs.ListLaws.{getD-take}
+use Rattle.model.proofs.All.{All, test, all-All, of-All, range-All, head-All, tail-All}
+use Rattle.model.proofs.PlayLaws.{plays-stop}
+use Rattle.model.proofs.EvaluateLaws.{operand}
+use Rattle.writer.specs.declared.Position.{Position}
+use Rattle.writer.specs.declared.LinearizeError.{LinearizeError}
+use Rattle.writer.specs.declared.Linearized.{Linearized}
+use Rattle.writer.specs.declared.Linearized.the-variants as linearized
+use Rattle.writer.specs.Promise.{Open, Wrote, answerTo, placeAt}
+use Rattle.expression.specs.Operands.{Named}
+use Rattle.statement.specs.Frames.{standing, namedAt, Listed}
+
+-- ---- an accepted expression reads the variables that it may, so the angles behind them do not show
+
+module _ (image : List ℕ) (v : ℕ) (angles : List Value) where
+  entry-front : (k e p : ℕ) → ((a : ℕ) → T (expressionOk image v k a) → evaluate image (take v angles) k a ≡ evaluate image angles k a)
+      → (x : Expr) → T (entryOk image v (operand image v angles k e) p x) → valueOf (take v angles) (evaluate image (take v angles) k) x ≡ valueOf angles (evaluate image angles k) x
+  unfolding entryOk valueOf
+  entry-front k e p h Pi t = refl
+  entry-front k e p h (Real b) t = refl
+  entry-front k e p h (Int n) t = refl
+  entry-front k e p h (Var i) t = ap evaluation.Value (getD-take v i angles zeroValue (ltb→lt i v (test 0 _ t)))
+  entry-front k e p h (Binary f a b) t = ap₂ (λ x y. andThen x λ u. andThen y λ z. binary f u z) (h a (test 1 _ (test 0 _ t))) (h b (test 1 _ (test 1 _ t)))
+  entry-front k e p h (Unary f a) t = ap (λ x. andThen x λ u. unary f u) (h a (test 1 _ (test 0 _ t)))
+  entry-front k e p h Expr.Unknown t = refl
+
+  evaluate-front : (k e : ℕ) → T (expressionOk image v k e) → evaluate image (take v angles) k e ≡ evaluate image angles k e
+  unfolding expressionOk evaluate
+  evaluate-front zero e t = refl
+  evaluate-front (suc k) e t = entry-front k e (expressionAt image e) (evaluate-front k) (expression image e) (test 1 _ t)
+
+  values-front : (es : List ℕ) → All (λ e. T (expressionOk image v 32 e)) es → parameterValues image (take v angles) es ≡ parameterValues image angles es
+  unfolding parameterValues
+  values-front [] h = refl
+  values-front (e ∷ es) h = ap₂ (λ x y. also x (expressionAt image e) y) (evaluate-front 32 e (head-All h)) (values-front es (tail-All h))
+
+  -- expressions that a scope's statement names
+  module _ {place n : ℕ} (l : Listed image v place n) where
+    accepted : All (λ e. T (expressionOk image v 32 e)) (namedAt image place n)
+    accepted = all-All _ _ (l .each)
+
+    pub named : Named image place n
+    named =
+        record {
+          few = l .few .0;
+          near = l .near;
+          each = λ i h. record { variables = v; few = l .few .1; formed = range-All {P = λ i. T (expressionOk image v 32 (word image (place + i)))} 0 n i (of-All _ _ accepted) (omega arith) (omega arith) };
+        }
+
+    pub listed-values : parameterValues image (take v angles) (namedAt image place n) ≡ parameterValues image angles (namedAt image place n)
+    listed-values = values-front (namedAt image place n) accepted
+
+-- ---- what is done with the values
+
+-- a refusal that nothing is written before
+pub refuses : (x : Refusal) (e : LinearizeError) {out : List ℕ} {at : Position} → e .at ≡ at → ((t : List ℕ) → answerTo (e .kind) t ≡ refused t x) → Open out at → Wrote (refuse [] x ∷ []) out at (linearized.Refused e) out
+unfolding play
+refuses x e {out} {at} p q o =
+    record {
+      plays = subst (λ (z : Position). Plays (refuse [] x ∷ []) (placeAt out at) (placeAt out z) (answerTo (e .kind) [])) (sym p)
+          (subst (λ (z : Answer). Plays (refuse [] x ∷ []) (placeAt out at) (placeAt out at) z) (sym (q [])) (plays-stop (refuse [] x ∷ []) (o .inside) refl));
+      level = ap (λ (z : Position). z .trace) p;
+    }
+
+module _ (image : List ℕ) (scope : ℕ) (angles : List Value) (formals : List ℕ) {place n : ℕ} (l : Listed image (variables image scope) place n) (next : List Value → List Step) where
+  abbrev named-steps : List Step
+  named-steps = withValues image (standing image scope angles formals) (namedAt image place n) next
+
+  pub values-given : {xs : List Value} {out out′ : List ℕ} {at : Position} {r : Linearized} → parameterValues image angles (namedAt image place n) ≡ have xs → Wrote (next xs) out at r out′ → Wrote named-steps out at r out′
+  unfolding withValues given
+  values-given e w = rw (listed-values image (variables image scope) angles l ∙ e) w
+
+  pub values-refused : (e : LinearizeError) {x : Refusal} {out : List ℕ} {at : Position} → parameterValues image angles (namedAt image place n) ≡ lack x → e .at ≡ at → ((t : List ℕ) → answerTo (e .kind) t ≡ refused t x) → Open out at
+      → Wrote named-steps out at (linearized.Refused e) out
+  unfolding withValues given
+  values-refused e {x} {out} {at} d p q o = rw (listed-values image (variables image scope) angles l ∙ d) (refuses x e p q o)
+
+-- the frame's angles do not show in the rounds of a U
+pub u-frame : (image : List ℕ) (scope : ℕ) (angles : List Value) (formals : List ℕ) (n q : ℕ) (xs : List Value) {out out′ : List ℕ} {at : Position} {r : Linearized}
+    → Wrote (inRounds n (writeU image (standing image scope [] formals) q xs)) out at r out′ → Wrote (inRounds n (writeU image (standing image scope angles formals) q xs)) out at r out′
+unfolding writeU qubitIn
+u-frame image scope angles formals n q xs w = w

@@ -1,0 +1,83 @@
+// The operations of the sequence unit: check, tally, run, next record.
+use image::CheckAnswer;
+use reader::NextRecord;
+use tally::Tallied;
+use writer::LinearizeErrorKind;
+use writer::Linearized;
+ghost use mathlib.Core.Path.{_≡_};
+ghost use Rattle.model.specs.Check.{check};
+ghost use Rattle.model.specs.Tally.{tally};
+ghost use Rattle.model.specs.Reader.{nextAt};
+ghost use Rattle.image.specs.Answer.{verdictOf};
+ghost use Rattle.tally.specs.Weights.{answerOf};
+ghost use Rattle.reader.specs.Answer.{answerOf as nextOf, wordsOf};
+ghost use Rattle.linearize.specs.Linearizes.{Linearizes};
+ghost use Rattle.unit.specs.Told.{ToldKind, Told};
+
+// Whether an image is a checked program: accepted, or the number and the place of what is wrong.
+pub fn check(image: &[u64]) -> CheckAnswer
+    ensures { λ r. ⌜ verdictOf r ≡ check (now (image .entry)) ⌝ }
+{
+    image::check(image)
+}
+
+// What a run at a depth will write: records of each kind, body entries, words at most.
+pub fn tally(image: &[u64], depth: u64) -> Tallied
+    ensures { λ r. ⌜ answerOf r ≡ tally (now (image .entry)) depth ⌝ }
+{
+    tally::tally(image, depth)
+}
+
+// Writes the operations of an image at a depth into the output. A refusal's calls stand in the trace.
+pub fn run(image: &[u64], depth: u64, out: &mut [u64], trace: &mut [u64]) -> Linearized
+    ensures { λ r. ⌜ Linearizes (now (image .entry)) depth (now (out .entry)) (now (trace .entry)) r (now (out .exit)) (now (trace .exit)) ⌝ }
+{
+    linearize::run(image, depth, out, trace)
+}
+
+// What stands at a position of some words: a record of so many words, the end, or no record.
+pub fn next_at(words: &[u64], at: usize) -> NextRecord
+    ensures { λ r. ⌜ r ≡ nextOf (nextAt (now (words .entry)) at) ⌝ }
+{
+    reader::next_at(words, at)
+}
+
+// The record at a position, as a part of the words; none of them where there is no record.
+pub fn next_record(words: &[u64], at: usize) -> &[u64]
+    ensures { λ r. ⌜ now r ≡ wordsOf (nextAt (now (words .entry)) at) ⌝ }
+{
+    reader::next_record(words, at)
+}
+
+// An answer's number and two places, as document 01 numbers them: 0 is finished.
+pub struct Numbers {
+    pub number: u64,
+    pub place: u64,
+    pub second: u64,
+}
+
+// The numbers of a refusal.
+fn of_kind(kind: LinearizeErrorKind) -> Numbers
+    ensures { λ r. ⌜ ToldKind kind r ⌝ }
+{
+    match kind {
+        LinearizeErrorKind::DivideByZero(place) => Numbers { number: 9, place, second: 0 },
+        LinearizeErrorKind::ApproximateFail(place, x) => Numbers { number: 10, place, second: float::bits_of(x) as u64 },
+        LinearizeErrorKind::NumericalOverflow(place) => Numbers { number: 11, place, second: 0 },
+        LinearizeErrorKind::OverlappingRegs(place, second) => Numbers { number: 12, place, second },
+        LinearizeErrorKind::FunctionOfFloats(place) => Numbers { number: 13, place, second: 0 },
+        LinearizeErrorKind::OutputFull => Numbers { number: 14, place: 0, second: 0 },
+        LinearizeErrorKind::Rejected(c) => Numbers { number: image::number_of(c), place: image::place_of(c), second: 0 },
+        LinearizeErrorKind::ShortTrace => Numbers { number: 15, place: 0, second: 0 },
+    }
+}
+
+// The numbers of a run's answer.
+pub fn numbers(r: Linearized) -> Numbers
+    ensures { λ n. ⌜ Told r n ⌝ }
+{
+    match r {
+        Linearized::Done(_) => Numbers { number: 0, place: 0, second: 0 },
+        Linearized::Refused(e) => of_kind(e.kind),
+    }
+}

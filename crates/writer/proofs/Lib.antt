@@ -1,0 +1,4 @@
+pub mod WriteLaws
+pub mod AngleLaws
+pub mod MarkLaws
+pub mod HeadLaws

@@ -1,0 +1,79 @@
+-- Words stored behind those written, and what was promised of them.
+use Prim.Native.Nat.{ℕ, zero, suc, _+_, _-_, _≤_, _<_}
+use native.Mathlib.Nat.{add-zero, zero-add}
+use native.Mathlib.Numerals.{add-one}
+use native.Mathlib.Omega.{arith}
+use mathlib.Core.Path.{_≡_, refl, sym, ap, _∙_}
+use mathlib.Core.List.{List, [], _∷_, _++_, flatMap, append-assoc, append-nil}
+use borrow.Author.Tests.{lt-leb}
+use lib.ListN.{length, set, take, drop, getD}
+use lib.Seq.{sets, sets-eq, take-suc, take-append-seam, length-take-le}
+use Rattle.model.specs.Lists.{range}
+use Rattle.model.specs.Records.{Record, encode}
+use Rattle.model.specs.Steps.{write}
+use Rattle.model.specs.Run.{full, play}
+use Rattle.model.proofs.PlayLaws.{sets-append, plays-write, plays-stop}
+use Rattle.writer.specs.Promise.{after, Open, Wrote, Appended, placeAt}
+use Rattle.writer.specs.declared.Position.{Position}
+use Rattle.writer.specs.declared.LinearizeErrorKind.the-variants as kind
+use Rattle.writer.specs.declared.Linearized.the-variants as linearized
+
+-- words behind words, and a word more
+pub put-more : {out′ out″ : List ℕ} (out : List ℕ) (start i : ℕ) (ws vs : List ℕ) → i ≡ start + length ws → out′ ≡ sets out start ws → out″ ≡ sets out′ i vs → out″ ≡ sets out start (ws ++ vs)
+put-more out start i ws vs e h k = k ∙ rw (h, e) (sets-append out start ws vs)
+
+-- words at the front are what the front holds
+pub front : (ws out : List ℕ) → length ws ≤ length out → take (length ws) (sets out 0 ws) ≡ ws
+front ws out h = rw (sets-eq ws out 0 (omega arith)) (take-append-seam ws (drop (0 + length ws) out))
+
+-- the next of some words
+pub copied : {out′ : List ℕ} (out : List ℕ) (start i : ℕ) (ws : List ℕ) → i < length ws → out′ ≡ sets out start (take i ws)
+    → set out′ (start + i) (getD ws i 0) ≡ sets out start (take (i + 1) ws)
+copied out start i ws h e =
+    let n = length-take-le i ws (omega arith) in
+    put-more out start (start + i) (take i ws) (getD ws i 0 ∷ []) (omega arith) e refl ∙ rw (add-one i, take-suc ws i 0) refl
+
+-- a record is written
+pub written : (x : Record) (n : ℕ) {out out′ : List ℕ} {at to : Position} → to ≡ after at n → n ≡ length (encode x) → at .words + n ≤ length out → out′ ≡ sets out (at .words) (encode x)
+    → Wrote (write [] x ∷ []) out at (linearized.Done to) out′
+written x n {at = at} d e h o =
+    record { plays = plays-write [] x (omega arith) o (ap (λ p. p .words) d ∙ ap (λ (m : ℕ). at .words + m) e) (ap (λ p. p .records) d); level = ap (λ p. p .trace) d }
+
+-- it is too long
+pub full-up : (x : Record) {out : List ℕ} {at : Position} → Open out at → length out < at .words + length (encode x)
+    → Wrote (write [] x ∷ []) out at (linearized.Refused (record { kind = kind.OutputFull; at = at })) out
+unfolding play
+full-up x {out} {at} k h =
+    record {
+      plays = plays-stop (write [] x ∷ []) {p = placeAt out at} {a = full []} (k .inside) (rw (lt-leb (length (encode x)) (length out - at .words) (omega arith)) refl);
+      level = refl;
+    }
+
+-- whatever record some words are
+pub appended : {ws out out′ : List ℕ} {at to : Position} (n : ℕ) → to ≡ after at n → n ≡ length ws → at .words + n ≤ length out → out′ ≡ sets out (at .words) ws → Appended ws out at (linearized.Done to) out′
+appended n p e h o = record { wrote = λ x d. written x n p (e ∙ ap length (sym d)) h (o ∙ rw (sym d) refl) }
+
+pub not-appended : {ws out : List ℕ} {at : Position} → Open out at → length out < at .words + length ws → Appended ws out at (linearized.Refused (record { kind = kind.OutputFull; at = at })) out
+not-appended k h = record { wrote = λ x e. full-up x k (omega (arith, ap length e)) }
+
+-- ---- lists joined
+
+pub flat-append : {A B : Type 0} (g : A → List B) (l m : List A) → flatMap g (l ++ m) ≡ flatMap g l ++ flatMap g m
+unfolding flatMap
+flat-append g [] m = refl
+flat-append g (x ∷ l) m = rw (flat-append g l m, append-assoc (g x) (flatMap g l) (flatMap g m)) refl
+
+range-snoc : (a n : ℕ) → range a (suc n) ≡ range a n ++ (a + n) ∷ []
+unfolding range
+range-snoc a zero = rw (add-zero a) refl
+range-snoc a (suc n) =
+    let e : suc a + n ≡ a + suc n = omega arith in
+    rw (sym e, range-snoc (suc a) n) refl
+
+-- the numbers below n, and n
+pub range-more : (n : ℕ) → range 0 (n + 1) ≡ range 0 n ++ n ∷ []
+range-more n = rw (add-one n, range-snoc 0 n, zero-add n) refl
+
+pub flat-more : {B : Type 0} (g : ℕ → List B) (n : ℕ) → flatMap g (range 0 (n + 1)) ≡ flatMap g (range 0 n) ++ g n
+unfolding flatMap
+flat-more g n = rw (range-more n, flat-append g (range 0 n) (n ∷ []), append-nil (g n)) refl

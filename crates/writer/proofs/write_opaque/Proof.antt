@@ -1,0 +1,91 @@
+use native.Mathlib.Omega.{arith}
+use lib.ListN.{take, length-take}
+use borrow.Author.Needs.{needs}
+use Rattle.writer.proofs.AngleLaws.{opaque-words}
+use Rattle.model.specs.Records.{Record}
+use Rattle.writer.proofs.write_opaque.Statement.{statement}
+use Rattle.writer.proofs.write_opaque.Tie as tie
+
+array-write-words : tie.Need-array-write-words
+array-write-words c = search needs
+
+array-write-words-2 : tie.Need-array-write-words-2
+array-write-words-2 c = search needs
+
+array-write-words-3 : tie.Need-array-write-words-3
+array-write-words-3 c = search needs
+
+array-write-words-4 : tie.Need-array-write-words-4
+array-write-words-4 c = search needs
+
+slice-aggregate-put-angles : tie.Need-slice-aggregate-put-angles
+slice-aggregate-put-angles c = search needs
+
+put-angles-requires : tie.Need-put-angles-requires
+put-angles-requires c κs = search needs
+
+mul-end : tie.Need-mul-end
+mul-end c = search needs
+
+add-end : tie.Need-add-end
+add-end c = search needs
+
+slice-aggregate-copy : tie.Need-slice-aggregate-copy
+slice-aggregate-copy c = search needs
+
+array-share-prefix-qubits : tie.Need-array-share-prefix-qubits
+array-share-prefix-qubits c = search needs
+
+slice-aggregate-copy-2 : tie.Need-slice-aggregate-copy-2
+slice-aggregate-copy-2 c = simp length-take (omega arith)
+
+copy-requires : tie.Need-copy-requires
+copy-requires c κs = simp length-take (omega (arith, c .before .before .before .put-angles .kept .0))
+
+add-n : tie.Need-add-n
+add-n c = search needs
+
+array-share-prefix-words : tie.Need-array-share-prefix-words
+array-share-prefix-words c = search needs
+
+slice-aggregate-append : tie.Need-slice-aggregate-append
+slice-aggregate-append c = simp length-take (omega arith)
+
+append-requires : tie.Need-append-requires
+append-requires c κs = search needs
+
+same-length : tie.Need-same-length
+same-length c = search needs
+
+returns : tie.Need-returns
+returns c =
+    let w = c .before .before in
+    let p = w .before .before .before .before in
+    let o = p .before .before .before .before in
+    let s = o .before .before .before in
+    let a = s .args in
+    w .append .ensures .wrote (Record.Opaque (a .gate) (take (a .p) (a .angles)) (take (a .q) (a .t6)))
+    (opaque-words (a .gate) (a .p) (a .q) (a .angles) (a .t6) (s .pre .1 .full) (s .pre .3) (s .pre .2) (s .pre .4) (o .put-angles .ensures) (p .copy .ensures))
+
+pub write-opaque-spec : {M : Type 1} → statement M
+write-opaque-spec =
+    tie.close
+    (tie.spec
+    array-write-words
+    array-write-words-2
+    array-write-words-3
+    array-write-words-4
+    slice-aggregate-put-angles
+    put-angles-requires
+    mul-end
+    add-end
+    slice-aggregate-copy
+    array-share-prefix-qubits
+    slice-aggregate-copy-2
+    copy-requires
+    add-n
+    array-share-prefix-words
+    slice-aggregate-append
+    append-requires
+    same-length
+    returns)

@@ -1,0 +1,88 @@
+-- What the functions that write records promise, and what their answers say in document 01's words.
+use Prim.Native.Nat.{ℕ, _+_, _*_, _≤_, _<_}
+use mathlib.Core.Path.{_≡_}
+use mathlib.Core.Bool.{Bool, false, cond}
+use mathlib.Core.List.{List, [], _∷_, map, flatMap}
+use lib.ListN.{length, getD}
+use lib.Seq.{sets}
+use Rattle.value.specs.declared.Value.{Value}
+use Rattle.value.specs.Value.{Sound}
+use Rattle.model.specs.Lists.{range, sum}
+use Rattle.model.specs.Evaluate.{zeroValue}
+use Rattle.float.specs.Float.{bits as floatBits}
+use Rattle.model.specs.Records.{Record, encode, pair}
+use Rattle.model.specs.Steps.{Step, write, Refusal, offsets}
+use Rattle.model.specs.Run.{Answer, done, refused, full, rejected, shortTrace}
+use Rattle.model.specs.Playing.{Place, Plays}
+use Rattle.image.specs.Answer.{verdictOf, numberIn, placeIn}
+use Rattle.writer.specs.declared.Position.{Position}
+use Rattle.writer.specs.declared.LinearizeErrorKind.{LinearizeErrorKind}
+use Rattle.writer.specs.declared.LinearizeErrorKind.the-variants as kind
+use Rattle.writer.specs.declared.LinearizeError.{LinearizeError}
+use Rattle.writer.specs.declared.Linearized.{Linearized}
+use Rattle.writer.specs.declared.Linearized.the-variants as linearized
+
+-- the answer of a kind of refusal, with the words of the trace
+abbrev pub answerTo : LinearizeErrorKind → List ℕ → Answer
+answerTo (kind.DivideByZero p) t = refused t (Refusal.DivideByZero p)
+answerTo (kind.ApproximateFail p f) t = refused t (Refusal.ApproximateFail p (floatBits f))
+answerTo (kind.NumericalOverflow p) t = refused t (Refusal.NumericalOverflow p)
+answerTo (kind.OverlappingRegs p q) t = refused t (Refusal.OverlappingRegs p q)
+answerTo (kind.FunctionOfFloats p) t = refused t (Refusal.FunctionOfFloats p)
+answerTo kind.OutputFull t = full t
+answerTo (kind.Rejected c) t = rejected (numberIn (verdictOf c)) (placeIn (verdictOf c))
+answerTo kind.ShortTrace t = shortTrace
+
+abbrev pub answerOf : Linearized → List ℕ → Answer
+answerOf (linearized.Done p) t = done
+answerOf (linearized.Refused e) t = answerTo (e .kind) t
+
+-- what is written by then
+abbrev pub positionOf : Linearized → Position
+positionOf (linearized.Done p) = p
+positionOf (linearized.Refused e) = e .at
+
+abbrev pub placeAt : List ℕ → Position → Place
+placeAt out p = record { out = out; words = p .words; records = p .records }
+
+-- a position in an output: a record has a word at least, so that the count of records cannot wrap
+pub record Open (out : List ℕ) (at : Position) : Type 0 where
+  pub inside : at .words ≤ length out
+  pub fewer : at .records ≤ at .words
+
+-- some steps were played, and no call is left on the stack by them
+pub record Wrote (ss : List Step) (out : List ℕ) (at : Position) (r : Linearized) (out′ : List ℕ) : Type 0 where
+  pub plays : Plays ss (placeAt out at) (placeAt out′ (positionOf r)) (answerOf r [])
+  pub level : positionOf r .trace ≡ at .trace
+
+-- some words were appended: whatever record they are, it was written
+pub record Appended (ws out : List ℕ) (at : Position) (r : Linearized) (out′ : List ℕ) : Type 0 where
+  pub wrote : (x : Record) → encode x ≡ ws → Wrote (write [] x ∷ []) out at r out′
+
+-- sixteen angles, each in lowest terms and in range
+pub record SoundAngles (angles : List Value) : Type 0 where
+  pub full : length angles ≡ 16
+  pub each : (i : ℕ) → i < 16 → Sound (getD angles i zeroValue)
+
+-- the marked numbers below an end, in rising order
+unfoldable pub marked : List Bool → ℕ → List ℕ
+marked marks end = flatMap (λ q. cond (getD marks q false) (q ∷ []) []) (range 0 end)
+
+-- the position behind a record of n words
+abbrev pub after : Position → ℕ → Position
+after at n = record { records = at .records + 1; words = at .words + n; trace = at .trace }
+
+-- the marked numbers were put behind two words, and counted
+pub record Collected (marks : List Bool) (end : ℕ) (out : List ℕ) (n : ℕ) (out′ : List ℕ) : Type 0 where
+  pub contents : out′ ≡ sets out 2 (marked marks end)
+  pub count : n ≡ length (marked marks end)
+  pub few : n ≤ end
+
+-- a register with each offset below its size
+unfoldable pub pairsOf : ℕ → ℕ → List ℕ
+pairsOf r size = flatMap pair (map (λ o. (r, o)) (range 0 size))
+
+-- the pairs of n registers of some sizes were put from a place on, to an end
+pub record Paired (sizes : ℕ → ℕ) (n : ℕ) (out : List ℕ) (start end : ℕ) (out′ : List ℕ) : Type 0 where
+  pub contents : out′ ≡ sets out start (flatMap pair (offsets sizes n))
+  pub ends : end ≡ start + 2 * sum (map sizes (range 0 n))
