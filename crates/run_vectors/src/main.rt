@@ -155,7 +155,7 @@ fn position(ended: Linearized) -> Position {
 
 // What a run tells, as a line writes it.
 fn answer(ended: Linearized) -> [u64; 6] {
-    let n = unit::numbers(ended);
+    let n = unit::numbers_of(ended);
     let at = position(ended);
     [n.number, n.place, n.second, at.records, at.words, at.trace]
 }

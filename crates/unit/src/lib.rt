@@ -73,11 +73,14 @@ fn of_kind(kind: LinearizeErrorKind) -> Numbers
 }
 
 // The numbers of a run's answer.
-pub fn numbers(r: Linearized) -> Numbers
+pub fn numbers_of(r: Linearized) -> Numbers
     ensures { λ n. ⌜ Told r n ⌝ }
 {
     match r {
         Linearized::Done(_) => Numbers { number: 0, place: 0, second: 0 },
-        Linearized::Refused(e) => of_kind(e.kind),
+        Linearized::Refused(e) => {
+            let kind = e.kind;
+            of_kind(kind)
+        }
     }
 }

@@ -1,0 +1,28 @@
+use mathlib.Core.Path.{refl, sym}
+use borrow.Author.Needs.{needs}
+use Rattle.model.specs.Run.{told}
+use Rattle.unit.proofs.numbers_of.Statement.{statement}
+use Rattle.unit.proofs.numbers_of.Tie as tie
+use Rattle.unit.proofs.numbers_of.Reads as reads
+use Rattle.unit.proofs.numbers_of.Lts as lts
+use Rattle.unit.proofs.of_kind.Reads as of-kind-reads
+
+enum-told : tie.Need-enum-told
+enum-told c = search needs
+
+enum-known-r : tie.Need-enum-known-r
+enum-known-r c = search needs
+
+of-kind-requires : tie.Need-of-kind-requires
+of-kind-requires c κs = search needs
+
+returns : tie.Need-returns
+unfolding told
+returns c = record { each = λ t. rw (c .enum-told .given .1) refl }
+
+returns-2 : tie.Need-returns-2
+unfolding told
+returns-2 c = record { each = λ t. rw (c .before .before .r .given .1) (c .of-kind .ensures .each t) }
+
+pub numbers-of-spec : {M : Type 1} → statement M
+numbers-of-spec = tie.close (tie.spec enum-told enum-known-r of-kind-requires returns returns-2)

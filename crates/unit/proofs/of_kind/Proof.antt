@@ -1,0 +1,103 @@
+use mathlib.Core.Path.{refl, sym}
+use borrow.Author.Needs.{needs}
+use Rattle.model.specs.Run.{told}
+use Rattle.unit.proofs.of_kind.Statement.{statement}
+use Rattle.unit.proofs.of_kind.Tie as tie
+use Rattle.unit.proofs.of_kind.Reads as reads
+use Rattle.unit.proofs.of_kind.Lts as lts
+use Rattle.float.proofs.bits_of.Reads as bits-of-reads
+use Rattle.image.proofs.number_of.Reads as number-of-reads
+use Rattle.image.proofs.place_of.Reads as place-of-reads
+
+enum-known-kind : tie.Need-enum-known-kind
+enum-known-kind c = search needs
+
+enum-known-kind-2 : tie.Need-enum-known-kind-2
+enum-known-kind-2 c = search needs
+
+bits-of-requires : tie.Need-bits-of-requires
+bits-of-requires c κs = search needs
+
+cast-t12 : tie.Need-cast-t12
+cast-t12 c = search needs
+
+enum-known-kind-3 : tie.Need-enum-known-kind-3
+enum-known-kind-3 c = search needs
+
+enum-known-kind-4 : tie.Need-enum-known-kind-4
+enum-known-kind-4 c = search needs
+
+enum-known-kind-5 : tie.Need-enum-known-kind-5
+enum-known-kind-5 c = search needs
+
+enum-told : tie.Need-enum-told
+enum-told c = search needs
+
+enum-known-kind-6 : tie.Need-enum-known-kind-6
+enum-known-kind-6 c = search needs
+
+number-of-requires : tie.Need-number-of-requires
+number-of-requires c κs = search needs
+
+place-of-requires : tie.Need-place-of-requires
+place-of-requires c κs = search needs
+
+enum-told-2 : tie.Need-enum-told-2
+enum-told-2 c = search needs
+
+returns : tie.Need-returns
+unfolding told
+returns c = record { each = λ t. rw (c .before .kind .given .1) refl }
+
+returns-2 : tie.Need-returns-2
+unfolding told
+returns-2 c = record { each = λ t. rw (c .before .before .kind2 .given .1, c .bits-of .ensures) refl }
+
+returns-3 : tie.Need-returns-3
+unfolding told
+returns-3 c = record { each = λ t. rw (c .before .kind3 .given .1) refl }
+
+returns-4 : tie.Need-returns-4
+unfolding told
+returns-4 c = record { each = λ t. rw (c .before .kind4 .given .1) refl }
+
+returns-5 : tie.Need-returns-5
+unfolding told
+returns-5 c = record { each = λ t. rw (c .before .kind5 .given .1) refl }
+
+returns-6 : tie.Need-returns-6
+unfolding told
+returns-6 c = record { each = λ t. rw (c .enum-told .given .1) refl }
+
+returns-7 : tie.Need-returns-7
+unfolding told
+returns-7 c = record { each = λ t. rw (c .before .before .before .kind6 .given .1, c .before .number-of .ensures, c .place-of .ensures) refl }
+
+returns-8 : tie.Need-returns-8
+unfolding told
+returns-8 c = record { each = λ t. rw (c .enum-told2 .given .1) refl }
+
+pub of-kind-spec : {M : Type 1} → statement M
+of-kind-spec =
+    tie.close
+    (tie.spec
+    enum-known-kind
+    enum-known-kind-2
+    bits-of-requires
+    cast-t12
+    enum-known-kind-3
+    enum-known-kind-4
+    enum-known-kind-5
+    enum-told
+    enum-known-kind-6
+    number-of-requires
+    place-of-requires
+    enum-told-2
+    returns
+    returns-2
+    returns-3
+    returns-4
+    returns-5
+    returns-6
+    returns-7
+    returns-8)
