@@ -1,26 +1,26 @@
 -- A body: the frame that a call opens it with, and its statements in turn.
-use Prim.Native.Nat.{ℕ, zero, suc, _+_, _-_, _*_, _≤_, _<_, min}
-use native.Mathlib.Nat.{add-zero, zero-add}
+use Prim.Native.Nat.{ℕ, zero, suc, _+_, _-_, _≤_, _<_}
+use native.Mathlib.Nat.{add-zero}
 use native.Mathlib.Omega.{arith}
-use mathlib.Core.Path.{_≡_, refl, sym, ap, ap₂, subst, fun-ext, _∙_}
+use mathlib.Core.Path.{_≡_, refl, sym, ap, subst, fun-ext, _∙_}
 use mathlib.Core.List.{List, [], _∷_, _++_, map, flatMap}
 use borrow.Author.Tests.{ne-eqb, eq-eqb}
-use lib.Dec.{T, leb→le}
+use lib.Dec.{leb→le}
 use Rattle.model.specs.Check.{gateOk}
-use lib.ListN.{length, take, length-take}
+use lib.ListN.{take, length-take}
 use Rattle.value.specs.declared.Value.{Value}
 use Rattle.model.specs.Lists.{range}
 use Rattle.model.specs.Image.{Statement, U, CX, Gate, Barrier, Measure, Reset, Conditional, Unknown, statement, statementAt, gates, gateParameters, gateArguments, gateBody, variables, rounds, scopeStatements}
 use Rattle.model.specs.Records.{Record}
-use Rattle.model.specs.Steps.{Frame, Step, write, enter, inRounds, qubitIn, pushFrame, openGate, writeOpaque, visitGate, visitPlain, visitConditional, visitStatement, visitBody, opening}
-use Rattle.model.proofs.All.{All, test, all-All, All-members, range-All}
+use Rattle.model.specs.Steps.{Frame, Step, write, enter, inRounds, qubitIn, pushFrame, openGate, writeOpaque, visitGate, visitPlain, visitStatement, visitBody, opening}
+use Rattle.model.proofs.All.{test, all-All}
 use Rattle.model.proofs.Accepted.{Accepted}
 use Rattle.model.proofs.Facts.{PlainFacts, Facts, run-facts}
-use Rattle.model.proofs.StepsSound.{FrameOk, Declared, all-below}
+use Rattle.model.proofs.StepsSound.{Declared, all-below}
 use Rattle.model.proofs.TraceLaws.{under, opening-under}
 use Rattle.image.specs.declared.Layout.{Layout}
 use Rattle.linearize.specs.declared.Call.{Call}
-use Rattle.statement.specs.Frames.{standing, formalsOf, Stands, Called, QubitsAre}
+use Rattle.statement.specs.Frames.{standing, formalsOf, Stands, QubitsAre}
 use Rattle.linearize.specs.Running.{plainSteps, Calls, callSteps}
 
 -- ---- a round of a call
@@ -58,7 +58,7 @@ module _ {image : List ℕ} {l : Layout} {qs bs : List ℕ} {scope : ℕ} {forma
             omega arith,
             length-take (gateArguments image (call .gate)) q ∙ omega (arith, arguments-are, c .arguments-fit .few, k .full),
             subst (Declared image (st .accepted)) (sym new-qubits)
-            (all-below image (st .accepted) (standing image scope [] formals) (st .ready) i (range (call .argument) (call .arguments)) (all-All _ _ (c .arguments-fit .each)) (c .arguments-fit .match) h),
+                (all-below image (st .accepted) (standing image scope [] formals) (st .ready) i (range (call .argument) (call .arguments)) (all-All _ _ (c .arguments-fit .each)) (c .arguments-fit .match) h),
           );
         }
 

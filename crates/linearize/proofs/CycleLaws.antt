@@ -1,14 +1,14 @@
 -- What statements, calls and bodies hand on to each other.
-use Prim.Native.Nat.{ℕ, zero, suc, _+_, _-_, _*_, _≤_, _<_}
+use Prim.Native.Nat.{ℕ, zero, suc, _+_, _-_, _≤_, _<_}
 use native.Mathlib.Numerals.{add-one}
 use native.Mathlib.Omega.{arith}
 use mathlib.Core.Path.{_≡_, refl, sym, ap, subst, _∙_}
-use mathlib.Core.List.{List, [], _∷_, map}
-use lib.ListN.{length, take}
+use mathlib.Core.List.{List, []}
+use lib.ListN.{length}
 use Rattle.value.specs.declared.Value.{Value}
 use Rattle.model.specs.Lists.{range}
-use Rattle.model.specs.Image.{Statement, word, statement, statementOf, statementAt, gates, scopeStatements, rounds}
-use Rattle.model.specs.Steps.{Frame, Step, enter, inRounds, qubitIn, pushFrame, openGate, writeOpaque, visitGate, visitPlain, visitStatement, opening}
+use Rattle.model.specs.Image.{word, statement, statementOf, statementAt, gates, scopeStatements, rounds}
+use Rattle.model.specs.Steps.{Frame, Step, qubitIn, pushFrame, writeOpaque, visitGate, visitPlain, opening}
 use Rattle.model.proofs.Facts.{PlainFacts}
 use Rattle.image.specs.declared.Layout.{Layout}
 use Rattle.image.specs.declared.Span.{Span}
@@ -20,7 +20,7 @@ use Rattle.linearize.specs.declared.Call.{Call}
 use Rattle.writer.specs.declared.Linearized.{Linearized}
 use Rattle.writer.specs.Promise.{Open, Wrote, SoundAngles}
 use Rattle.statement.specs.Frames.{standing, QubitsAre}
-use Rattle.linearize.specs.Running.{nested, Ready, Ran, plainSteps, Calls, callSteps}
+use Rattle.linearize.specs.Running.{Ready, Ran, plainSteps, Calls, callSteps}
 use Rattle.writer.specs.declared.Linearized.the-variants as linearized
 use Rattle.statement.proofs.LoopLaws.{Looped, wrote-open}
 use Rattle.linearize.proofs.RanLaws.{ran-wrote}

@@ -1,29 +1,22 @@
 -- A call: what the check accepted of it, its frame in a round, and its steps.
-use Prim.Native.Nat.{ℕ, zero, suc, _+_, _*_, _≤_, _<_}
-use native.Mathlib.Nat.{add-zero, zero-add}
+use Prim.Native.Nat.{ℕ, zero, suc, _+_, _≤_, _<_}
+use native.Mathlib.Nat.{add-zero}
 use native.Mathlib.Omega.{arith}
-use mathlib.Core.Path.{_≡_, refl, sym, ap, ap₂, subst, fun-ext, _∙_}
-use mathlib.Core.Bool.{cond}
-use mathlib.Core.List.{List, [], _∷_, _++_, map, flatMap}
-use borrow.Author.Tests.{ne-eqb, eq-eqb}
+use mathlib.Core.Path.{_≡_, refl, sym, ap, ap₂, subst, _∙_}
+use mathlib.Core.List.{List, [], _∷_, map}
 use lib.Dec.{T, ltb→lt, leb→le}
-use lib.ListN.{length, take, length-take}
 use Rattle.value.specs.declared.Value.{Value}
 use Rattle.model.specs.Lists.{range, all}
-use Rattle.model.specs.Image.{Statement, Gate, word, statement, statementAt, parameterAt, parameter, parameters, gates, gateParameters, gateArguments, gateBody, variables, rounds, scopeStatements}
-use Rattle.model.specs.Check.{expressionOk, argumentOk, downward, gateOk}
-use Rattle.model.specs.Steps.{Frame, Step, refuse, Refusal, enter, Values, have, lack, given, parameterValues, withValues, inRounds, qubitIn, pushFrame, openGate, writeOpaque, visitGate, visitPlain, visitConditional, visitStatement, visitBody, opening}
-use Rattle.model.proofs.All.{All, nil, cons, test, all-All, All-all, All-of, of-All}
-use Rattle.model.proofs.Accepted.{Accepted}
-use Rattle.model.proofs.Facts.{PlainFacts, Facts, facts}
-use Rattle.model.proofs.StepsSound.{FrameOk, Declared, all-below}
-use Rattle.model.proofs.TraceLaws.{under, opening-under}
+use Rattle.model.specs.Image.{Gate, word, statement, statementAt, parameterAt, parameter, parameters, gates, gateParameters, gateArguments, variables}
+use Rattle.model.specs.Check.{expressionOk, downward, gateOk}
+use Rattle.model.specs.Steps.{Frame, refuse, Refusal, have, lack, given, parameterValues, withValues, visitPlain}
+use Rattle.model.proofs.All.{test, all-All, All-all, All-of}
+use Rattle.model.proofs.Facts.{PlainFacts}
+use Rattle.model.proofs.StepsSound.{FrameOk}
 use Rattle.image.specs.declared.Layout.{Layout}
-use Rattle.image.specs.Layout.{Laid}
 use Rattle.image.proofs.KindLaws.{gate-is, words-are}
 use Rattle.linearize.specs.declared.Call.{Call}
-use Rattle.writer.specs.Promise.{SoundAngles}
-use Rattle.statement.specs.Frames.{standing, formalsOf, namedAt, Listed, Stands, Called, QubitsAre}
+use Rattle.statement.specs.Frames.{standing, namedAt, Listed, Stands}
 use Rattle.linearize.specs.Running.{nested, plainSteps, callOf, Calls, callSteps}
 use Rattle.statement.proofs.GivenLaws.{listed-values}
 
@@ -95,7 +88,7 @@ module _ {image : List ℕ} {l : Layout} {qs bs : List ℕ} {scope : ℕ} {forma
               few = (leb→le (gateParameters image gate) 16 (test 0 _ (st .accepted .gateEntry gate (call-facts .0))), few-variables scope [] _ (st .ready));
               near = omega (arith, call-facts .1, st .laid .whole, st .laid .short);
               each = subst (λ (es : List ℕ). T (all (expressionOk image (variables image scope) 32) es)) (sym (named-is image (word image (at + 2)) (gateParameters image gate)))
-                (All-all _ (All-of (parameter image) (all-All _ _ (call-facts .4))));
+                  (All-all _ (All-of (parameter image) (all-All _ _ (call-facts .4))));
             })
 
     -- ---- its steps

@@ -3,17 +3,17 @@ use Prim.Native.Nat.{ℕ, _+_, _≤_, _<_}
 use native.Mathlib.Nat.{zero-add}
 use native.Mathlib.Omega.{arith}
 use mathlib.Core.Path.{_≡_, refl, sym, ap, ap₂, subst, _∙_}
-use mathlib.Core.Bool.{Bool, true, false, cond}
+use mathlib.Core.Bool.{false, cond}
 use mathlib.Core.List.{List, [], _∷_, _++_, map, flatMap, List·Memᴰ}
 use borrow.Author.Tests.{le-ltb, lt-ltb}
-use lib.Dec.{T, eqb, ltb}
+use lib.Dec.{T, eqb}
 use lib.ListN.{length, take, drop}
-use lib.Seq.{sets, sets-eq, take-append-seam}
+use lib.Seq.{sets-eq, take-append-seam}
 use Rattle.model.specs.Lists.{range, sum}
 use Rattle.model.specs.Image.{mainStatements}
 use Rattle.model.specs.Check.{Verdict, fine, bad, check, contentsOk}
 use Rattle.model.specs.Steps.{steps}
-use Rattle.model.specs.Run.{Answer, done, full, traceOf, Played, stop, shortTrace, rejected, accepted, play, runs, output, Outcome, laidOver, outcomeOf, linearize}
+use Rattle.model.specs.Run.{Answer, done, full, traceOf, Played, rejected, accepted, play, runs, output, Outcome, laidOver, outcomeOf, linearize}
 use Rattle.model.specs.Tally.{recordFigure, wordBound}
 use Rattle.model.specs.Reader.{recordsIn}
 use Rattle.model.specs.Claims.{Claims, count, declared, distinct}
@@ -28,7 +28,6 @@ use Rattle.image.specs.Answer.{verdictOf, numberIn, placeIn}
 use Rattle.writer.specs.declared.Position.{Position}
 use Rattle.writer.specs.declared.LinearizeErrorKind.{LinearizeErrorKind}
 use Rattle.writer.specs.declared.LinearizeErrorKind.the-variants as kind
-use Rattle.writer.specs.declared.LinearizeError.{LinearizeError}
 use Rattle.writer.specs.declared.Linearized.{Linearized}
 use Rattle.writer.specs.declared.Linearized.the-variants as linearized
 use Rattle.writer.specs.Promise.{answerTo, answerOf, positionOf}

@@ -1,20 +1,19 @@
 -- Main: conditionals, the statements in turn, and the head before them.
-use Prim.Native.Nat.{ℕ, zero, suc, _+_, _-_, _≤_, _<_, zero-le}
+use Prim.Native.Nat.{ℕ, _+_, _-_, _≤_, _<_, zero-le}
 use native.Mathlib.Nat.{zero-add}
 use native.Mathlib.Omega.{arith}
 use mathlib.Core.Path.{_≡_, refl, sym, ap, ap₂, subst, _∙_}
-use mathlib.Core.Bool.{true, false, cond}
 use mathlib.Core.List.{List, [], _∷_, _++_, map}
 use borrow.Author.Tests.{eq-eqb, ne-eqb}
 use lib.ListN.{length, getD}
 use Rattle.value.specs.declared.Value.{Value}
 use Rattle.value.specs.Value.{Sound}
 use Rattle.model.specs.Lists.{range, sum}
-use Rattle.model.specs.Image.{Statement, Conditional, word, quantumRegisters, quantumSize, firstQubit, statement, statementAt, mainStatements, classicalRegisters, classicalSize, firstBit, variables, scopeStatements}
+use Rattle.model.specs.Image.{Conditional, word, quantumRegisters, quantumSize, firstQubit, statement, statementAt, mainStatements, classicalRegisters, classicalSize, firstBit, variables, scopeStatements}
 use Rattle.model.specs.Records.{Record}
 use Rattle.model.specs.Steps.{Step, write, inRounds, visitPlain, visitConditional, visitStatement, visitBody, opening, mainFrame, headRecord, steps}
 use Rattle.model.specs.Evaluate.{zeroValue}
-use Rattle.model.proofs.All.{All, nil, cons, All-getD}
+use Rattle.model.proofs.All.{nil, cons, All-getD}
 use Rattle.model.proofs.Facts.{PlainFacts, Facts, no-if, run-facts}
 use Rattle.model.specs.Run.{play}
 use Rattle.model.proofs.PlayLaws.{plays-stop}
@@ -32,12 +31,10 @@ use Rattle.writer.specs.declared.Position.{Position}
 use Rattle.writer.specs.Promise.{Open, Wrote, SoundAngles}
 use Rattle.linearize.specs.Running.{Tabled, Ready, plainSteps}
 use Rattle.statement.proofs.ArgumentLaws.{few-classical, count-sum}
-use Rattle.linearize.proofs.BodyLaws.{statement-steps}
 
 -- ---- a main statement by its kind
 
 module _ (image : List ℕ) (s : ℕ) where
-
   is-if : word image (statementAt image s) ≡ 7 → statement image s ≡ Conditional (word image (statementAt image s + 1)) (word image (statementAt image s + 2)) (word image (statementAt image s + 3))
   is-if e = words-are image s (statementAt image s) _ _ _ _ _ refl refl refl refl refl refl ∙ if-is _ _ _ _ (word image (statementAt image s + 4)) e
 

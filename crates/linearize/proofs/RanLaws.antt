@@ -9,10 +9,9 @@ use lib.Dec.{leb}
 use lib.ListN.{length, set}
 use lib.Seq.{sets, set-comm, length-sets}
 use Rattle.model.specs.Lists.{range}
-use Rattle.model.specs.Records.{Record, encode}
+use Rattle.model.specs.Records.{encode}
 use Rattle.model.specs.Steps.{Step, write, enter, refuse, inRounds}
-use Rattle.model.specs.Run.{Answer, done, refused, full, rejected, shortTrace, traceOf, Played, stop, after, play}
-use Rattle.model.specs.Playing.{Plays, room}
+use Rattle.model.specs.Run.{Answer, done, refused, full, rejected, shortTrace, traceOf, stop, after, play}
 use Rattle.model.proofs.PlayLaws.{going-stopped, rounds-next, plays-enter, plays-append, plays-stopped}
 use Rattle.model.proofs.TraceLaws.{under, underAnswer, plays-under}
 use Rattle.writer.specs.declared.Position.{Position}
@@ -21,7 +20,7 @@ use Rattle.writer.specs.declared.LinearizeErrorKind.the-variants as kind
 use Rattle.writer.specs.declared.LinearizeError.{LinearizeError}
 use Rattle.writer.specs.declared.Linearized.{Linearized}
 use Rattle.writer.specs.declared.Linearized.the-variants as linearized
-use Rattle.writer.specs.Promise.{answerTo, answerOf, positionOf, placeAt, Open, Wrote}
+use Rattle.writer.specs.Promise.{answerTo, answerOf, Wrote}
 use Rattle.linearize.specs.Running.{Ran}
 use Rattle.statement.proofs.LoopLaws.{not-done, Looped, looped-next, looped-done}
 

@@ -11,7 +11,6 @@ use Rattle.model.specs.Run.{Answer, done, full, Outcome, linearize}
 use Rattle.model.specs.Tally.{recordFigure, wordBound}
 use Rattle.model.specs.Reader.{recordsIn}
 use Rattle.model.specs.Claims.{count, declared, distinct}
-use Rattle.writer.specs.declared.Position.{Position}
 use Rattle.writer.specs.declared.LinearizeErrorKind.{LinearizeErrorKind}
 use Rattle.writer.specs.declared.Linearized.{Linearized}
 use Rattle.writer.specs.declared.Linearized.the-variants as linearized

@@ -36,7 +36,14 @@ fn mark_call(trace: &mut [u64], at: u64, scope: u64, place: u64)
 }
 
 // A body with no level left: its gate with its qubits, and no angles.
-fn write_cut(image: &[u64], l: Layout, frame: Frame, g: u64, out: &mut [u64], at: Position) -> Linearized
+fn write_cut(
+    image: &[u64],
+    l: Layout,
+    frame: Frame,
+    g: u64,
+    out: &mut [u64],
+    at: Position,
+) -> Linearized
     requires { ⌜ Laid (now image) l × SoundAngles (frame .angles) × (length (frame .qubits) ≡ 16) × (g < l .gates) × (gateArguments (now image) g ≤ 16) × Open (now out) at ⌝ }
     ensures { λ r. ⌜ Wrote (write [] (Record.Opaque g [] (take (gateArguments (now (image .entry)) g) (frame .qubits))) ∷ []) (now (out .entry)) at r (now (out .exit)) ⌝ }
 {
@@ -47,7 +54,18 @@ fn write_cut(image: &[u64], l: Layout, frame: Frame, g: u64, out: &mut [u64], at
 }
 
 // A statement of kind 1, 2, 4, 5 or 6, which opens no gate.
-fn visit_leaf(image: &[u64], l: Layout, qubits: &[u64; 4096], bits: &[u64; 4096], table: &mut [u64; 16368], scope: u64, frame: Frame, s: u64, out: &mut [u64], at: Position) -> Linearized
+fn visit_leaf(
+    image: &[u64],
+    l: Layout,
+    qubits: &[u64; 4096],
+    bits: &[u64; 4096],
+    table: &mut [u64; 16368],
+    scope: u64,
+    frame: Frame,
+    s: u64,
+    out: &mut [u64],
+    at: Position,
+) -> Linearized
     requires { ⌜ Stands (now image) l (now qubits) (now bits) scope (frame .qubits) × SoundAngles (frame .angles) × (s < l .all) × PlainFacts (now image) scope (statement (now image) s) × ¬ (word (now image) (statementAt (now image) s) ≡ 3) × Open (now out) at ⌝ }
     ensures { λ r. ⌜ Wrote (plainSteps (now (image .entry)) 0 (standing (now (image .entry)) scope (frame .angles) (frame .qubits)) s) (now (out .entry)) at r (now (out .exit)) ⌝ }
 {
@@ -57,7 +75,19 @@ fn visit_leaf(image: &[u64], l: Layout, qubits: &[u64; 4096], bits: &[u64; 4096]
     let b = image::word(image, place + 2);
     let formals = frame.qubits;
     match kind {
-        1 => statement::visit_u(image, l, qubits, bits, scope, frame, table, place + 1, image::word(image, place + 4), out, at),
+        1 => statement::visit_u(
+            image,
+            l,
+            qubits,
+            bits,
+            scope,
+            frame,
+            table,
+            place + 1,
+            image::word(image, place + 4),
+            out,
+            at,
+        ),
         2 => statement::visit_cx(image, l, qubits, bits, scope, &formals, a, b, out, at),
         4 => statement::visit_barrier(image, l, qubits, bits, scope, &formals, a, b, out, at),
         5 => statement::visit_measure(image, l, qubits, bits, scope, &formals, a, b, out, at),
@@ -107,18 +137,57 @@ fn at_trace(at: Position, trace: u64) -> Position
 }
 
 // A statement that is no conditional.
-fn visit_statement(image: &[u64], l: Layout, qubits: &[u64; 4096], bits: &[u64; 4096], table: &mut [u64; 16368], scope: u64, frame: Frame, s: u64, left: u64, out: &mut [u64], trace: &mut [u64], at: Position) -> Linearized
+fn visit_statement(
+    image: &[u64],
+    l: Layout,
+    qubits: &[u64; 4096],
+    bits: &[u64; 4096],
+    table: &mut [u64; 16368],
+    scope: u64,
+    frame: Frame,
+    s: u64,
+    left: u64,
+    out: &mut [u64],
+    trace: &mut [u64],
+    at: Position,
+) -> Linearized
     requires { ⌜ Ready (now image) l (now qubits) (now bits) scope frame (now out) (now trace) at × (s < l .all) × PlainFacts (now image) scope (statement (now image) s) ⌝ }
     ensures { λ r. ⌜ Ran (plainSteps (now (image .entry)) left (standing (now (image .entry)) scope (frame .angles) (frame .qubits)) s) (now (out .entry)) at (now (trace .entry)) r (now (out .exit)) (now (trace .exit)) ⌝ }
 {
     if image::word(image, image::statement_at(image, l, s)) == 3 {
-        return visit_gate(image, l, qubits, bits, table, scope, frame, s, left, out, trace, at);
+        return visit_gate(
+            image,
+            l,
+            qubits,
+            bits,
+            table,
+            scope,
+            frame,
+            s,
+            left,
+            out,
+            trace,
+            at,
+        );
     }
     visit_leaf(image, l, qubits, bits, table, scope, frame, s, out, at)
 }
 
 // A call: its parameters before anything else.
-fn visit_gate(image: &[u64], l: Layout, qubits: &[u64; 4096], bits: &[u64; 4096], table: &mut [u64; 16368], scope: u64, frame: Frame, s: u64, left: u64, out: &mut [u64], trace: &mut [u64], at: Position) -> Linearized
+fn visit_gate(
+    image: &[u64],
+    l: Layout,
+    qubits: &[u64; 4096],
+    bits: &[u64; 4096],
+    table: &mut [u64; 16368],
+    scope: u64,
+    frame: Frame,
+    s: u64,
+    left: u64,
+    out: &mut [u64],
+    trace: &mut [u64],
+    at: Position,
+) -> Linearized
     requires { ⌜ Ready (now image) l (now qubits) (now bits) scope frame (now out) (now trace) at × (s < l .all) × PlainFacts (now image) scope (statement (now image) s) × (word (now image) (statementAt (now image) s) ≡ 3) ⌝ }
     ensures { λ r. ⌜ Ran (plainSteps (now (image .entry)) left (standing (now (image .entry)) scope (frame .angles) (frame .qubits)) s) (now (out .entry)) at (now (trace .entry)) r (now (out .exit)) (now (trace .exit)) ⌝ }
 {
@@ -128,27 +197,93 @@ fn visit_gate(image: &[u64], l: Layout, qubits: &[u64; 4096], bits: &[u64; 4096]
     let angles = made.angles;
     let ends = made.ends;
     match ends {
-        Linearized::Done(now) => visit_rounds(image, l, qubits, bits, table, scope, frame, call, s, angles, left, out, trace, now),
+        Linearized::Done(now) => visit_rounds(
+            image,
+            l,
+            qubits,
+            bits,
+            table,
+            scope,
+            frame,
+            call,
+            s,
+            angles,
+            left,
+            out,
+            trace,
+            now,
+        ),
         Linearized::Refused(e) => Linearized::Refused(e),
     }
 }
 
 // A call in each round of its arguments, with its angles.
-fn visit_rounds(image: &[u64], l: Layout, qubits: &[u64; 4096], bits: &[u64; 4096], table: &mut [u64; 16368], scope: u64, frame: Frame, call: Call, s: u64, angles: [Value; 16], left: u64, out: &mut [u64], trace: &mut [u64], at: Position) -> Linearized
+fn visit_rounds(
+    image: &[u64],
+    l: Layout,
+    qubits: &[u64; 4096],
+    bits: &[u64; 4096],
+    table: &mut [u64; 16368],
+    scope: u64,
+    frame: Frame,
+    call: Call,
+    s: u64,
+    angles: [Value; 16],
+    left: u64,
+    out: &mut [u64],
+    trace: &mut [u64],
+    at: Position,
+) -> Linearized
     requires { ⌜ Ready (now image) l (now qubits) (now bits) scope frame (now out) (now trace) at × Calls (now image) l scope s call × SoundAngles angles ⌝ }
     ensures { λ r. ⌜ Ran (callSteps (now (image .entry)) left (standing (now (image .entry)) scope [] (frame .qubits)) s call (take (call .parameters) angles)) (now (out .entry)) at (now (trace .entry)) r (now (out .exit)) (now (trace .exit)) ⌝ }
 {
     let formals = frame.qubits;
     if call.body == 0 {
-        return statement::visit_opaque(image, l, qubits, bits, scope, &formals, call.gate, angles, call.parameters, call.argument, call.arguments, out, at);
+        return statement::visit_opaque(
+            image,
+            l,
+            qubits,
+            bits,
+            scope,
+            &formals,
+            call.gate,
+            angles,
+            call.parameters,
+            call.argument,
+            call.arguments,
+            out,
+            at,
+        );
     }
     let n = image::rounds_of(image, l, scope, call.argument, call.arguments);
     let mut now = at;
     let mut i = 0u64;
     while i < n {
-        let q = statement::qubits_in(image, l, qubits, bits, scope, &formals, call.argument, call.arguments, i);
+        let q = statement::qubits_in(
+            image,
+            l,
+            qubits,
+            bits,
+            scope,
+            &formals,
+            call.argument,
+            call.arguments,
+            i,
+        );
         let opened = Frame { angles, qubits: q };
-        match open_gate(image, l, qubits, bits, table, opened, call.gate, left, out, trace, at_trace(now, at.trace + 2)) {
+        match open_gate(
+            image,
+            l,
+            qubits,
+            bits,
+            table,
+            opened,
+            call.gate,
+            left,
+            out,
+            trace,
+            at_trace(now, at.trace + 2),
+        ) {
             Linearized::Done(next) => {
                 now = at_trace(next, at.trace);
             }
@@ -163,7 +298,19 @@ fn visit_rounds(image: &[u64], l: Layout, qubits: &[u64; 4096], bits: &[u64; 409
 }
 
 // A gate with a body, in the frame of a call: its statements, or the gate itself where no level is left.
-fn open_gate(image: &[u64], l: Layout, qubits: &[u64; 4096], bits: &[u64; 4096], table: &mut [u64; 16368], frame: Frame, g: u64, left: u64, out: &mut [u64], trace: &mut [u64], at: Position) -> Linearized
+fn open_gate(
+    image: &[u64],
+    l: Layout,
+    qubits: &[u64; 4096],
+    bits: &[u64; 4096],
+    table: &mut [u64; 16368],
+    frame: Frame,
+    g: u64,
+    left: u64,
+    out: &mut [u64],
+    trace: &mut [u64],
+    at: Position,
+) -> Linearized
     requires { ⌜ Ready (now image) l (now qubits) (now bits) (suc g) frame (now out) (now trace) at × (g < l .gates) ⌝ }
     ensures { λ r. ⌜ Ran (openGate (now (image .entry)) (opening (now (image .entry)) left) (standing (now (image .entry)) (suc g) (frame .angles) (frame .qubits)) g) (now (out .entry)) at (now (trace .entry)) r (now (out .exit)) (now (trace .exit)) ⌝ }
 {
@@ -176,7 +323,20 @@ fn open_gate(image: &[u64], l: Layout, qubits: &[u64; 4096], bits: &[u64; 4096],
     let mut now = at;
     let mut i = 0u64;
     while i < n {
-        match visit_statement(image, l, qubits, bits, table, g + 1, frame, first + i, left - 1, out, trace, now) {
+        match visit_statement(
+            image,
+            l,
+            qubits,
+            bits,
+            table,
+            g + 1,
+            frame,
+            first + i,
+            left - 1,
+            out,
+            trace,
+            now,
+        ) {
             Linearized::Done(next) => {
                 now = next;
             }
@@ -190,18 +350,55 @@ fn open_gate(image: &[u64], l: Layout, qubits: &[u64; 4096], bits: &[u64; 4096],
 }
 
 // The inner statement of a conditional, and the conditional's end.
-fn visit_held(image: &[u64], l: Layout, qubits: &[u64; 4096], bits: &[u64; 4096], table: &mut [u64; 16368], frame: Frame, t: u64, left: u64, out: &mut [u64], trace: &mut [u64], at: Position) -> Linearized
+fn visit_held(
+    image: &[u64],
+    l: Layout,
+    qubits: &[u64; 4096],
+    bits: &[u64; 4096],
+    table: &mut [u64; 16368],
+    frame: Frame,
+    t: u64,
+    left: u64,
+    out: &mut [u64],
+    trace: &mut [u64],
+    at: Position,
+) -> Linearized
     requires { ⌜ Ready (now image) l (now qubits) (now bits) 0 frame (now out) (now trace) at × (t < l .all) × PlainFacts (now image) 0 (statement (now image) t) ⌝ }
     ensures { λ r. ⌜ Ran (plainSteps (now (image .entry)) left (standing (now (image .entry)) 0 (frame .angles) (frame .qubits)) t ++ write [] Record.ConditionalEnd ∷ []) (now (out .entry)) at (now (trace .entry)) r (now (out .exit)) (now (trace .exit)) ⌝ }
 {
-    match visit_statement(image, l, qubits, bits, table, 0, frame, t, left, out, trace, at) {
+    match visit_statement(
+        image,
+        l,
+        qubits,
+        bits,
+        table,
+        0,
+        frame,
+        t,
+        left,
+        out,
+        trace,
+        at,
+    ) {
         Linearized::Done(next) => writer::write_conditional_end(out, next),
         Linearized::Refused(e) => Linearized::Refused(e),
     }
 }
 
 // A conditional: its start, and what it holds.
-fn visit_conditional(image: &[u64], l: Layout, qubits: &[u64; 4096], bits: &[u64; 4096], table: &mut [u64; 16368], frame: Frame, s: u64, left: u64, out: &mut [u64], trace: &mut [u64], at: Position) -> Linearized
+fn visit_conditional(
+    image: &[u64],
+    l: Layout,
+    qubits: &[u64; 4096],
+    bits: &[u64; 4096],
+    table: &mut [u64; 16368],
+    frame: Frame,
+    s: u64,
+    left: u64,
+    out: &mut [u64],
+    trace: &mut [u64],
+    at: Position,
+) -> Linearized
     requires { ⌜ Ready (now image) l (now qubits) (now bits) 0 frame (now out) (now trace) at × (s < l .all) × Facts (now image) 0 (statement (now image) s) × (word (now image) (statementAt (now image) s) ≡ 7) ⌝ }
     ensures { λ r. ⌜ Ran (visitStatement (now (image .entry)) (opening (now (image .entry)) left) (standing (now (image .entry)) 0 (frame .angles) (frame .qubits)) s) (now (out .entry)) at (now (trace .entry)) r (now (out .exit)) (now (trace .exit)) ⌝ }
 {
@@ -210,20 +407,69 @@ fn visit_conditional(image: &[u64], l: Layout, qubits: &[u64; 4096], bits: &[u64
     let size = image::word(image, 9 + l.quantum + register);
     let first = bits[register as usize];
     match writer::write_conditional_start(out, at, first, size, image::word(image, place + 2)) {
-        Linearized::Done(next) => visit_held(image, l, qubits, bits, table, frame, image::word(image, place + 3), left, out, trace, next),
+        Linearized::Done(next) => visit_held(
+            image,
+            l,
+            qubits,
+            bits,
+            table,
+            frame,
+            image::word(image, place + 3),
+            left,
+            out,
+            trace,
+            next,
+        ),
         Linearized::Refused(e) => Linearized::Refused(e),
     }
 }
 
 // A main statement.
-fn visit_main(image: &[u64], l: Layout, qubits: &[u64; 4096], bits: &[u64; 4096], table: &mut [u64; 16368], frame: Frame, s: u64, left: u64, out: &mut [u64], trace: &mut [u64], at: Position) -> Linearized
+fn visit_main(
+    image: &[u64],
+    l: Layout,
+    qubits: &[u64; 4096],
+    bits: &[u64; 4096],
+    table: &mut [u64; 16368],
+    frame: Frame,
+    s: u64,
+    left: u64,
+    out: &mut [u64],
+    trace: &mut [u64],
+    at: Position,
+) -> Linearized
     requires { ⌜ Ready (now image) l (now qubits) (now bits) 0 frame (now out) (now trace) at × (s < l .all) × Facts (now image) 0 (statement (now image) s) ⌝ }
     ensures { λ r. ⌜ Ran (visitStatement (now (image .entry)) (opening (now (image .entry)) left) (standing (now (image .entry)) 0 (frame .angles) (frame .qubits)) s) (now (out .entry)) at (now (trace .entry)) r (now (out .exit)) (now (trace .exit)) ⌝ }
 {
     if image::word(image, image::statement_at(image, l, s)) == 7 {
-        return visit_conditional(image, l, qubits, bits, table, frame, s, left, out, trace, at);
+        return visit_conditional(
+            image,
+            l,
+            qubits,
+            bits,
+            table,
+            frame,
+            s,
+            left,
+            out,
+            trace,
+            at,
+        );
     }
-    visit_statement(image, l, qubits, bits, table, 0, frame, s, left, out, trace, at)
+    visit_statement(
+        image,
+        l,
+        qubits,
+        bits,
+        table,
+        0,
+        frame,
+        s,
+        left,
+        out,
+        trace,
+        at,
+    )
 }
 
 // Main's frame: main has no variables and no formals.
@@ -237,7 +483,16 @@ fn main_frame() -> Frame
 }
 
 // The main statements in turn, with bodies opened so many levels deep.
-fn visit_program(image: &[u64], l: Layout, qubits: &[u64; 4096], bits: &[u64; 4096], left: u64, out: &mut [u64], trace: &mut [u64], at: Position) -> Linearized
+fn visit_program(
+    image: &[u64],
+    l: Layout,
+    qubits: &[u64; 4096],
+    bits: &[u64; 4096],
+    left: u64,
+    out: &mut [u64],
+    trace: &mut [u64],
+    at: Position,
+) -> Linearized
     requires { ⌜ Tabled (now image) l (now qubits) (now bits) × Open (now out) at × (256 ≤ length (now trace)) × (at .trace ≡ 0) ⌝ }
     ensures { λ r. ⌜ Ran (visitBody (now (image .entry)) (opening (now (image .entry)) left) mainFrame) (now (out .entry)) at (now (trace .entry)) r (now (out .exit)) (now (trace .exit)) ⌝ }
 {
@@ -247,7 +502,19 @@ fn visit_program(image: &[u64], l: Layout, qubits: &[u64; 4096], bits: &[u64; 40
     let mut now = at;
     let mut s = 0u64;
     while s < n {
-        match visit_main(image, l, qubits, bits, &mut table, frame, s, left, out, trace, now) {
+        match visit_main(
+            image,
+            l,
+            qubits,
+            bits,
+            &mut table,
+            frame,
+            s,
+            left,
+            out,
+            trace,
+            now,
+        ) {
             Linearized::Done(next) => {
                 now = next;
             }
@@ -268,7 +535,14 @@ fn levels(depth: u64) -> u64
 }
 
 // Where each register's qubits and bits start, then the main statements.
-fn visit_statements(image: &[u64], l: Layout, left: u64, out: &mut [u64], trace: &mut [u64], at: Position) -> Linearized
+fn visit_statements(
+    image: &[u64],
+    l: Layout,
+    left: u64,
+    out: &mut [u64],
+    trace: &mut [u64],
+    at: Position,
+) -> Linearized
     requires { ⌜ Laid (now image) l × Accepted (now image) × Open (now out) at × (256 ≤ length (now trace)) × (at .trace ≡ 0) ⌝ }
     ensures { λ r. ⌜ Ran (visitBody (now (image .entry)) (opening (now (image .entry)) left) mainFrame) (now (out .entry)) at (now (trace .entry)) r (now (out .exit)) (now (trace .exit)) ⌝ }
 {
@@ -280,7 +554,14 @@ fn visit_statements(image: &[u64], l: Layout, left: u64, out: &mut [u64], trace:
 }
 
 // The run of an accepted image: the head comes with the first main statement.
-fn run_laid(image: &[u64], l: Layout, depth: u64, out: &mut [u64], trace: &mut [u64], at: Position) -> Linearized
+fn run_laid(
+    image: &[u64],
+    l: Layout,
+    depth: u64,
+    out: &mut [u64],
+    trace: &mut [u64],
+    at: Position,
+) -> Linearized
     requires { ⌜ Laid (now image) l × Accepted (now image) × Open (now out) at × (256 ≤ length (now trace)) × (at .trace ≡ 0) ⌝ }
     ensures { λ r. ⌜ Ran (steps (now (image .entry)) depth) (now (out .entry)) at (now (trace .entry)) r (now (out .exit)) (now (trace .exit)) ⌝ }
 {

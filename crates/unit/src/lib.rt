@@ -61,14 +61,46 @@ fn of_kind(kind: LinearizeErrorKind) -> Numbers
     ensures { λ r. ⌜ ToldKind kind r ⌝ }
 {
     match kind {
-        LinearizeErrorKind::DivideByZero(place) => Numbers { number: 9, place, second: 0 },
-        LinearizeErrorKind::ApproximateFail(place, x) => Numbers { number: 10, place, second: float::bits_of(x) as u64 },
-        LinearizeErrorKind::NumericalOverflow(place) => Numbers { number: 11, place, second: 0 },
-        LinearizeErrorKind::OverlappingRegs(place, second) => Numbers { number: 12, place, second },
-        LinearizeErrorKind::FunctionOfFloats(place) => Numbers { number: 13, place, second: 0 },
-        LinearizeErrorKind::OutputFull => Numbers { number: 14, place: 0, second: 0 },
-        LinearizeErrorKind::Rejected(c) => Numbers { number: image::number_of(c), place: image::place_of(c), second: 0 },
-        LinearizeErrorKind::ShortTrace => Numbers { number: 15, place: 0, second: 0 },
+        LinearizeErrorKind::DivideByZero(place) => Numbers {
+            number: 9,
+            place,
+            second: 0,
+        },
+        LinearizeErrorKind::ApproximateFail(place, x) => Numbers {
+            number: 10,
+            place,
+            second: float::bits_of(x) as u64,
+        },
+        LinearizeErrorKind::NumericalOverflow(place) => Numbers {
+            number: 11,
+            place,
+            second: 0,
+        },
+        LinearizeErrorKind::OverlappingRegs(place, second) => Numbers {
+            number: 12,
+            place,
+            second,
+        },
+        LinearizeErrorKind::FunctionOfFloats(place) => Numbers {
+            number: 13,
+            place,
+            second: 0,
+        },
+        LinearizeErrorKind::OutputFull => Numbers {
+            number: 14,
+            place: 0,
+            second: 0,
+        },
+        LinearizeErrorKind::Rejected(c) => Numbers {
+            number: image::number_of(c),
+            place: image::place_of(c),
+            second: 0,
+        },
+        LinearizeErrorKind::ShortTrace => Numbers {
+            number: 15,
+            place: 0,
+            second: 0,
+        },
     }
 }
 
@@ -77,7 +109,11 @@ pub fn numbers_of(r: Linearized) -> Numbers
     ensures { λ n. ⌜ Told r n ⌝ }
 {
     match r {
-        Linearized::Done(_) => Numbers { number: 0, place: 0, second: 0 },
+        Linearized::Done(_) => Numbers {
+            number: 0,
+            place: 0,
+            second: 0,
+        },
         Linearized::Refused(e) => {
             let kind = e.kind;
             of_kind(kind)

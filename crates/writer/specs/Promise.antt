@@ -18,7 +18,6 @@ use Rattle.image.specs.Answer.{verdictOf, numberIn, placeIn}
 use Rattle.writer.specs.declared.Position.{Position}
 use Rattle.writer.specs.declared.LinearizeErrorKind.{LinearizeErrorKind}
 use Rattle.writer.specs.declared.LinearizeErrorKind.the-variants as kind
-use Rattle.writer.specs.declared.LinearizeError.{LinearizeError}
 use Rattle.writer.specs.declared.Linearized.{Linearized}
 use Rattle.writer.specs.declared.Linearized.the-variants as linearized
 

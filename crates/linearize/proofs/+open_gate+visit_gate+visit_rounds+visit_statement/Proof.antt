@@ -1,19 +1,16 @@
-use Prim.Native.Nat.{ℕ, suc, _+_, _-_, _*_, _<_}
+use Prim.Native.Nat.{ℕ, _+_, _-_, _*_, _<_}
 use native.Mathlib.Omega.{arith}
 use native.Mathlib.Numerals.{add-one}
 use mathlib.Core.Path.{_≡_, refl, sym, ap, subst, _∙_}
-use mathlib.Core.List.{List, [], _∷_}
+use mathlib.Core.List.{[], _∷_}
 use borrow.Author.Needs.{needs}
 use denote.Ref.{now}
 use lib.ListN.{length, take}
-use lib.Seq.{sets}
 use Rattle.model.specs.Lists.{range}
-use Rattle.model.specs.Image.{word, statementAt, gateArguments}
-use Rattle.model.specs.Steps.{Step, visitGate, opening}
-use Rattle.model.proofs.All.{test}
-use Rattle.writer.specs.Promise.{Wrote}
+use Rattle.model.specs.Image.{word}
+use Rattle.model.specs.Steps.{visitGate, opening}
 use Rattle.statement.specs.Frames.{standing}
-use Rattle.linearize.specs.Running.{nested, Ran}
+use Rattle.linearize.specs.Running.{nested}
 use Rattle.statement.proofs.LoopLaws.{Looped, looped-start, looped-next, looped-length}
 use Rattle.statement.proofs.GivenLaws.{named, refuses}
 use Rattle.statement.proofs.CallLaws.{call-rounds-few}

@@ -1,19 +1,11 @@
 use native.Mathlib.Omega.{arith}
-use Prim.Native.Nat.{ℕ, _+_, _-_, _*_, _<_}
-use mathlib.Core.Path.{_≡_, refl, sym, ap, subst, _∙_}
-use mathlib.Core.List.{List, [], _∷_}
+use Prim.Native.Nat.{_-_}
+use mathlib.Core.Path.{sym, ap, _∙_}
 use borrow.Author.Needs.{needs}
-use denote.Ref.{now}
-use lib.ListN.{length}
 use Rattle.linearize.proofs.OutcomeLaws.{short-trace, not-accepted, not-fine}
 use Rattle.image.specs.Answer.{verdictOf}
 use Rattle.linearize.proofs.run.Statement.{statement}
 use Rattle.linearize.proofs.run.Tie as tie
-use Rattle.linearize.proofs.run.Reads as reads
-use Rattle.linearize.proofs.run.Lts as lts
-use Rattle.linearize.proofs.refused.Reads as refused-reads
-use Rattle.linearize.proofs.run_accepted.Reads as run-accepted-reads
-use Rattle.image.proofs.check.Reads as check-reads
 
 refused-requires : tie.Need-refused-requires
 refused-requires c κs = search needs

@@ -1,10 +1,7 @@
-use native.Mathlib.Omega.{arith}
-use Prim.Native.Nat.{ℕ, _+_, _-_, _*_, _<_}
-use mathlib.Core.Path.{_≡_, refl, sym, ap, subst, _∙_}
-use mathlib.Core.List.{List, [], _∷_}
+use Prim.Native.Nat.{_-_}
+use mathlib.Core.Path.{ap, subst}
 use borrow.Author.Needs.{needs}
 use denote.Ref.{now}
-use lib.ListN.{length}
 use Rattle.linearize.proofs.RanLaws.{ran-lengths}
 use Rattle.linearize.proofs.OutcomeLaws.{accepted-run, contents-right}
 use Rattle.model.proofs.Accepted.{accepts}
@@ -12,12 +9,6 @@ use Rattle.image.specs.Layout.{ReadAs}
 use Prim.Native.Nat.{zero-le}
 use Rattle.linearize.proofs.run_accepted.Statement.{statement}
 use Rattle.linearize.proofs.run_accepted.Tie as tie
-use Rattle.linearize.proofs.run_accepted.Reads as reads
-use Rattle.linearize.proofs.run_accepted.Lts as lts
-use Rattle.linearize.proofs.refused.Reads as refused-reads
-use Rattle.linearize.proofs.run_laid.Reads as run-laid-reads
-use Rattle.linearize.proofs.start.Reads as start-reads
-use Rattle.image.proofs.read_contents.Reads as read-contents-reads
 
 read-contents-requires : tie.Need-read-contents-requires
 read-contents-requires c κs = search needs

@@ -1,20 +1,10 @@
-use native.Mathlib.Omega.{arith}
-use Prim.Native.Nat.{ℕ, _+_, _-_, _*_, _<_}
-use mathlib.Core.Path.{_≡_, refl, sym, ap, subst, _∙_}
-use mathlib.Core.List.{List, [], _∷_}
+use Prim.Native.Nat.{_-_}
+use mathlib.Core.Path.{refl, _∙_}
 use borrow.Author.Needs.{needs}
-use denote.Ref.{now}
-use lib.ListN.{length}
 use Rattle.linearize.proofs.RanLaws.{wrote-ran, wrote-then, wrote-stops, ran-lengths, ran-steps}
-use Rattle.statement.proofs.LoopLaws.{wrote-open}
 use Rattle.linearize.proofs.ProgramLaws.{no-steps, head-steps, wrote-nothing, open-after}
 use Rattle.linearize.proofs.run_laid.Statement.{statement}
 use Rattle.linearize.proofs.run_laid.Tie as tie
-use Rattle.linearize.proofs.run_laid.Reads as reads
-use Rattle.linearize.proofs.run_laid.Lts as lts
-use Rattle.linearize.proofs.levels.Reads as levels-reads
-use Rattle.linearize.proofs.visit_statements.Reads as visit-statements-reads
-use Rattle.writer.proofs.write_head.Reads as write-head-reads
 
 returns : tie.Need-returns
 returns c = ran-steps (no-steps _ _ (c .before .before .before .before .before .pre .0 .main-is) (c .if1 .taken)) (wrote-ran _ (wrote-nothing (c .before .before .before .before .before .pre .2)))

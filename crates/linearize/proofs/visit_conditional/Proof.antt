@@ -1,21 +1,12 @@
 use native.Mathlib.Omega.{arith}
-use Prim.Native.Nat.{ℕ, _+_, _-_, _*_, _<_}
-use mathlib.Core.Path.{_≡_, refl, sym, ap, subst, _∙_}
-use mathlib.Core.List.{List, [], _∷_}
+use Prim.Native.Nat.{_-_}
+use mathlib.Core.Path.{refl}
 use borrow.Author.Needs.{needs}
-use denote.Ref.{now}
-use lib.ListN.{length}
 use Rattle.linearize.proofs.RanLaws.{wrote-then, wrote-stops, ran-lengths, ran-steps}
 use Rattle.linearize.proofs.CycleLaws.{ready-wrote}
 use Rattle.linearize.proofs.ProgramLaws.{register-listed, held-listed, conditional-steps}
 use Rattle.linearize.proofs.visit_conditional.Statement.{statement}
 use Rattle.linearize.proofs.visit_conditional.Tie as tie
-use Rattle.linearize.proofs.visit_conditional.Reads as reads
-use Rattle.linearize.proofs.visit_conditional.Lts as lts
-use Rattle.linearize.proofs.visit_held.Reads as visit-held-reads
-use Rattle.writer.proofs.write_conditional_start.Reads as write-conditional-start-reads
-use Rattle.image.proofs.statement_at.Reads as statement-at-reads
-use Rattle.image.proofs.word.Reads as word-reads
 
 statement-at-requires : tie.Need-statement-at-requires
 statement-at-requires c κs = (c .before .before .before .pre .0 .stands .laid, omega (arith, c .before .before .before .pre .1, c .before .before .before .pre .0 .stands .laid .all-is, c .before .before .before .pre .0 .stands .laid .whole, c .before .before .before .pre .0 .stands .laid .short))

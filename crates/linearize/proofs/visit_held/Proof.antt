@@ -1,18 +1,9 @@
-use native.Mathlib.Omega.{arith}
-use Prim.Native.Nat.{ℕ, _+_, _-_, _*_, _<_}
-use mathlib.Core.Path.{_≡_, refl, sym, ap, subst, _∙_}
-use mathlib.Core.List.{List, [], _∷_}
+use Prim.Native.Nat.{_-_}
 use borrow.Author.Needs.{needs}
-use denote.Ref.{now}
-use lib.ListN.{length}
 use Rattle.linearize.proofs.RanLaws.{ran-then, ran-stops, ran-lengths}
 use Rattle.linearize.proofs.CycleLaws.{ran-open}
 use Rattle.linearize.proofs.visit_held.Statement.{statement}
 use Rattle.linearize.proofs.visit_held.Tie as tie
-use Rattle.linearize.proofs.visit_held.Reads as reads
-use Rattle.linearize.proofs.visit_held.Lts as lts
-use Rattle.linearize.proofs.visit_statement.Reads as visit-statement-reads
-use Rattle.writer.proofs.write_conditional_end.Reads as write-conditional-end-reads
 
 visit-statement-requires : tie.Need-visit-statement-requires
 visit-statement-requires c κs = (c .before .before .before .before .before .before .pre .0, c .before .before .before .before .before .before .pre .1, c .before .before .before .before .before .before .pre .2)

@@ -1,10 +1,8 @@
 use native.Mathlib.Omega.{arith}
-use Prim.Native.Nat.{ℕ, _+_, _-_, _*_, _<_}
-use mathlib.Core.Path.{_≡_, refl, sym, ap, subst, _∙_}
-use mathlib.Core.List.{List, [], _∷_}
+use Prim.Native.Nat.{_-_}
+use mathlib.Core.Path.{ap, _∙_}
 use borrow.Author.Needs.{needs}
 use denote.Ref.{now}
-use lib.ListN.{length}
 use Rattle.linearize.proofs.RanLaws.{ran-lengths, ran-steps}
 use Rattle.linearize.proofs.CycleLaws.{kind-read}
 use Rattle.linearize.proofs.BodyLaws.{statement-steps}
@@ -12,12 +10,6 @@ use Rattle.linearize.proofs.ProgramLaws.{plain-in-main}
 use Rattle.model.specs.Image.{word}
 use Rattle.linearize.proofs.visit_main.Statement.{statement}
 use Rattle.linearize.proofs.visit_main.Tie as tie
-use Rattle.linearize.proofs.visit_main.Reads as reads
-use Rattle.linearize.proofs.visit_main.Lts as lts
-use Rattle.linearize.proofs.visit_conditional.Reads as visit-conditional-reads
-use Rattle.linearize.proofs.visit_statement.Reads as visit-statement-reads
-use Rattle.image.proofs.statement_at.Reads as statement-at-reads
-use Rattle.image.proofs.word.Reads as word-reads
 
 statement-at-requires : tie.Need-statement-at-requires
 statement-at-requires c κs = (c .before .before .before .pre .0 .stands .laid, omega (arith, c .before .before .before .pre .1, c .before .before .before .pre .0 .stands .laid .all-is, c .before .before .before .pre .0 .stands .laid .whole, c .before .before .before .pre .0 .stands .laid .short))

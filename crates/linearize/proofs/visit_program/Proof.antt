@@ -1,7 +1,6 @@
 use native.Mathlib.Omega.{arith}
-use Prim.Native.Nat.{ℕ, _+_, _-_, _*_, _<_}
-use mathlib.Core.Path.{_≡_, refl, sym, ap, subst, _∙_}
-use mathlib.Core.List.{List, [], _∷_}
+use Prim.Native.Nat.{_-_}
+use mathlib.Core.Path.{_≡_, refl, ap, _∙_}
 use borrow.Author.Needs.{needs}
 use denote.Ref.{now}
 use lib.ListN.{length}
@@ -13,10 +12,6 @@ use Rattle.model.specs.Steps.{visitStatement, opening}
 use Rattle.statement.specs.Frames.{standing}
 use Rattle.linearize.proofs.visit_program.Statement.{statement}
 use Rattle.linearize.proofs.visit_program.Tie as tie
-use Rattle.linearize.proofs.visit_program.Reads as reads
-use Rattle.linearize.proofs.visit_program.Lts as lts
-use Rattle.linearize.proofs.main_frame.Reads as main-frame-reads
-use Rattle.linearize.proofs.visit_main.Reads as visit-main-reads
 
 abbrev Inv-loop : tie.InvT-loop
 Inv-loop image l qubits bits left out₀ trace₀ table₀ frame n now₀ s₀ out trace table now s = Looped (visitStatement image (opening image left) (standing image 0 (frame .angles) (frame .qubits))) n out₀ now₀ s out now × (trace ≡ trace₀)

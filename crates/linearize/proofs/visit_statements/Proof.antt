@@ -1,17 +1,9 @@
 use native.Mathlib.Omega.{arith}
-use Prim.Native.Nat.{ℕ, _+_, _-_, _*_, _<_}
-use mathlib.Core.Path.{_≡_, refl, sym, ap, subst, _∙_}
-use mathlib.Core.List.{List, [], _∷_}
+use Prim.Native.Nat.{_-_}
 use borrow.Author.Needs.{needs}
-use denote.Ref.{now}
-use lib.ListN.{length}
 use Rattle.linearize.proofs.ProgramLaws.{quantum-fits, classical-fits, tabled}
 use Rattle.linearize.proofs.visit_statements.Statement.{statement}
 use Rattle.linearize.proofs.visit_statements.Tie as tie
-use Rattle.linearize.proofs.visit_statements.Reads as reads
-use Rattle.linearize.proofs.visit_statements.Lts as lts
-use Rattle.linearize.proofs.visit_program.Reads as visit-program-reads
-use Rattle.image.proofs.first_of_each.Reads as first-of-each-reads
 
 first-of-each-requires : tie.Need-first-of-each-requires
 first-of-each-requires c κs = let q = quantum-fits (c .before .before .before .before .pre .0) (c .before .before .before .before .pre .1) in (omega arith, q .0, q .1)

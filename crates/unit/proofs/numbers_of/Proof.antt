@@ -1,11 +1,8 @@
-use mathlib.Core.Path.{refl, sym}
+use mathlib.Core.Path.{refl}
 use borrow.Author.Needs.{needs}
 use Rattle.model.specs.Run.{told}
 use Rattle.unit.proofs.numbers_of.Statement.{statement}
 use Rattle.unit.proofs.numbers_of.Tie as tie
-use Rattle.unit.proofs.numbers_of.Reads as reads
-use Rattle.unit.proofs.numbers_of.Lts as lts
-use Rattle.unit.proofs.of_kind.Reads as of-kind-reads
 
 enum-told : tie.Need-enum-told
 enum-told c = search needs

@@ -1,13 +1,8 @@
-use mathlib.Core.Path.{refl, sym}
+use mathlib.Core.Path.{refl}
 use borrow.Author.Needs.{needs}
 use Rattle.model.specs.Run.{told}
 use Rattle.unit.proofs.of_kind.Statement.{statement}
 use Rattle.unit.proofs.of_kind.Tie as tie
-use Rattle.unit.proofs.of_kind.Reads as reads
-use Rattle.unit.proofs.of_kind.Lts as lts
-use Rattle.float.proofs.bits_of.Reads as bits-of-reads
-use Rattle.image.proofs.number_of.Reads as number-of-reads
-use Rattle.image.proofs.place_of.Reads as place-of-reads
 
 enum-known-kind : tie.Need-enum-known-kind
 enum-known-kind c = search needs

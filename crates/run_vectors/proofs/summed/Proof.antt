@@ -1,0 +1,62 @@
+use Prim.Native.Nat.{_≤_, _-_}
+use lib.ListN.{length}
+use borrow.Author.Needs.{needs}
+use Rattle.run_vectors.proofs.summed.Statement.{statement}
+use Rattle.run_vectors.proofs.summed.Tie as tie
+
+abbrev Inv-loop : tie.InvT-loop
+Inv-loop sum words s₀ i₀ s i = i ≤ length words
+
+abbrev μ-loop : tie.MeasureT-loop
+μ-loop sum words s₀ i₀ s i = length words - i
+
+loop-holds : tie.Need-loop-holds Inv-loop μ-loop
+loop-holds c = search needs
+
+mul-mixed : tie.Need-mul-mixed Inv-loop μ-loop
+mul-mixed c = search needs
+
+shared-slice-read-mixed : tie.Need-shared-slice-read-mixed Inv-loop μ-loop
+shared-slice-read-mixed c = search needs
+
+mixed-requires : tie.Need-mixed-requires Inv-loop μ-loop
+mixed-requires c κs = search needs
+
+mul-mixed-2 : tie.Need-mul-mixed-2 Inv-loop μ-loop
+mul-mixed-2 c = search needs
+
+shared-slice-read-mixed-2 : tie.Need-shared-slice-read-mixed-2 Inv-loop μ-loop
+shared-slice-read-mixed-2 c = search needs
+
+mixed-requires-2 : tie.Need-mixed-requires-2 Inv-loop μ-loop
+mixed-requires-2 c κs = search needs
+
+add-i : tie.Need-add-i Inv-loop μ-loop
+add-i c = search needs
+
+loop-less : tie.Need-loop-less Inv-loop μ-loop
+loop-less c = search needs
+
+loop-again : tie.Need-loop-again Inv-loop μ-loop
+loop-again c = search needs
+
+returns : tie.Need-returns Inv-loop μ-loop
+returns c = search needs
+
+pub summed-spec : {M : Type 1} → statement M
+summed-spec =
+    tie.close
+    (tie.spec
+    Inv-loop
+    μ-loop
+    loop-holds
+    mul-mixed
+    shared-slice-read-mixed
+    mixed-requires
+    mul-mixed-2
+    shared-slice-read-mixed-2
+    mixed-requires-2
+    add-i
+    loop-less
+    loop-again
+    returns)
