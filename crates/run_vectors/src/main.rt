@@ -123,7 +123,7 @@ fn is_record(words: &[u64], at: usize, n: usize) -> bool {
     }
 }
 
-// Whether the words are so many records and no more, and the records have this sum.
+// Whether the words are so many records and no more, each within them, and the records have this sum.
 fn are_records(words: &[u64], count: u64, sum: u64) -> bool {
     let mut s = 0u64;
     let mut at = 0;
@@ -135,6 +135,9 @@ fn are_records(words: &[u64], count: u64, sum: u64) -> bool {
         }
         s = summed(s, record);
         at += record.len();
+        if at > words.len() {
+            return false;
+        }
         k += 1;
     }
     if s != sum {
@@ -228,15 +231,21 @@ fn agrees(image: &[u64], leading: &[u64; 12]) -> bool {
     run_agrees(image, leading, &mut out[..o], &mut trace[..t])
 }
 
-// Whether a line has all words of its image, or none, and there is room for them.
-fn in_order(leading: &[u64; 12], read: usize, most: usize) -> bool {
-    if leading[0] > most as u64 {
-        return false;
-    }
+// Whether a line has all words of its image, or none.
+fn in_order(leading: &[u64; 12], read: usize) -> bool {
     if read == 0 {
         return true;
     }
     read as u64 == leading[0]
+}
+
+// Whether the image of a line, the first of the words, is in room and as the line says.
+fn image_agrees(words: &[u64], leading: &[u64; 12]) -> bool {
+    if leading[0] > words.len() as u64 {
+        return false;
+    }
+    let m = leading[0] as usize;
+    agrees(&words[..m], leading)
 }
 
 // Whether a line agrees; if not, says so. The words hold the image of the line before, and then that of this line.
@@ -247,12 +256,11 @@ fn line_agrees(text: &[u8], words: &mut [u64], line_number: u64) -> bool {
         vector_text::say_malformed(line_number);
         return false;
     };
-    if !in_order(&leading, n, words.len()) {
+    if !in_order(&leading, n) {
         vector_text::say_malformed(line_number);
         return false;
     }
-    let m = leading[0] as usize;
-    if agrees(&words[..m], &leading) {
+    if image_agrees(words, &leading) {
         return true;
     }
     vector_text::say_differs(line_number);

@@ -4,6 +4,7 @@ use reader::NextRecord;
 use tally::Tallied;
 use writer::LinearizeErrorKind;
 use writer::Linearized;
+use writer::Position;
 ghost use mathlib.Core.Path.{_≡_};
 ghost use Rattle.model.specs.Check.{check};
 ghost use Rattle.model.specs.Tally.{tally};
@@ -11,8 +12,10 @@ ghost use Rattle.model.specs.Reader.{nextAt};
 ghost use Rattle.image.specs.Answer.{verdictOf};
 ghost use Rattle.tally.specs.Weights.{answerOf};
 ghost use Rattle.reader.specs.Answer.{answerOf as nextOf, wordsOf};
+ghost use Rattle.writer.specs.Promise.{positionOf};
 ghost use Rattle.linearize.specs.Linearizes.{Linearizes};
 ghost use Rattle.unit.specs.Told.{ToldKind, Told};
+ghost use Rattle.unit.specs.Exports.{checkWords, tallyWords, Exported};
 
 // Whether an image is a checked program: accepted, or the number and the place of what is wrong.
 pub fn check(image: &[u64]) -> CheckAnswer
@@ -119,4 +122,91 @@ pub fn numbers_of(r: Linearized) -> Numbers
             of_kind(kind)
         }
     }
+}
+
+// What is written when a run ends.
+pub fn position_of(r: Linearized) -> Position
+    ensures { λ p. ⌜ p ≡ positionOf r ⌝ }
+{
+    match r {
+        Linearized::Done(at) => at,
+        Linearized::Refused(e) => e.at,
+    }
+}
+
+// ---- for callers in other languages: answers as words
+
+// The check's number and place, 0 0 if the image is accepted.
+#[no_mangle]
+pub extern "C" fn cowhirame_check(image: &[u64], answer: &mut [u64; 2])
+    ensures { λ _. ⌜ now (answer .exit) ≡ checkWords (check (now (image .entry))) ⌝ }
+{
+    let verdict = check(image);
+    *answer = [image::number_of(verdict), image::place_of(verdict)];
+}
+
+// The tally's number and place, and the nine figures: 0 0 and figures, or a refusal and zeros.
+fn tally_words(t: Tallied) -> [u64; 11]
+    ensures { λ r. ⌜ r ≡ tallyWords (answerOf t) ⌝ }
+{
+    match t {
+        Tallied::Figures(f) => [
+            0,
+            0,
+            f.u,
+            f.cx,
+            f.opaque,
+            f.barrier,
+            f.measure,
+            f.reset,
+            f.conditional,
+            f.entries,
+            f.words,
+        ],
+        Tallied::Refused(c) => [
+            image::number_of(c),
+            image::place_of(c),
+            0,
+            0,
+            0,
+            0,
+            0,
+            0,
+            0,
+            0,
+            0,
+        ],
+        Tallied::TooLarge => [16, 0, 0, 0, 0, 0, 0, 0, 0, 0, 0],
+    }
+}
+
+#[no_mangle]
+pub extern "C" fn cowhirame_tally(image: &[u64], depth: u64, answer: &mut [u64; 11])
+    ensures { λ _. ⌜ now (answer .exit) ≡ tallyWords (tally (now (image .entry)) depth) ⌝ }
+{
+    *answer = tally_words(tally(image, depth));
+}
+
+// The run's number, place and second place, then the records, output words and trace words written.
+#[no_mangle]
+pub extern "C" fn cowhirame_run(
+    image: &[u64],
+    depth: u64,
+    out: &mut [u64],
+    trace: &mut [u64],
+    answer: &mut [u64; 6],
+)
+    ensures { λ _. ⌜ Exported (now (image .entry)) depth (now (out .entry)) (now (trace .entry)) (now (out .exit)) (now (trace .exit)) (now (answer .exit)) ⌝ }
+{
+    let r = run(image, depth, out, trace);
+    let told = numbers_of(r);
+    let at = position_of(r);
+    *answer = [
+        told.number,
+        told.place,
+        told.second,
+        at.records,
+        at.words,
+        at.trace,
+    ];
 }

@@ -1,65 +1,53 @@
+use Prim.Native.Nat.{_≤_, _-_}
+use lib.ListN.{length}
+use borrow.Author.Needs.{needs}
 use Rattle.run_vectors.proofs.are_records.Statement.{statement}
 use Rattle.run_vectors.proofs.are_records.Tie as tie
-use Rattle.run_vectors.proofs.are_records.Reads as reads
-use Rattle.run_vectors.proofs.are_records.Lts as lts
-use Rattle.run_vectors.proofs.is_end.Reads as is-end-reads
-use Rattle.run_vectors.proofs.is_record.Reads as is-record-reads
-use Rattle.run_vectors.proofs.summed.Reads as summed-reads
-use Rattle.unit.proofs.next_record.Reads as next-record-reads
 
 abbrev Inv-loop : tie.InvT-loop
-Inv-loop words count sum s₀ at₀ k₀ s at k = ?
+Inv-loop words count sum s₀ at₀ k₀ s at k = (at ≤ length words) × (k ≤ count)
 
 abbrev μ-loop : tie.MeasureT-loop
-μ-loop words count sum s₀ at₀ k₀ s at k = ?
+μ-loop words count sum s₀ at₀ k₀ s at k = count - k
 
--- src/main.rt:131:5
 loop-holds : tie.Need-loop-holds Inv-loop μ-loop
-loop-holds c = ?
+loop-holds c = search needs
 
--- src/main.rt:132:13
 next-record-requires : tie.Need-next-record-requires Inv-loop μ-loop
-next-record-requires c κs = ?
+next-record-requires c κs = search needs
 
--- src/main.rt:133:13
 is-record-requires : tie.Need-is-record-requires Inv-loop μ-loop
-is-record-requires c κs = ?
+is-record-requires c κs = search needs
 
--- src/main.rt:134:13
 returns : tie.Need-returns Inv-loop μ-loop
-returns c = ?
+returns c = search needs
 
--- src/main.rt:136:9
 summed-requires : tie.Need-summed-requires Inv-loop μ-loop
-summed-requires c κs = ?
+summed-requires c κs = search needs
 
--- src/main.rt:137:9
 add-at : tie.Need-add-at Inv-loop μ-loop
-add-at c = ?
+add-at c = search needs
 
--- src/main.rt:138:9
-add-k : tie.Need-add-k Inv-loop μ-loop
-add-k c = ?
-
--- src/main.rt:131:5
-loop-less : tie.Need-loop-less Inv-loop μ-loop
-loop-less c = ?
-
--- src/main.rt:131:5
-loop-again : tie.Need-loop-again Inv-loop μ-loop
-loop-again c = ?
-
--- src/main.rt:141:9
 returns-2 : tie.Need-returns-2 Inv-loop μ-loop
-returns-2 c = ?
+returns-2 c = search needs
 
--- src/main.rt:143:5
-is-end-requires : tie.Need-is-end-requires Inv-loop μ-loop
-is-end-requires c κs = ?
+add-k : tie.Need-add-k Inv-loop μ-loop
+add-k c = search needs
 
--- src/main.rt:127:1
+loop-less : tie.Need-loop-less Inv-loop μ-loop
+loop-less c = search needs
+
+loop-again : tie.Need-loop-again Inv-loop μ-loop
+loop-again c = search needs
+
 returns-3 : tie.Need-returns-3 Inv-loop μ-loop
-returns-3 c = ?
+returns-3 c = search needs
+
+is-end-requires : tie.Need-is-end-requires Inv-loop μ-loop
+is-end-requires c κs = search needs
+
+returns-4 : tie.Need-returns-4 Inv-loop μ-loop
+returns-4 c = search needs
 
 pub are-records-spec : {M : Type 1} → statement M
 are-records-spec =
@@ -73,9 +61,10 @@ are-records-spec =
     returns
     summed-requires
     add-at
+    returns-2
     add-k
     loop-less
     loop-again
-    returns-2
+    returns-3
     is-end-requires
-    returns-3)
+    returns-4)

@@ -5,7 +5,7 @@ use Rattle.run_vectors.proofs.untouched.Statement.{statement}
 use Rattle.run_vectors.proofs.untouched.Tie as tie
 
 abbrev Inv-loop : tie.InvT-loop
-Inv-loop words from i₀ i = ⊤
+Inv-loop words from i₀ i = from ≤ i
 
 abbrev μ-loop : tie.MeasureT-loop
 μ-loop words from i₀ i = length words - i

@@ -1,4 +1,5 @@
-use borrow.Author.Needs.{needs}
+use native.Mathlib.Omega.{arith}
+use lib.ListN.{length-take}
 use borrow.Author.Needs.{needs}
 use Rattle.run_vectors.proofs.written.Statement.{statement}
 use Rattle.run_vectors.proofs.written.Tie as tie
@@ -7,7 +8,7 @@ returns : tie.Need-returns
 returns c = search needs
 
 slice-aggregate-summed : tie.Need-slice-aggregate-summed
-slice-aggregate-summed c = search needs
+slice-aggregate-summed c = simp length-take (omega arith)
 
 summed-requires : tie.Need-summed-requires
 summed-requires c κs = search needs

@@ -1,0 +1,23 @@
+use mathlib.Core.Path.{ap, _∙_}
+use borrow.Author.Needs.{needs}
+use Rattle.unit.proofs.WordLaws.{check-words}
+use Rattle.unit.specs.Exports.{checkWords}
+use Rattle.image.specs.Answer.{verdictOf}
+use Rattle.unit.proofs.cowhirame_check.Statement.{statement}
+use Rattle.unit.proofs.cowhirame_check.Tie as tie
+
+check-requires : tie.Need-check-requires
+check-requires c κs = search needs
+
+number-of-requires : tie.Need-number-of-requires
+number-of-requires c κs = search needs
+
+place-of-requires : tie.Need-place-of-requires
+place-of-requires c κs = search needs
+
+returns : tie.Need-returns
+returns c = rw (c .before .before .number-of .ensures, c .before .place-of .ensures) (check-words (verdictOf (c .before .before .before .check .result)) ∙ ap checkWords (c .before .before .before .check .ensures))
+
+pub cowhirame-check-spec : {M : Type 1} → statement M
+cowhirame-check-spec =
+    tie.close (tie.spec check-requires number-of-requires place-of-requires returns)

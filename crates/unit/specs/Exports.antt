@@ -1,0 +1,27 @@
+-- Answers as words, for callers in other languages.
+use Prim.Native.Nat.{ℕ}
+use mathlib.Core.Path.{_≡_}
+use mathlib.Core.List.{List, [], _∷_}
+use Rattle.model.specs.Check.{Verdict, fine, bad}
+use Rattle.model.specs.Tally.{TallyAnswer, tallied, refused}
+use Rattle.model.specs.Run.{told, Outcome, linearize}
+
+-- number and place, 0 0 of an accepted image
+abbrev pub checkWords : Verdict → List ℕ
+checkWords fine = 0 ∷ 0 ∷ []
+checkWords (bad n p) = n ∷ p ∷ []
+
+-- number, place and nine figures
+abbrev pub tallyWords : TallyAnswer → List ℕ
+tallyWords (tallied nine) = 0 ∷ 0 ∷ nine
+tallyWords (refused n p) = n ∷ p ∷ 0 ∷ 0 ∷ 0 ∷ 0 ∷ 0 ∷ 0 ∷ 0 ∷ 0 ∷ 0 ∷ []
+
+-- number, place, second place, records, output words and trace words
+abbrev pub runWords : Outcome → List ℕ
+runWords o = told (o .answer) .number ∷ told (o .answer) .place ∷ told (o .answer) .second ∷ o .records ∷ o .outputWords ∷ o .traceWords ∷ []
+
+-- a run's whole outcome
+pub record Exported (image : List ℕ) (depth : ℕ) (out trace out′ trace′ answer : List ℕ) : Type 0 where
+  pub answers : answer ≡ runWords (linearize image depth out trace)
+  pub output : out′ ≡ linearize image depth out trace .outputLeft
+  pub traces : trace′ ≡ linearize image depth out trace .traceLeft
