@@ -33,7 +33,7 @@ from images import (
 from reference import (
     ARGUMENTS, BARRIER, CALL, CX, EXPRESSIONS, IF, INTEGER, MAIN, MEASURE, REAL, RESET, U, VARIABLE, Image,
 )
-from tally_vectors import CX_ONE, U_ONE, call, program, tower
+from tally_vectors import CX_ONE, U_ONE, call, program, refused_images, tower
 from test_reference import K1, changed, image
 
 WORD_MAX = 2**64 - 1
@@ -989,35 +989,8 @@ def short_outputs_inside():
 
 def refused_by_the_check():
     heading("What the check refuses: nothing is written, whatever is lent; a short trace comes first")
-    lists = dict(quantum=[2], classical=[3], arguments=[(0, 0), (1, 0)], parameters=[1])
-    lists |= dict(expressions=[PI_ENTRY, (16, 0, 0)])
-    for number, at, words in (
-        (1, 0, []),
-        (1, 0, [0]),
-        (1, 0, [9] + [0] * 7),
-        (1, 0, K1 + [0]),
-        (1, 0, K1[:-1]),
-        (1, 0, changed(K1, {4: 3})),
-        (1, 0, image(gates=[opaque(0, 0)] * 129)),
-        (1, 0, image(main=[NOTHING], parameters=[0] * 8179)),
-        (2, 9, image(quantum=[0], main=[NOTHING])),
-        (2, 10, image(quantum=[1], classical=[4097], main=[NOTHING])),
-        (2, 10, image(quantum=[4096, 1], main=[NOTHING])),
-        (3, 9, image(gates=[opaque(17, 0)], main=[NOTHING])),
-        (3, 14, image(gates=[opaque(0, 0), gate(0, 0, 0, 1)], main=[NOTHING])),
-        (4, 11, image(main=[(8,)], **lists)),
-        (4, 16, image(main=[NOTHING, (RESET, 0, 1)], **lists)),
-        (4, 11, image(main=[(IF, 0, 0, 1)], further=[NOTHING], **lists)),
-        (4, 16, image(gates=[gate(0, 1, 0, 1)], further=[(RESET, 0)], **lists)),
-        (5, 11, image(main=[(U, 0, 0, 0, 1)], **lists)),
-        (5, 16, image(gates=[gate(0, 1, 0, 1)], further=[(BARRIER, 1, 1)], **lists)),
-        (6, 11, image(main=[(U, 0, 1, 0, 0)], **lists)),
-        (6, 16, image(gates=[opaque(1, 1)], main=[call(0)], **lists)),
-        (7, 11, image(main=[(MEASURE, 0, 0)], **lists)),
-        (7, 11, image(main=[(IF, 0, 0, 1)], further=[(MEASURE, 0, 0)], **lists)),
-        (8, 16, image(gates=[gate(0, 1, 0, 1)], further=[call(0)], **lists)),
-        (8, 21, image(gates=[gate(0, 1, 0, 1), opaque(0, 1)], further=[call(1)], **lists)),
-    ):
+    contents = [[0], K1[:-1], changed(K1, {4: 3})]
+    for number, at, words in refused_images() + [(1, 0, words) for words in contents]:
         nothing = dict(second=0, records=0, output=[], trace=[])
         for depth, lent, trace in (8, 99, 256), (0, 0, 256), (WORD_MAX, 500, 300):
             told(vector(words, depth, lent, trace), words, number=number, place=at, **nothing)

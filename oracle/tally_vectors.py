@@ -610,12 +610,12 @@ def everything():
 # ------------------------------------------------- refused by the check
 
 
-def refusals():
-    heading("What the check refuses, at any depth")
+def refused_images():
+    """Images that the check refuses, each with the number and the place."""
     lists = dict(quantum=[2], classical=[3], arguments=[(0, 0), (1, 0)], parameters=[1])
     lists |= dict(expressions=[PI_ENTRY, (16, 0, 0)])
     # Contents, 9 words; registers at 9 and 10, statements at 11; with gates, those are at 11.
-    for number, place, words in (
+    return [
         (1, 0, []),
         (1, 0, [9] + [0] * 7),
         (1, 0, K1 + [0]),
@@ -638,7 +638,12 @@ def refusals():
         (7, 11, image(main=[(IF, 0, 0, 1)], further=[(MEASURE, 0, 0)], **lists)),
         (8, 16, image(gates=[gate(0, 1, 0, 1)], further=[call(0)], **lists)),
         (8, 21, image(gates=[gate(0, 1, 0, 1), opaque(0, 1)], further=[call(1)], **lists)),
-    ):
+    ]
+
+
+def refusals():
+    heading("What the check refuses, at any depth")
+    for number, place, words in refused_images():
         refused(words, (0, WORD_MAX) if len(words) < 60 else (2,), number, place)
     heading("The check's number, where the figures would pass the limit too")
     words = program([call(32)], tower(33))
