@@ -1,0 +1,9 @@
+pub mod PutLaws
+pub mod DigitLaws
+pub mod SignLaws
+pub mod LineLaws
+pub mod RecordsLaws
+pub mod EndLaws
+pub mod TextLaws
+pub mod RunLaws
+pub mod InputLaws

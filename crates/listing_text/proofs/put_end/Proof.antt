@@ -1,0 +1,58 @@
+use Prim.Native.Nat.{_-_}
+use mathlib.Core.Path.{sym}
+use borrow.Author.Needs.{needs}
+use denote.Ref.{now}
+use Rattle.listing_text.proofs.PutLaws.{put-length}
+use Rattle.listing_text.proofs.EndLaws.{end-done, calls-inside, calls-room, last-room, end-refused}
+use lib.Seq.{length-take-le}
+use Rattle.listing_text.proofs.put_end.Statement.{statement}
+use Rattle.listing_text.proofs.put_end.Tie as tie
+
+enum-known-r : tie.Need-enum-known-r
+enum-known-r c = search needs
+
+put-done-requires : tie.Need-put-done-requires
+put-done-requires c κs = search needs
+
+enum-known-r-2 : tie.Need-enum-known-r-2
+enum-known-r-2 c = search needs
+
+slice-aggregate-put-trace : tie.Need-slice-aggregate-put-trace
+slice-aggregate-put-trace c = sym (length-take-le _ _ (calls-inside (now (c .before .before .before .before .before .before .before .args .trace)) (c .before .before .before .r2 .given .1) (c .before .before .before .before .before .before .before .pre .0)))
+
+put-trace-requires : tie.Need-put-trace-requires
+put-trace-requires c κs = calls-room (now (c .before .before .before .before .before .before .before .args .trace)) (c .before .before .before .r2 .given .1) _ _ (c .before .before .before .before .before .before .before .pre .0) (c .before .before .before .before .before .before .before .pre .1) (c .before .before .before .before .before .before .before .pre .2)
+
+numbers-of-requires : tie.Need-numbers-of-requires
+numbers-of-requires c κs = tt
+
+put-refused-requires : tie.Need-put-refused-requires
+put-refused-requires c κs = last-room (now (c .before .before .before .before .before .before .before .before .before .before .before .before .args .trace)) (c .before .before .before .before .before .before .before .before .r2 .given .1) (c .before .before .before .before .put-trace .ensures) (c .before .before .before .before .before .before .before .before .before .before .before .before .pre .0) (c .before .before .before .before .before .before .before .before .before .before .before .before .pre .1) (c .before .before .before .before .before .before .before .before .before .before .before .before .pre .2)
+
+returns : tie.Need-returns
+returns c = end-done _ (c .before .before .before .before .before .r .given .1) (c .before .before .put-done .ensures)
+
+same-length : tie.Need-same-length
+same-length c = put-length (returns c)
+
+returns-2 : tie.Need-returns-2
+returns-2 c = end-refused (now (c .before .before .before .before .before .before .before .before .before .before .before .before .before .before .before .args .trace)) (c .before .before .before .before .before .before .before .before .before .before .before .r2 .given .1) (c .before .before .before .before .before .before .before .put-trace .ensures) (c .before .before .before .numbers-of .ensures) (c .before .before .put-refused .ensures)
+
+same-length-2 : tie.Need-same-length-2
+same-length-2 c = put-length (returns-2 c)
+
+pub put-end-spec : {M : Type 1} → statement M
+put-end-spec =
+    tie.close
+    (tie.spec
+    enum-known-r
+    put-done-requires
+    enum-known-r-2
+    slice-aggregate-put-trace
+    put-trace-requires
+    numbers-of-requires
+    put-refused-requires
+    same-length
+    returns
+    same-length-2
+    returns-2)

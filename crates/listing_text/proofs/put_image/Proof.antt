@@ -1,0 +1,53 @@
+use Prim.Native.Nat.{ℕ, _-_}
+use borrow.Author.Needs.{needs}
+use denote.Ref.{now}
+use Rattle.listing_text.proofs.PutLaws.{put-length}
+use Rattle.listing_text.proofs.InputLaws.{cut-inside, read-inside, read-length, image-put}
+use lib.ListN.{replicate, length-replicate}
+use Rattle.listing_text.proofs.put_image.Statement.{statement}
+use Rattle.listing_text.proofs.put_image.Tie as tie
+
+sub-cut : tie.Need-sub-cut
+sub-cut c = search needs
+
+cut-requires : tie.Need-cut-requires
+cut-requires c κs = tt
+
+slice-aggregate-read-words : tie.Need-slice-aggregate-read-words
+slice-aggregate-read-words c = search needs
+
+read-words-requires : tie.Need-read-words-requires
+read-words-requires c κs = cut-inside (now (c .before .before .before .before .args .input)) (replicate 8193 0) (length-replicate {A = ℕ} 8193 0) (c .before .cut .ensures) (c .before .before .before .before .pre .1)
+
+array-share-prefix-image : tie.Need-array-share-prefix-image
+array-share-prefix-image c = read-inside (now (c .before .before .before .before .before .before .before .args .input)) (replicate 8193 0) (length-replicate {A = ℕ} 8193 0) (c .before .before .before .before .cut .ensures) (c .before .before .read-words .ensures)
+
+slice-aggregate-put-run : tie.Need-slice-aggregate-put-run
+slice-aggregate-put-run c = read-length (now (c .before .before .before .before .before .before .before .before .args .input)) (replicate 8193 0) (length-replicate {A = ℕ} 8193 0) (c .before .before .before .before .before .cut .ensures) (c .before .before .before .read-words .ensures)
+
+word-at-requires : tie.Need-word-at-requires
+word-at-requires c κs = search needs
+
+put-run-requires : tie.Need-put-run-requires
+put-run-requires c κs = search needs
+
+returns : tie.Need-returns
+returns c = image-put (now (c .before .before .before .before .before .before .before .before .before .before .before .before .args .input)) (replicate 8193 0) (length-replicate {A = ℕ} 8193 0) (c .before .before .before .before .before .before .before .before .before .cut .ensures) (c .before .before .before .before .before .before .before .read-words .ensures) (c .before .before .before .word-at .ensures) (c .before .before .put-run .ensures)
+
+same-length : tie.Need-same-length
+same-length c = put-length (returns c)
+
+pub put-image-spec : {M : Type 1} → statement M
+put-image-spec =
+    tie.close
+    (tie.spec
+    sub-cut
+    cut-requires
+    slice-aggregate-read-words
+    read-words-requires
+    array-share-prefix-image
+    slice-aggregate-put-run
+    word-at-requires
+    put-run-requires
+    same-length
+    returns)

@@ -1,0 +1,75 @@
+use Prim.Native.Nat.{_-_}
+use mathlib.Core.Path.{sym}
+use mathlib.Core.List.{[]}
+use borrow.Author.Needs.{needs}
+use denote.Ref.{now}
+use lib.ListN.{length}
+use Rattle.listing_text.proofs.PutLaws.{put-same, put-then, put-length, room-front, room-rest, Putting, putting-start, putting-room, putting-more, putting-last}
+use Rattle.listing_text.proofs.LineLaws.{lineFrom, line-start, line-next, line-end, line-room, line-most}
+use Rattle.listing_text.proofs.put_record.Statement.{statement}
+use Rattle.listing_text.proofs.put_record.Tie as tie
+
+abbrev Inv-loop : tie.InvT-loop
+Inv-loop text₀ at words end₀ i₀ text end i = Putting (lineFrom words 1) (lineFrom words i) text₀ end₀ end text
+
+abbrev μ-loop : tie.MeasureT-loop
+μ-loop text₀ at words end₀ i₀ text end i = length words - i
+
+shared-slice-read-put-number : tie.Need-shared-slice-read-put-number Inv-loop μ-loop
+shared-slice-read-put-number c = search needs
+
+put-number-requires : tie.Need-put-number-requires Inv-loop μ-loop
+put-number-requires c κs = room-front _ (line-start (now (c .before .before .before .before .args .words))) (line-room (now (c .before .before .before .before .args .words)) _ (c .before .before .before .before .pre .0) (λ j. c .before .before .shared-slice-known .given j .fits) (c .before .before .before .before .pre .1))
+
+loop-holds : tie.Need-loop-holds Inv-loop μ-loop
+loop-holds c = putting-start _ (rw (put-length (c .before .before .put-number .ensures)) (c .before .before .put-number .ensures .fits))
+
+mul-put-word : tie.Need-mul-put-word Inv-loop μ-loop
+mul-put-word c = search needs
+
+shared-slice-read-put-word : tie.Need-shared-slice-read-put-word Inv-loop μ-loop
+shared-slice-read-put-word c = search needs
+
+is-numerator-requires : tie.Need-is-numerator-requires Inv-loop μ-loop
+is-numerator-requires c κs = search needs
+
+put-word-requires : tie.Need-put-word-requires Inv-loop μ-loop
+put-word-requires c κs = putting-room (c .before .before .before .before .loop .inv) _ (line-next (now (c .before .before .before .before .before .before .before .before .before .before .before .before .args .words)) _ (c .before .before .before .loop-test .taken) (c .is-numerator .ensures)) (room-rest _ (line-start (now (c .before .before .before .before .before .before .before .before .before .before .before .before .args .words))) (line-room (now (c .before .before .before .before .before .before .before .before .before .before .before .before .args .words)) _ (c .before .before .before .before .before .before .before .before .before .before .before .before .pre .0) (λ j. c .before .before .before .before .before .before .before .before .before .before .shared-slice-known .given j .fits) (c .before .before .before .before .before .before .before .before .before .before .before .before .pre .1)) (c .before .before .before .before .before .before .before .put-number .ensures))
+
+add-i : tie.Need-add-i Inv-loop μ-loop
+add-i c = search needs
+
+loop-less : tie.Need-loop-less Inv-loop μ-loop
+loop-less c = search needs
+
+loop-again : tie.Need-loop-again Inv-loop μ-loop
+loop-again c = putting-more (c .before .before .before .before .before .before .before .loop .inv) (line-next (now (c .before .before .before .before .before .before .before .before .before .before .before .before .before .before .before .args .words)) _ (c .before .before .before .before .before .before .loop-test .taken) (c .before .before .before .is-numerator .ensures)) (c .before .before .put-word .ensures)
+
+put-requires : tie.Need-put-requires Inv-loop μ-loop
+put-requires c κs = putting-room (c .before .before .loop .inv) [] (line-end _ _ (c .before .loop-test .left)) (room-rest _ (line-start (now (c .before .before .before .before .before .before .before .before .before .before .args .words))) (line-room (now (c .before .before .before .before .before .before .before .before .before .before .args .words)) _ (c .before .before .before .before .before .before .before .before .before .before .pre .0) (λ j. c .before .before .before .before .before .before .before .before .shared-slice-known .given j .fits) (c .before .before .before .before .before .before .before .before .before .before .pre .1)) (c .before .before .before .before .before .put-number .ensures))
+
+returns : tie.Need-returns Inv-loop μ-loop
+returns c = line-most (now (c .before .before .before .before .before .before .before .before .before .before .before .before .before .args .words)) (c .before .before .before .before .before .before .before .before .before .before .before .before .before .pre .0) (λ j. c .before .before .before .before .before .before .before .before .before .before .before .shared-slice-known .given j .fits) (put-same (sym (line-start _)) (put-then (c .before .before .before .before .before .before .before .before .put-number .ensures) (putting-last (c .before .before .before .before .before .loop .inv) (put-same (sym (line-end _ _ (c .before .before .before .before .loop-test .left))) (c .before .before .put .ensures)))))
+
+same-length : tie.Need-same-length Inv-loop μ-loop
+same-length c = put-length (returns c .put)
+
+pub put-record-spec : {M : Type 1} → statement M
+put-record-spec =
+    tie.close
+    (tie.spec
+    Inv-loop
+    μ-loop
+    shared-slice-read-put-number
+    put-number-requires
+    loop-holds
+    mul-put-word
+    shared-slice-read-put-word
+    is-numerator-requires
+    put-word-requires
+    add-i
+    loop-less
+    loop-again
+    put-requires
+    same-length
+    returns)

@@ -1,0 +1,52 @@
+use native.Mathlib.Omega.{arith}
+use Prim.Native.Nat.{_-_}
+use lib.ListN.{length}
+use Rattle.listing_text.proofs.PutLaws.{put-length}
+use Rattle.listing_text.proofs.RecordsLaws.{Reading, reading-start, next-some, next-inside, next-room, reading-more, reading-end}
+use Rattle.listing_text.proofs.put_records.Statement.{statement}
+use Rattle.listing_text.proofs.put_records.Tie as tie
+
+abbrev Inv-loop : tie.InvT-loop
+Inv-loop text₀ at words end₀ i₀ text end i = Reading words text₀ at i end text
+
+abbrev μ-loop : tie.MeasureT-loop
+μ-loop text₀ at words end₀ i₀ text end i = length words - i
+
+loop-holds : tie.Need-loop-holds Inv-loop μ-loop
+loop-holds c = reading-start (c .before .before .pre .0) (omega (arith, c .before .before .pre .1))
+
+next-record-requires : tie.Need-next-record-requires Inv-loop μ-loop
+next-record-requires c κs = tt
+
+put-record-requires : tie.Need-put-record-requires Inv-loop μ-loop
+put-record-requires c κs = (next-some (c .before .before .before .loop .inv) (c .before .before .loop-test .taken) (c .before .next-record .ensures), next-room (c .before .before .before .loop .inv) (c .before .before .loop-test .taken) (c .before .next-record .ensures) (c .before .before .before .before .before .before .pre .1))
+
+add-i : tie.Need-add-i Inv-loop μ-loop
+add-i c = record { fits = omega (arith, next-inside (c .before .before .before .before .before .before .loop .inv) (c .before .before .before .before .before .loop-test .taken) (c .before .before .before .before .next-record .ensures)) }
+
+loop-less : tie.Need-loop-less Inv-loop μ-loop
+loop-less c = omega (arith, c .before .before .before .before .before .loop-test .taken, next-some (c .before .before .before .before .before .before .loop .inv) (c .before .before .before .before .before .loop-test .taken) (c .before .before .before .before .next-record .ensures))
+
+loop-again : tie.Need-loop-again Inv-loop μ-loop
+loop-again c = reading-more (c .before .before .before .before .before .before .loop .inv) (c .before .before .before .before .before .loop-test .taken) (c .before .before .before .before .next-record .ensures) (c .before .before .put-record .ensures)
+
+same-length : tie.Need-same-length Inv-loop μ-loop
+same-length c = put-length (c .before .loop .inv .done)
+
+returns : tie.Need-returns Inv-loop μ-loop
+returns c = reading-end (c .before .loop .inv) (c .loop-test .left)
+
+pub put-records-spec : {M : Type 1} → statement M
+put-records-spec =
+    tie.close
+    (tie.spec
+    Inv-loop
+    μ-loop
+    loop-holds
+    next-record-requires
+    put-record-requires
+    add-i
+    loop-less
+    loop-again
+    same-length
+    returns)

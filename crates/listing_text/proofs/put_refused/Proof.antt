@@ -1,0 +1,38 @@
+use native.Mathlib.Omega.{arith}
+use Prim.Native.Nat.{_-_}
+use mathlib.Core.Path.{refl}
+use borrow.Author.Needs.{needs}
+use Rattle.listing_text.proofs.PutLaws.{put-same, put-then, put-length, room-front, room-rest}
+use Rattle.listing_text.proofs.EndLaws.{refused-is, refused-room}
+use Rattle.unit.specs.Told.{numbersOf}
+use Rattle.listing_text.proofs.put_refused.Statement.{statement}
+use Rattle.listing_text.proofs.put_refused.Tie as tie
+
+slice-aggregate-put-bytes : tie.Need-slice-aggregate-put-bytes
+slice-aggregate-put-bytes c = search needs
+
+put-bytes-requires : tie.Need-put-bytes-requires
+put-bytes-requires c κs = room-front _ refl (refused-room (numbersOf (c .before .before .before .args .n)) _ (omega arith) (omega arith) (omega arith) (c .before .before .before .pre))
+
+put-word-requires : tie.Need-put-word-requires
+put-word-requires c κs = room-front _ refl (room-rest _ refl (refused-room (numbersOf (c .before .before .before .before .before .before .before .args .n)) _ (omega arith) (omega arith) (omega arith) (c .before .before .before .before .before .before .before .pre)) (c .before .before .before .put-bytes .ensures))
+
+put-two-requires : tie.Need-put-two-requires
+put-two-requires c κs = room-rest _ refl (room-rest _ refl (refused-room (numbersOf (c .before .before .before .before .before .before .before .before .before .before .before .args .n)) _ (omega arith) (omega arith) (omega arith) (c .before .before .before .before .before .before .before .before .before .before .before .pre)) (c .before .before .before .before .before .before .before .put-bytes .ensures)) (c .before .before .before .put-word .ensures)
+
+returns : tie.Need-returns
+returns c = put-same (refused-is _) (put-then (c .before .before .before .before .before .before .before .before .before .before .put-bytes .ensures) (put-then (c .before .before .before .before .before .before .put-word .ensures) (c .before .before .put-two .ensures)))
+
+same-length : tie.Need-same-length
+same-length c = put-length (returns c)
+
+pub put-refused-spec : {M : Type 1} → statement M
+put-refused-spec =
+    tie.close
+    (tie.spec
+    slice-aggregate-put-bytes
+    put-bytes-requires
+    put-word-requires
+    put-two-requires
+    same-length
+    returns)

@@ -1,0 +1,56 @@
+use Prim.Native.Nat.{ℕ, _-_}
+use borrow.Author.Needs.{needs}
+use Rattle.listing_text.proofs.PutLaws.{put-length}
+use Rattle.listing_text.proofs.RunLaws.{prefix-inside, prefix-length, prefix-recorded, lines-room, trace-inside, trace-short, end-room, run-put}
+use lib.ListN.{length-replicate}
+use Rattle.listing_text.proofs.put_run.Statement.{statement}
+use Rattle.listing_text.proofs.put_run.Tie as tie
+
+slice-aggregate-run : tie.Need-slice-aggregate-run
+slice-aggregate-run c = search needs
+
+slice-aggregate-run-2 : tie.Need-slice-aggregate-run-2
+slice-aggregate-run-2 c = search needs
+
+run-requires : tie.Need-run-requires
+run-requires c κs = tt
+
+words-of-requires : tie.Need-words-of-requires
+words-of-requires c κs = tt
+
+array-share-prefix-out : tie.Need-array-share-prefix-out
+array-share-prefix-out c = prefix-inside (c .before .before .before .before .run .ensures) (length-replicate {A = ℕ} 8192 0) (length-replicate {A = ℕ} 256 0) (c .before .words-of .ensures)
+
+slice-aggregate-put-records : tie.Need-slice-aggregate-put-records
+slice-aggregate-put-records c = prefix-length (c .before .before .before .before .before .run .ensures) (length-replicate {A = ℕ} 8192 0) (length-replicate {A = ℕ} 256 0) (c .before .before .words-of .ensures)
+
+put-records-requires : tie.Need-put-records-requires
+put-records-requires c κs = (prefix-recorded (c .before .before .before .before .before .run .ensures) (length-replicate {A = ℕ} 8192 0) (length-replicate {A = ℕ} 256 0) (c .before .before .words-of .ensures), lines-room (c .before .before .before .before .before .run .ensures) (length-replicate {A = ℕ} 8192 0) (length-replicate {A = ℕ} 256 0) (c .before .before .words-of .ensures) _ (c .before .before .before .before .before .before .before .before .before .before .pre))
+
+slice-aggregate-put-end : tie.Need-slice-aggregate-put-end
+slice-aggregate-put-end c = search needs
+
+put-end-requires : tie.Need-put-end-requires
+put-end-requires c κs = (trace-inside (c .before .before .before .before .before .before .before .before .before .before .run .ensures) (length-replicate {A = ℕ} 8192 0) (length-replicate {A = ℕ} 256 0) (c .before .before .before .before .before .before .before .words-of .ensures), trace-short (c .before .before .before .before .before .before .before .before .before .before .run .ensures) (length-replicate {A = ℕ} 8192 0) (length-replicate {A = ℕ} 256 0) (c .before .before .before .before .before .before .before .words-of .ensures), end-room (c .before .before .before .before .before .before .before .before .before .before .run .ensures) (length-replicate {A = ℕ} 8192 0) (length-replicate {A = ℕ} 256 0) (c .before .before .before .before .before .before .before .words-of .ensures) (c .before .before .before .before .put-records .ensures) (c .before .before .before .before .before .before .before .before .before .before .before .before .before .before .before .pre))
+
+returns : tie.Need-returns
+returns c = run-put (c .before .before .before .before .before .before .before .before .before .before .before .before .before .run .ensures) (length-replicate {A = ℕ} 8192 0) (length-replicate {A = ℕ} 256 0) (c .before .before .before .before .before .before .before .before .before .before .words-of .ensures) (c .before .before .before .before .before .before .before .put-records .ensures) (c .before .before .put-end .ensures)
+
+same-length : tie.Need-same-length
+same-length c = put-length (returns c)
+
+pub put-run-spec : {M : Type 1} → statement M
+put-run-spec =
+    tie.close
+    (tie.spec
+    slice-aggregate-run
+    slice-aggregate-run-2
+    run-requires
+    words-of-requires
+    array-share-prefix-out
+    slice-aggregate-put-records
+    put-records-requires
+    slice-aggregate-put-end
+    put-end-requires
+    same-length
+    returns)
