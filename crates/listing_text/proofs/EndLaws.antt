@@ -80,7 +80,7 @@ pub refused-room : (n : Numbers) {text : List ℕ} (at : ℕ) → n .number < 2 
 refused-room n at h i j k =
     record {
       room =
-      omega (arith, decimal-short (n .number) h, length-two (n .place) (n .second) i j, length-append (decimal (n .number)) (twoText (n .place) (n .second)));
+          omega (arith, decimal-short (n .number) h, length-two (n .place) (n .second) i j, length-append (decimal (n .number)) (twoText (n .place) (n .second)));
     }
 
 -- ---- the trace, pair by pair

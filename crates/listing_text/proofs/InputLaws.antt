@@ -16,7 +16,7 @@ use Rattle.model.specs.Run.{stop, rejected, accepted, runs, numbers}
 use Rattle.model.specs.Listing.{littleEndian, wordsOf, refusedText, runText, listing}
 use Rattle.listing_text.specs.Put.{Put, imageText, Listed}
 use Rattle.writer.proofs.WriteLaws.{put-more, front}
-use Rattle.listing_text.proofs.PutLaws.{put-same}
+use Rattle.listing_text.proofs.PutLaws.{put-same, put-length}
 
 -- ---- eight bytes
 
@@ -160,4 +160,5 @@ listed {input} {text} p =
     record {
       contents = p .contents ∙ sets-eq (listing input) text 0 (omega (arith, p .ends, p .fits)) ∙ rw zero-add refl;
       count = omega (arith, p .ends);
+      inside = omega (arith, p .fits, put-length p);
     }

@@ -30,3 +30,4 @@ imageText bytes = runText (runs (wordsOf (length bytes / 8 - 1) (drop 8 bytes)) 
 pub record Listed (input text : List ℕ) (n : ℕ) (text′ : List ℕ) : Type 0 where
   pub contents : text′ ≡ laidOver (listing input) text
   pub count : n ≡ length (listing input)
+  pub inside : n ≤ length text′

@@ -149,8 +149,8 @@ fn put_done(text: &mut [u8], at: usize, records: u64) -> usize
     ensures { λ r. ⌜ Put (line (ascii "done" ∷ decimal records ∷ [])) (now (text .entry)) at r (now (text .exit)) ⌝ }
 {
     let name = put_bytes(text, at, b"done");
-    let end = put_word(text, name, records, false);
-    put(text, end, 10)
+    let number = put_word(text, name, records, false);
+    put(text, number, 10)
 }
 
 // The line of a call on the stack.

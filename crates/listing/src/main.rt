@@ -1,0 +1,45 @@
+// Reads a depth and an image from standard input, and writes their listing to standard output.
+use libc::STDIN_FILENO;
+use libc::STDOUT_FILENO;
+ghost use mathlib.Core.Path.{_≡_};
+ghost use lib.ListN.{length};
+
+// Room for the depth and 8,193 words, one more than an image may have: of longer input the listing is the same.
+fn input_room() -> [u8; 65552]
+    ensures { λ r. ⌜ 65552 ≡ length r ⌝ }
+{
+    [0; 65552]
+}
+
+// Room for the longest listing.
+fn text_room() -> [u8; 262144]
+    ensures { λ r. ⌜ 262144 ≡ length r ⌝ }
+{
+    [0; 262144]
+}
+
+// Reads more of standard input; whether there was any.
+fn read_more() -> bool {
+    let mut rest = io::large_buffer();
+    io::read_full(STDIN_FILENO, &mut rest) != 0
+}
+
+// Reads what is left of standard input, so that no writer is cut off.
+fn read_rest() {
+    let mut turns = 18446744073709551615u64;
+    while turns > 0 {
+        if !read_more() {
+            return;
+        }
+        turns -= 1;
+    }
+}
+
+fn main() {
+    let mut input = input_room();
+    let n = io::read_full(STDIN_FILENO, &mut input);
+    read_rest();
+    let mut text = text_room();
+    let end = listing_text::listing_text(&input[..n], &mut text);
+    io::write_all(STDOUT_FILENO, &text[..end]);
+}

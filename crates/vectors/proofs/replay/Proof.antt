@@ -1,0 +1,89 @@
+use mathlib.Core.Logic.{⊎-elim}
+use native.Mathlib.Omega.{arith}
+use Prim.Native.Nat.{_≤_, _-_}
+use lib.ListN.{length}
+use borrow.Author.Needs.{needs}
+use Rattle.vectors.proofs.replay.Statement.{statement}
+use Rattle.vectors.proofs.replay.Tie as tie
+
+-- a line has at least its line feed, so no count passes the position
+abbrev Inv-loop : tie.InvT-loop
+Inv-loop input listings₀ agree₀ line-number₀ at₀ listings agree line-number at = (agree ≤ listings) × ((listings ≤ line-number) × ((line-number ≤ at) × (at ≤ length input)))
+
+abbrev μ-loop : tie.MeasureT-loop
+μ-loop input listings₀ agree₀ line-number₀ at₀ listings agree line-number at = length input - at
+
+loop-holds : tie.Need-loop-holds Inv-loop μ-loop
+loop-holds c = search needs
+
+add-line-number : tie.Need-add-line-number Inv-loop μ-loop
+add-line-number c = search needs
+
+end-requires : tie.Need-end-requires Inv-loop μ-loop
+end-requires c κs = search needs
+
+say-cut-off-requires : tie.Need-say-cut-off-requires Inv-loop μ-loop
+say-cut-off-requires c κs = search needs
+
+shared-slice-read-if2 : tie.Need-shared-slice-read-if2 Inv-loop μ-loop
+shared-slice-read-if2 c = search needs
+
+add-listings : tie.Need-add-listings Inv-loop μ-loop
+add-listings c = search needs
+
+add-line-agrees : tie.Need-add-line-agrees Inv-loop μ-loop
+add-line-agrees c = search needs
+
+sub-line-agrees : tie.Need-sub-line-agrees Inv-loop μ-loop
+sub-line-agrees c = search needs
+
+part-line-agrees-start : tie.Need-part-line-agrees-start Inv-loop μ-loop
+part-line-agrees-start c = search needs
+
+part-line-agrees-end : tie.Need-part-line-agrees-end Inv-loop μ-loop
+part-line-agrees-end c = search needs
+
+line-agrees-requires : tie.Need-line-agrees-requires Inv-loop μ-loop
+line-agrees-requires c κs = search needs
+
+add-agree : tie.Need-add-agree Inv-loop μ-loop
+add-agree c = search needs
+
+add-at : tie.Need-add-at Inv-loop μ-loop
+add-at c = search needs
+
+loop-less : tie.Need-loop-less Inv-loop μ-loop
+loop-less c = search needs
+
+loop-again : tie.Need-loop-again Inv-loop μ-loop
+loop-again c = ⊎-elim (λ w. omega arith) (⊎-elim (λ w. omega arith) (λ w. omega arith)) (c .if2 .came)
+
+say-counts-requires : tie.Need-say-counts-requires Inv-loop μ-loop
+say-counts-requires c κs = search needs
+
+returns : tie.Need-returns Inv-loop μ-loop
+returns c = search needs
+
+pub replay-spec : {M : Type 1} → statement M
+replay-spec =
+    tie.close
+    (tie.spec
+    Inv-loop
+    μ-loop
+    loop-holds
+    add-line-number
+    end-requires
+    say-cut-off-requires
+    shared-slice-read-if2
+    add-listings
+    add-line-agrees
+    sub-line-agrees
+    part-line-agrees-start
+    part-line-agrees-end
+    line-agrees-requires
+    add-agree
+    add-at
+    loop-less
+    loop-again
+    say-counts-requires
+    returns)
