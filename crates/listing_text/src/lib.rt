@@ -33,10 +33,10 @@ fn put_number(text: &mut [u8], at: usize, n: u64) -> usize
     ensures { λ r. ⌜ Put (decimal n) (now (text .entry)) at r (now (text .exit)) ⌝ }
 {
     if n < 10 {
-        return put(text, at, 48 + n as u8);
+        return put(text, at, b'0' + n as u8);
     }
     let end = put_number(text, at, n / 10);
-    put(text, end, 48 + (n % 10) as u8)
+    put(text, end, b'0' + (n % 10) as u8)
 }
 
 // A numerator in two's complement, with its sign.
@@ -47,7 +47,7 @@ fn put_signed(text: &mut [u8], at: usize, n: u64) -> usize
     if n < 9223372036854775808 {
         return put_number(text, at, n);
     }
-    let end = put(text, at, 45);
+    let end = put(text, at, b'-');
     put_number(text, end, 18446744073709551615 - n + 1)
 }
 
@@ -56,7 +56,7 @@ fn put_word(text: &mut [u8], at: usize, n: u64, sign: bool) -> usize
     requires { ⌜ Room (32 ∷ wordText sign n) (now text) at ⌝ }
     ensures { λ r. ⌜ Put (32 ∷ wordText sign n) (now (text .entry)) at r (now (text .exit)) ⌝ }
 {
-    let end = put(text, at, 32);
+    let end = put(text, at, b' ');
     if sign {
         return put_signed(text, end, n);
     }
@@ -99,7 +99,7 @@ fn put_record(text: &mut [u8], at: usize, words: &[u64]) -> usize
         end = put_word(text, end, words[i], is_numerator(words, i));
         i += 1;
     }
-    put(text, end, 10)
+    put(text, end, b'\n')
 }
 
 // The lines of all records of some words.
@@ -140,7 +140,7 @@ fn put_two(text: &mut [u8], at: usize, a: u64, b: u64) -> usize
 {
     let first = put_word(text, at, a, false);
     let second = put_word(text, first, b, false);
-    put(text, second, 10)
+    put(text, second, b'\n')
 }
 
 // A finished run's last line.
@@ -150,7 +150,7 @@ fn put_done(text: &mut [u8], at: usize, records: u64) -> usize
 {
     let name = put_bytes(text, at, b"done");
     let number = put_word(text, name, records, false);
-    put(text, number, 10)
+    put(text, number, b'\n')
 }
 
 // The line of a call on the stack.

@@ -40,25 +40,53 @@ cast-d : tie.Need-cast-d
 cast-d c = record { fits = omega (arith, c .shared-slice-known4 .given (c .before .before .before .before .args .at + 3) .fits) }
 
 mul-result : tie.Need-mul-result
-mul-result c = record { fits = omega (arith, c .before .before .before .shared-slice-known .given (c .before .before .before .before .args .at) .fits, c .before .before .shared-slice-known2 .given (c .before .before .before .before .args .at + 1) .fits, c .before .shared-slice-known3 .given (c .before .before .before .before .args .at + 2) .fits, c .shared-slice-known4 .given (c .before .before .before .before .args .at + 3) .fits) }
+mul-result c =
+    let p = c .before .before in
+    let q = p .before in
+    let u = q .before in
+    record { fits = omega (arith, q .shared-slice-known .given (u .args .at) .fits, p .shared-slice-known2 .given (u .args .at + 1) .fits, c .before .shared-slice-known3 .given (u .args .at + 2) .fits, c .shared-slice-known4 .given (u .args .at + 3) .fits) }
 
 add-result : tie.Need-add-result
-add-result c = record { fits = omega (arith, c .before .before .before .shared-slice-known .given (c .before .before .before .before .args .at) .fits, c .before .before .shared-slice-known2 .given (c .before .before .before .before .args .at + 1) .fits, c .before .shared-slice-known3 .given (c .before .before .before .before .args .at + 2) .fits, c .shared-slice-known4 .given (c .before .before .before .before .args .at + 3) .fits) }
+add-result c =
+    let p = c .before .before in
+    let q = p .before in
+    let u = q .before in
+    record { fits = omega (arith, q .shared-slice-known .given (u .args .at) .fits, p .shared-slice-known2 .given (u .args .at + 1) .fits, c .before .shared-slice-known3 .given (u .args .at + 2) .fits, c .shared-slice-known4 .given (u .args .at + 3) .fits) }
 
 mul-result-2 : tie.Need-mul-result-2
-mul-result-2 c = record { fits = omega (arith, c .before .before .before .shared-slice-known .given (c .before .before .before .before .args .at) .fits, c .before .before .shared-slice-known2 .given (c .before .before .before .before .args .at + 1) .fits, c .before .shared-slice-known3 .given (c .before .before .before .before .args .at + 2) .fits, c .shared-slice-known4 .given (c .before .before .before .before .args .at + 3) .fits) }
+mul-result-2 c =
+    let p = c .before .before in
+    let q = p .before in
+    let u = q .before in
+    record { fits = omega (arith, q .shared-slice-known .given (u .args .at) .fits, p .shared-slice-known2 .given (u .args .at + 1) .fits, c .before .shared-slice-known3 .given (u .args .at + 2) .fits, c .shared-slice-known4 .given (u .args .at + 3) .fits) }
 
 add-result-2 : tie.Need-add-result-2
-add-result-2 c = record { fits = omega (arith, c .before .before .before .shared-slice-known .given (c .before .before .before .before .args .at) .fits, c .before .before .shared-slice-known2 .given (c .before .before .before .before .args .at + 1) .fits, c .before .shared-slice-known3 .given (c .before .before .before .before .args .at + 2) .fits, c .shared-slice-known4 .given (c .before .before .before .before .args .at + 3) .fits) }
+add-result-2 c =
+    let p = c .before .before in
+    let q = p .before in
+    let u = q .before in
+    record { fits = omega (arith, q .shared-slice-known .given (u .args .at) .fits, p .shared-slice-known2 .given (u .args .at + 1) .fits, c .before .shared-slice-known3 .given (u .args .at + 2) .fits, c .shared-slice-known4 .given (u .args .at + 3) .fits) }
 
 mul-result-3 : tie.Need-mul-result-3
-mul-result-3 c = record { fits = omega (arith, c .before .before .before .shared-slice-known .given (c .before .before .before .before .args .at) .fits, c .before .before .shared-slice-known2 .given (c .before .before .before .before .args .at + 1) .fits, c .before .shared-slice-known3 .given (c .before .before .before .before .args .at + 2) .fits, c .shared-slice-known4 .given (c .before .before .before .before .args .at + 3) .fits) }
+mul-result-3 c =
+    let p = c .before .before in
+    let q = p .before in
+    let u = q .before in
+    record { fits = omega (arith, q .shared-slice-known .given (u .args .at) .fits, p .shared-slice-known2 .given (u .args .at + 1) .fits, c .before .shared-slice-known3 .given (u .args .at + 2) .fits, c .shared-slice-known4 .given (u .args .at + 3) .fits) }
 
 add-result-3 : tie.Need-add-result-3
-add-result-3 c = record { fits = omega (arith, c .before .before .before .shared-slice-known .given (c .before .before .before .before .args .at) .fits, c .before .before .shared-slice-known2 .given (c .before .before .before .before .args .at + 1) .fits, c .before .shared-slice-known3 .given (c .before .before .before .before .args .at + 2) .fits, c .shared-slice-known4 .given (c .before .before .before .before .args .at + 3) .fits) }
+add-result-3 c =
+    let p = c .before .before in
+    let q = p .before in
+    let u = q .before in
+    record { fits = omega (arith, q .shared-slice-known .given (u .args .at) .fits, p .shared-slice-known2 .given (u .args .at + 1) .fits, c .before .shared-slice-known3 .given (u .args .at + 2) .fits, c .shared-slice-known4 .given (u .args .at + 3) .fits) }
 
 returns : tie.Need-returns
-returns c = (half-is (now (c .before .before .before .before .args .input)) (c .before .before .before .before .args .at) (c .before .before .before .before .pre), omega (arith, c .before .before .before .shared-slice-known .given (c .before .before .before .before .args .at) .fits, c .before .before .shared-slice-known2 .given (c .before .before .before .before .args .at + 1) .fits, c .before .shared-slice-known3 .given (c .before .before .before .before .args .at + 2) .fits, c .shared-slice-known4 .given (c .before .before .before .before .args .at + 3) .fits))
+returns c =
+    let p = c .before .before in
+    let q = p .before in
+    let u = q .before in
+    (half-is (now (u .args .input)) (u .args .at) (u .pre), omega (arith, q .shared-slice-known .given (u .args .at) .fits, p .shared-slice-known2 .given (u .args .at + 1) .fits, c .before .shared-slice-known3 .given (u .args .at + 2) .fits, c .shared-slice-known4 .given (u .args .at + 3) .fits))
 
 pub half-at-spec : {M : Type 1} → statement M
 half-at-spec =

@@ -14,13 +14,24 @@ put-bytes-requires : tie.Need-put-bytes-requires
 put-bytes-requires c κs = room-front _ refl (done-room (c .before .before .before .args .records) _ (omega arith) (c .before .before .before .pre))
 
 put-word-requires : tie.Need-put-word-requires
-put-word-requires c κs = room-front _ refl (room-rest _ refl (done-room (c .before .before .before .before .before .before .before .args .records) _ (omega arith) (c .before .before .before .before .before .before .before .pre)) (c .before .before .before .put-bytes .ensures))
+put-word-requires c κs =
+    let p = c .before .before .before in
+    let q = p .before .before .before .before in
+    room-front _ refl (room-rest _ refl (done-room (q .args .records) _ (omega arith) (q .pre)) (p .put-bytes .ensures))
 
 put-requires : tie.Need-put-requires
-put-requires c κs = room-rest _ refl (room-rest _ refl (done-room (c .before .before .before .before .before .before .before .before .before .before .before .args .records) _ (omega arith) (c .before .before .before .before .before .before .before .before .before .before .before .pre)) (c .before .before .before .before .before .before .before .put-bytes .ensures)) (c .before .before .before .put-word .ensures)
+put-requires c κs =
+    let p = c .before .before .before in
+    let q = p .before .before .before .before in
+    let u = q .before .before .before .before in
+    room-rest _ refl (room-rest _ refl (done-room (u .args .records) _ (omega arith) (u .pre)) (q .put-bytes .ensures)) (p .put-word .ensures)
 
 returns : tie.Need-returns
-returns c = put-same (done-is _) (put-then (c .before .before .before .before .before .before .before .before .before .before .put-bytes .ensures) (put-then (c .before .before .before .before .before .before .put-word .ensures) (c .before .before .put .ensures)))
+returns c =
+    let p = c .before .before in
+    let q = p .before .before .before .before in
+    let u = q .before .before .before .before in
+    put-same (done-is _) (put-then (u .put-bytes .ensures) (put-then (q .put-word .ensures) (p .put .ensures)))
 
 same-length : tie.Need-same-length
 same-length c = put-length (returns c)

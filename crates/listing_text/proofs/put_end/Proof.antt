@@ -21,13 +21,20 @@ slice-aggregate-put-trace : tie.Need-slice-aggregate-put-trace
 slice-aggregate-put-trace c = sym (length-take-le _ _ (calls-inside (now (c .before .before .before .before .before .before .before .args .trace)) (c .before .before .before .r2 .given .1) (c .before .before .before .before .before .before .before .pre .0)))
 
 put-trace-requires : tie.Need-put-trace-requires
-put-trace-requires c κs = calls-room (now (c .before .before .before .before .before .before .before .args .trace)) (c .before .before .before .r2 .given .1) _ _ (c .before .before .before .before .before .before .before .pre .0) (c .before .before .before .before .before .before .before .pre .1) (c .before .before .before .before .before .before .before .pre .2)
+put-trace-requires c κs =
+    let p = c .before .before .before in
+    let q = p .before .before .before .before in
+    calls-room (now (q .args .trace)) (p .r2 .given .1) _ _ (q .pre .0) (q .pre .1) (q .pre .2)
 
 numbers-of-requires : tie.Need-numbers-of-requires
 numbers-of-requires c κs = tt
 
 put-refused-requires : tie.Need-put-refused-requires
-put-refused-requires c κs = last-room (now (c .before .before .before .before .before .before .before .before .before .before .before .before .args .trace)) (c .before .before .before .before .before .before .before .before .r2 .given .1) (c .before .before .before .before .put-trace .ensures) (c .before .before .before .before .before .before .before .before .before .before .before .before .pre .0) (c .before .before .before .before .before .before .before .before .before .before .before .before .pre .1) (c .before .before .before .before .before .before .before .before .before .before .before .before .pre .2)
+put-refused-requires c κs =
+    let p = c .before .before .before .before in
+    let q = p .before .before .before .before in
+    let u = q .before .before .before .before in
+    last-room (now (u .args .trace)) (q .r2 .given .1) (p .put-trace .ensures) (u .pre .0) (u .pre .1) (u .pre .2)
 
 returns : tie.Need-returns
 returns c = end-done _ (c .before .before .before .before .before .r .given .1) (c .before .before .put-done .ensures)
@@ -36,7 +43,13 @@ same-length : tie.Need-same-length
 same-length c = put-length (returns c)
 
 returns-2 : tie.Need-returns-2
-returns-2 c = end-refused (now (c .before .before .before .before .before .before .before .before .before .before .before .before .before .before .before .args .trace)) (c .before .before .before .before .before .before .before .before .before .before .before .r2 .given .1) (c .before .before .before .before .before .before .before .put-trace .ensures) (c .before .before .before .numbers-of .ensures) (c .before .before .put-refused .ensures)
+returns-2 c =
+    let p = c .before .before in
+    let q = p .before in
+    let u = q .before .before .before .before in
+    let v = u .before .before .before .before in
+    let w = v .before .before .before .before in
+    end-refused (now (w .args .trace)) (v .r2 .given .1) (u .put-trace .ensures) (q .numbers-of .ensures) (p .put-refused .ensures)
 
 same-length-2 : tie.Need-same-length-2
 same-length-2 c = put-length (returns-2 c)

@@ -14,7 +14,10 @@ put-bytes-requires : tie.Need-put-bytes-requires
 put-bytes-requires c κs = room-front _ refl (from-room (c .before .before .before .args .scope) (c .before .before .before .args .place) _ (omega arith) (omega arith) (c .before .before .before .pre))
 
 put-two-requires : tie.Need-put-two-requires
-put-two-requires c κs = room-rest _ refl (from-room (c .before .before .before .before .before .before .before .args .scope) (c .before .before .before .before .before .before .before .args .place) _ (omega arith) (omega arith) (c .before .before .before .before .before .before .before .pre)) (c .before .before .before .put-bytes .ensures)
+put-two-requires c κs =
+    let p = c .before .before .before in
+    let q = p .before .before .before .before in
+    room-rest _ refl (from-room (q .args .scope) (q .args .place) _ (omega arith) (omega arith) (q .pre)) (p .put-bytes .ensures)
 
 returns : tie.Need-returns
 returns c = from-most (omega arith) (omega arith) (put-then (c .before .before .before .before .before .before .put-bytes .ensures) (c .before .before .put-two .ensures))

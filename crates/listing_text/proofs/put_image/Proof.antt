@@ -20,10 +20,18 @@ read-words-requires : tie.Need-read-words-requires
 read-words-requires c κs = cut-inside (now (c .before .before .before .before .args .input)) (replicate 8193 0) (length-replicate {A = ℕ} 8193 0) (c .before .cut .ensures) (c .before .before .before .before .pre .1)
 
 array-share-prefix-image : tie.Need-array-share-prefix-image
-array-share-prefix-image c = read-inside (now (c .before .before .before .before .before .before .before .args .input)) (replicate 8193 0) (length-replicate {A = ℕ} 8193 0) (c .before .before .before .before .cut .ensures) (c .before .before .read-words .ensures)
+array-share-prefix-image c =
+    let p = c .before .before in
+    let q = p .before .before in
+    let u = q .before .before .before in
+    read-inside (now (u .args .input)) (replicate 8193 0) (length-replicate {A = ℕ} 8193 0) (q .cut .ensures) (p .read-words .ensures)
 
 slice-aggregate-put-run : tie.Need-slice-aggregate-put-run
-slice-aggregate-put-run c = read-length (now (c .before .before .before .before .before .before .before .before .args .input)) (replicate 8193 0) (length-replicate {A = ℕ} 8193 0) (c .before .before .before .before .before .cut .ensures) (c .before .before .before .read-words .ensures)
+slice-aggregate-put-run c =
+    let p = c .before .before .before in
+    let q = p .before .before in
+    let u = q .before .before .before in
+    read-length (now (u .args .input)) (replicate 8193 0) (length-replicate {A = ℕ} 8193 0) (q .cut .ensures) (p .read-words .ensures)
 
 word-at-requires : tie.Need-word-at-requires
 word-at-requires c κs = search needs
@@ -32,7 +40,13 @@ put-run-requires : tie.Need-put-run-requires
 put-run-requires c κs = search needs
 
 returns : tie.Need-returns
-returns c = image-put (now (c .before .before .before .before .before .before .before .before .before .before .before .before .args .input)) (replicate 8193 0) (length-replicate {A = ℕ} 8193 0) (c .before .before .before .before .before .before .before .before .before .cut .ensures) (c .before .before .before .before .before .before .before .read-words .ensures) (c .before .before .before .word-at .ensures) (c .before .before .put-run .ensures)
+returns c =
+    let p = c .before .before in
+    let q = p .before in
+    let u = q .before .before .before .before in
+    let v = u .before .before in
+    let w = v .before .before .before in
+    image-put (now (w .args .input)) (replicate 8193 0) (length-replicate {A = ℕ} 8193 0) (v .cut .ensures) (u .read-words .ensures) (q .word-at .ensures) (p .put-run .ensures)
 
 same-length : tie.Need-same-length
 same-length c = put-length (returns c)

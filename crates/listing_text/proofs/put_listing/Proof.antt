@@ -28,7 +28,12 @@ put-image-requires : tie.Need-put-image-requires
 put-image-requires c κs = (c .before .before .before .before .before .pre, c .before .if2 .left)
 
 returns-3 : tie.Need-returns-3
-returns-3 c = put-same (listing-run (now (c .before .before .before .before .before .before .before .before .args .input)) (c .before .before .before .before .before .if1 .left) (c .before .before .before .before .if2 .left)) (c .before .before .put-image .ensures)
+returns-3 c =
+    let p = c .before .before in
+    let q = p .before .before in
+    let u = q .before in
+    let v = u .before .before .before in
+    put-same (listing-run (now (v .args .input)) (u .if1 .left) (q .if2 .left)) (p .put-image .ensures)
 
 same-length-3 : tie.Need-same-length-3
 same-length-3 c = put-length (returns-3 c)

@@ -19,7 +19,10 @@ shared-slice-read-put-number : tie.Need-shared-slice-read-put-number Inv-loop μ
 shared-slice-read-put-number c = search needs
 
 put-number-requires : tie.Need-put-number-requires Inv-loop μ-loop
-put-number-requires c κs = room-front _ (line-start (now (c .before .before .before .before .args .words))) (line-room (now (c .before .before .before .before .args .words)) _ (c .before .before .before .before .pre .0) (λ j. c .before .before .shared-slice-known .given j .fits) (c .before .before .before .before .pre .1))
+put-number-requires c κs =
+    let p = c .before .before in
+    let q = p .before .before in
+    room-front _ (line-start (now (q .args .words))) (line-room (now (q .args .words)) _ (q .pre .0) (λ j. p .shared-slice-known .given j .fits) (q .pre .1))
 
 loop-holds : tie.Need-loop-holds Inv-loop μ-loop
 loop-holds c = putting-start _ (rw (put-length (c .before .before .put-number .ensures)) (c .before .before .put-number .ensures .fits))
@@ -34,7 +37,13 @@ is-numerator-requires : tie.Need-is-numerator-requires Inv-loop μ-loop
 is-numerator-requires c κs = search needs
 
 put-word-requires : tie.Need-put-word-requires Inv-loop μ-loop
-put-word-requires c κs = putting-room (c .before .before .before .before .loop .inv) _ (line-next (now (c .before .before .before .before .before .before .before .before .before .before .before .before .args .words)) _ (c .before .before .before .loop-test .taken) (c .is-numerator .ensures)) (room-rest _ (line-start (now (c .before .before .before .before .before .before .before .before .before .before .before .before .args .words))) (line-room (now (c .before .before .before .before .before .before .before .before .before .before .before .before .args .words)) _ (c .before .before .before .before .before .before .before .before .before .before .before .before .pre .0) (λ j. c .before .before .before .before .before .before .before .before .before .before .shared-slice-known .given j .fits) (c .before .before .before .before .before .before .before .before .before .before .before .before .pre .1)) (c .before .before .before .before .before .before .before .put-number .ensures))
+put-word-requires c κs =
+    let p = c .before .before .before in
+    let q = p .before in
+    let u = q .before .before .before in
+    let v = u .before .before .before in
+    let w = v .before .before in
+    putting-room (q .loop .inv) _ (line-next (now (w .args .words)) _ (p .loop-test .taken) (c .is-numerator .ensures)) (room-rest _ (line-start (now (w .args .words))) (line-room (now (w .args .words)) _ (w .pre .0) (λ j. v .shared-slice-known .given j .fits) (w .pre .1)) (u .put-number .ensures))
 
 add-i : tie.Need-add-i Inv-loop μ-loop
 add-i c = search needs
@@ -43,13 +52,31 @@ loop-less : tie.Need-loop-less Inv-loop μ-loop
 loop-less c = search needs
 
 loop-again : tie.Need-loop-again Inv-loop μ-loop
-loop-again c = putting-more (c .before .before .before .before .before .before .before .loop .inv) (line-next (now (c .before .before .before .before .before .before .before .before .before .before .before .before .before .before .before .args .words)) _ (c .before .before .before .before .before .before .loop-test .taken) (c .before .before .before .is-numerator .ensures)) (c .before .before .put-word .ensures)
+loop-again c =
+    let p = c .before .before in
+    let q = p .before in
+    let u = q .before .before .before in
+    let v = u .before in
+    let w = v .before .before .before .before .before .before .before .before in
+    putting-more (v .loop .inv) (line-next (now (w .args .words)) _ (u .loop-test .taken) (q .is-numerator .ensures)) (p .put-word .ensures)
 
 put-requires : tie.Need-put-requires Inv-loop μ-loop
-put-requires c κs = putting-room (c .before .before .loop .inv) [] (line-end _ _ (c .before .loop-test .left)) (room-rest _ (line-start (now (c .before .before .before .before .before .before .before .before .before .before .args .words))) (line-room (now (c .before .before .before .before .before .before .before .before .before .before .args .words)) _ (c .before .before .before .before .before .before .before .before .before .before .pre .0) (λ j. c .before .before .before .before .before .before .before .before .shared-slice-known .given j .fits) (c .before .before .before .before .before .before .before .before .before .before .pre .1)) (c .before .before .before .before .before .put-number .ensures))
+put-requires c κs =
+    let p = c .before .before in
+    let q = p .before .before .before in
+    let u = q .before .before .before in
+    let v = u .before .before in
+    putting-room (p .loop .inv) [] (line-end _ _ (c .before .loop-test .left)) (room-rest _ (line-start (now (v .args .words))) (line-room (now (v .args .words)) _ (v .pre .0) (λ j. u .shared-slice-known .given j .fits) (v .pre .1)) (q .put-number .ensures))
 
 returns : tie.Need-returns Inv-loop μ-loop
-returns c = line-most (now (c .before .before .before .before .before .before .before .before .before .before .before .before .before .args .words)) (c .before .before .before .before .before .before .before .before .before .before .before .before .before .pre .0) (λ j. c .before .before .before .before .before .before .before .before .before .before .before .shared-slice-known .given j .fits) (put-same (sym (line-start _)) (put-then (c .before .before .before .before .before .before .before .before .put-number .ensures) (putting-last (c .before .before .before .before .before .loop .inv) (put-same (sym (line-end _ _ (c .before .before .before .before .loop-test .left))) (c .before .before .put .ensures)))))
+returns c =
+    let p = c .before .before in
+    let q = p .before .before in
+    let u = q .before in
+    let v = u .before .before .before in
+    let w = v .before .before .before in
+    let x = w .before .before in
+    line-most (now (x .args .words)) (x .pre .0) (λ j. w .shared-slice-known .given j .fits) (put-same (sym (line-start _)) (put-then (v .put-number .ensures) (putting-last (u .loop .inv) (put-same (sym (line-end _ _ (q .loop-test .left))) (p .put .ensures)))))
 
 same-length : tie.Need-same-length Inv-loop μ-loop
 same-length c = put-length (returns c .put)

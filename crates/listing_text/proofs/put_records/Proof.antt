@@ -19,13 +19,21 @@ next-record-requires : tie.Need-next-record-requires Inv-loop μ-loop
 next-record-requires c κs = tt
 
 put-record-requires : tie.Need-put-record-requires Inv-loop μ-loop
-put-record-requires c κs = (next-some (c .before .before .before .loop .inv) (c .before .before .loop-test .taken) (c .before .next-record .ensures), next-room (c .before .before .before .loop .inv) (c .before .before .loop-test .taken) (c .before .next-record .ensures) (c .before .before .before .before .before .before .pre .1))
+put-record-requires c κs =
+    let p = c .before .before in
+    let q = p .before in
+    let u = q .before .before .before in
+    (next-some (q .loop .inv) (p .loop-test .taken) (c .before .next-record .ensures), next-room (q .loop .inv) (p .loop-test .taken) (c .before .next-record .ensures) (u .pre .1))
 
 add-i : tie.Need-add-i Inv-loop μ-loop
 add-i c = record { fits = omega (arith, next-inside (c .before .before .before .before .before .before .loop .inv) (c .before .before .before .before .before .loop-test .taken) (c .before .before .before .before .next-record .ensures)) }
 
 loop-less : tie.Need-loop-less Inv-loop μ-loop
-loop-less c = omega (arith, c .before .before .before .before .before .loop-test .taken, next-some (c .before .before .before .before .before .before .loop .inv) (c .before .before .before .before .before .loop-test .taken) (c .before .before .before .before .next-record .ensures))
+loop-less c =
+    let p = c .before .before .before .before in
+    let q = p .before in
+    let u = q .before in
+    omega (arith, q .loop-test .taken, next-some (u .loop .inv) (q .loop-test .taken) (p .next-record .ensures))
 
 loop-again : tie.Need-loop-again Inv-loop μ-loop
 loop-again c = reading-more (c .before .before .before .before .before .before .loop .inv) (c .before .before .before .before .before .loop-test .taken) (c .before .before .before .before .next-record .ensures) (c .before .before .put-record .ensures)

@@ -25,16 +25,30 @@ slice-aggregate-put-records : tie.Need-slice-aggregate-put-records
 slice-aggregate-put-records c = prefix-length (c .before .before .before .before .before .run .ensures) (length-replicate {A = ℕ} 8192 0) (length-replicate {A = ℕ} 256 0) (c .before .before .words-of .ensures)
 
 put-records-requires : tie.Need-put-records-requires
-put-records-requires c κs = (prefix-recorded (c .before .before .before .before .before .run .ensures) (length-replicate {A = ℕ} 8192 0) (length-replicate {A = ℕ} 256 0) (c .before .before .words-of .ensures), lines-room (c .before .before .before .before .before .run .ensures) (length-replicate {A = ℕ} 8192 0) (length-replicate {A = ℕ} 256 0) (c .before .before .words-of .ensures) _ (c .before .before .before .before .before .before .before .before .before .before .pre))
+put-records-requires c κs =
+    let p = c .before .before in
+    let q = p .before .before .before in
+    let u = q .before .before .before .before .before in
+    (prefix-recorded (q .run .ensures) (length-replicate {A = ℕ} 8192 0) (length-replicate {A = ℕ} 256 0) (p .words-of .ensures), lines-room (q .run .ensures) (length-replicate {A = ℕ} 8192 0) (length-replicate {A = ℕ} 256 0) (p .words-of .ensures) _ (u .pre))
 
 slice-aggregate-put-end : tie.Need-slice-aggregate-put-end
 slice-aggregate-put-end c = search needs
 
 put-end-requires : tie.Need-put-end-requires
-put-end-requires c κs = (trace-inside (c .before .before .before .before .before .before .before .before .before .before .run .ensures) (length-replicate {A = ℕ} 8192 0) (length-replicate {A = ℕ} 256 0) (c .before .before .before .before .before .before .before .words-of .ensures), trace-short (c .before .before .before .before .before .before .before .before .before .before .run .ensures) (length-replicate {A = ℕ} 8192 0) (length-replicate {A = ℕ} 256 0) (c .before .before .before .before .before .before .before .words-of .ensures), end-room (c .before .before .before .before .before .before .before .before .before .before .run .ensures) (length-replicate {A = ℕ} 8192 0) (length-replicate {A = ℕ} 256 0) (c .before .before .before .before .before .before .before .words-of .ensures) (c .before .before .before .before .put-records .ensures) (c .before .before .before .before .before .before .before .before .before .before .before .before .before .before .before .pre))
+put-end-requires c κs =
+    let p = c .before .before .before .before in
+    let q = p .before .before .before in
+    let u = q .before .before .before in
+    let v = u .before .before .before .before .before in
+    (trace-inside (u .run .ensures) (length-replicate {A = ℕ} 8192 0) (length-replicate {A = ℕ} 256 0) (q .words-of .ensures), trace-short (u .run .ensures) (length-replicate {A = ℕ} 8192 0) (length-replicate {A = ℕ} 256 0) (q .words-of .ensures), end-room (u .run .ensures) (length-replicate {A = ℕ} 8192 0) (length-replicate {A = ℕ} 256 0) (q .words-of .ensures) (p .put-records .ensures) (v .pre))
 
 returns : tie.Need-returns
-returns c = run-put (c .before .before .before .before .before .before .before .before .before .before .before .before .before .run .ensures) (length-replicate {A = ℕ} 8192 0) (length-replicate {A = ℕ} 256 0) (c .before .before .before .before .before .before .before .before .before .before .words-of .ensures) (c .before .before .before .before .before .before .before .put-records .ensures) (c .before .before .put-end .ensures)
+returns c =
+    let p = c .before .before in
+    let q = p .before .before .before .before .before in
+    let u = q .before .before .before in
+    let v = u .before .before .before in
+    run-put (v .run .ensures) (length-replicate {A = ℕ} 8192 0) (length-replicate {A = ℕ} 256 0) (u .words-of .ensures) (q .put-records .ensures) (p .put-end .ensures)
 
 same-length : tie.Need-same-length
 same-length c = put-length (returns c)

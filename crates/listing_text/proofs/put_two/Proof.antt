@@ -11,7 +11,11 @@ put-word-requires-2 : tie.Need-put-word-requires-2
 put-word-requires-2 c κs = room-front _ refl (room-rest _ refl (c .before .before .before .before .before .before .pre) (c .before .before .before .put-word .ensures))
 
 put-requires : tie.Need-put-requires
-put-requires c κs = room-rest _ refl (room-rest _ refl (c .before .before .before .before .before .before .before .before .before .before .pre) (c .before .before .before .before .before .before .before .put-word .ensures)) (c .before .before .before .put-word2 .ensures)
+put-requires c κs =
+    let p = c .before .before .before in
+    let q = p .before .before .before .before in
+    let u = q .before .before .before in
+    room-rest _ refl (room-rest _ refl (u .pre) (q .put-word .ensures)) (p .put-word2 .ensures)
 
 returns : tie.Need-returns
 returns c = put-then (c .before .before .before .before .before .before .before .before .before .before .put-word .ensures) (put-then (c .before .before .before .before .before .before .put-word2 .ensures) (c .before .before .put .ensures))

@@ -43,7 +43,10 @@ loop-less : tie.Need-loop-less Inv-loop μ-loop
 loop-less c = search needs
 
 loop-again : tie.Need-loop-again Inv-loop μ-loop
-loop-again c = (omega (arith, c .before .loop-test .taken), words-more _ (now (c .before .before .before .before .before .args .input)) _ (c .before .before .loop .inv .1) (c .word-at .ensures), length-set (c .before .before .loop .words) _ _ ∙ c .before .before .loop .inv .2)
+loop-again c =
+    let p = c .before .before in
+    let q = p .before .before .before in
+    (omega (arith, c .before .loop-test .taken), words-more _ (now (q .args .input)) _ (p .loop .inv .1) (c .word-at .ensures), length-set (p .loop .words) _ _ ∙ p .loop .inv .2)
 
 same-length : tie.Need-same-length Inv-loop μ-loop
 same-length c = c .before .loop .inv .2
