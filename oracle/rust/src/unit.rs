@@ -4,8 +4,8 @@ use crate::Outcome;
 
 #[link(name = "unit", kind = "static")]
 extern "C" {
-    fn cowhirame_check(image: *const u64, words: usize, answer: *mut u64);
-    fn cowhirame_run(
+    pub fn cowhirame_check(image: *const u64, words: usize, answer: *mut u64);
+    pub fn cowhirame_run(
         image: *const u64,
         words: usize,
         depth: u64,
@@ -15,7 +15,7 @@ extern "C" {
         trace_words: usize,
         answer: *mut u64,
     );
-    fn cowhirame_tally(image: *const u64, words: usize, depth: u64, answer: *mut u64);
+    pub fn cowhirame_tally(image: *const u64, words: usize, depth: u64, answer: *mut u64);
 }
 
 /// Number and place; 0 and 0 of an accepted image.

@@ -7,7 +7,12 @@
 use core::fmt;
 use core::ops::{AddAssign, Mul};
 use integer::gcd;
-use traits::{CheckedAdd, CheckedDiv, CheckedMul, CheckedSub};
+use traits::{CheckedAdd, CheckedMul};
+
+#[cfg(not(feature = "machine"))]
+mod exact;
+#[cfg(feature = "machine")]
+mod machine;
 
 const LIMIT: i128 = i64::MAX as i128;
 
@@ -48,18 +53,6 @@ impl Rational64 {
         Some(Rational64 { numer: in_range(numer / common)?, denom: in_range(denom / common)? })
     }
 
-    /// "g = gcd(b,d), l = b/g·d, p = l/b·a, q = l/d·c, s = p+q, then s/l reduced. Overflow exactly if l, p, q
-    /// or s leaves the range."
-    fn sum(self, c: i128, d: i128) -> Option<Rational64> {
-        let (a, b) = (self.numer as i128, self.denom as i128);
-        let g = gcd(b as u128, d as u128) as i128;
-        let l = in_range(b / g * d)? as i128;
-        let p = in_range(l / b * a)? as i128;
-        let q = in_range(l / d * c)? as i128;
-        let s = in_range(p + q)? as i128;
-        Rational64::reduced(s, l)
-    }
-
     /// The part after the whole part, which goes toward zero.
     pub fn fract(&self) -> Rational64 {
         Rational64::new(self.numer % self.denom, self.denom)
@@ -96,32 +89,6 @@ impl Rational64 {
 impl From<i64> for Rational64 {
     fn from(whole: i64) -> Rational64 {
         Rational64::new_raw(whole, 1)
-    }
-}
-
-impl CheckedAdd for Rational64 {
-    fn checked_add(&self, other: &Rational64) -> Option<Rational64> {
-        self.sum(other.numer as i128, other.denom as i128)
-    }
-}
-
-impl CheckedSub for Rational64 {
-    fn checked_sub(&self, other: &Rational64) -> Option<Rational64> {
-        self.sum(-(other.numer as i128), other.denom as i128)
-    }
-}
-
-// "Product, quotient, power: exact, overflow exactly if the reduced result leaves the range."
-
-impl CheckedMul for Rational64 {
-    fn checked_mul(&self, other: &Rational64) -> Option<Rational64> {
-        Rational64::reduced(self.numer as i128 * other.numer as i128, self.denom as i128 * other.denom as i128)
-    }
-}
-
-impl CheckedDiv for Rational64 {
-    fn checked_div(&self, other: &Rational64) -> Option<Rational64> {
-        Rational64::reduced(self.numer as i128 * other.denom as i128, self.denom as i128 * other.numer as i128)
     }
 }
 

@@ -6,27 +6,28 @@ use crate::random::Random;
 use expressions::Known;
 
 /// A gate; a body is the number of its first further statement and its length.
-struct Gate {
-    parameters: u64,
-    arguments: u64,
-    body: Option<(u64, u64)>,
+pub struct Gate {
+    pub parameters: u64,
+    pub arguments: u64,
+    pub body: Option<(u64, u64)>,
 }
 
+/// The lists of an image.
 #[derive(Default)]
-struct Parts {
-    quantum: Vec<u64>,
-    classical: Vec<u64>,
-    gates: Vec<Gate>,
+pub struct Parts {
+    pub quantum: Vec<u64>,
+    pub classical: Vec<u64>,
+    pub gates: Vec<Gate>,
     /// An if names its inner statement by its number among the further ones.
-    main: Vec<[u64; 5]>,
-    further: Vec<[u64; 5]>,
-    arguments: Vec<[u64; 2]>,
-    parameters: Vec<u64>,
-    expressions: Vec<[u64; 3]>,
+    pub main: Vec<[u64; 5]>,
+    pub further: Vec<[u64; 5]>,
+    pub arguments: Vec<[u64; 2]>,
+    pub parameters: Vec<u64>,
+    pub expressions: Vec<[u64; 3]>,
 }
 
 impl Parts {
-    fn words(&self) -> Vec<u64> {
+    pub fn words(&self) -> Vec<u64> {
         let further = self.main.len() as u64;
         let counts = [
             self.quantum.len(),

@@ -1,0 +1,333 @@
+//! measure [ROUNDS]: the times of the sequence unit beside the published linearizer's, as ratios.
+//!
+//! In each round both run the same images in turn, the unit's check included; the published linearizer gets its
+//! program ready made, and a writer that does nothing but put the words into memory that is there. A ratio is of one
+//! round; the middle one of all rounds is printed with the least and the largest.
+use num::Rational64;
+use openqasm::ast::{Program, Symbol};
+use openqasm::translate::{GateWriter, Linearize, ProgramVisitor, Value};
+use oracle::generate::{self, Gate, Parts};
+use oracle::image::{self, Image};
+use oracle::unit::{cowhirame_check, cowhirame_run, cowhirame_tally};
+use std::convert::Infallible;
+use std::hint::black_box;
+use std::time::Instant;
+
+const ALL: u64 = u64::MAX;
+/// How long one side of a round runs, in seconds.
+const ROUND: f64 = 0.05;
+const MOST_NODES: usize = 300_000;
+
+// ---- programs
+
+/// One U or CX a statement, on whole registers.
+fn broadcasts(quantum: &[u64], statement: [u64; 5], count: usize) -> Vec<u64> {
+    let arguments = (0..quantum.len() as u64).map(|register| [register, 0]).collect();
+    let expressions = vec![[0, 0, 0], [2, 2, 0], [7, 0, 1], [2, 0, 0]];
+    Parts { quantum: quantum.to_vec(), main: vec![statement; count], arguments, expressions, ..Parts::default() }.words()
+}
+
+/// Gates that call the one below twice, over a U; each hands its parameters on.
+fn doubling(levels: u64, parameters: u64) -> Vec<u64> {
+    let mut parts = Parts { quantum: vec![1], arguments: vec![[0, 0]], ..Parts::default() };
+    // 0, the parameters, and what main gives for them.
+    parts.expressions = vec![[2, 0, 0]];
+    parts.expressions.extend((0..parameters).map(|variable| [3, variable, 0]));
+    parts.expressions.extend((0..parameters).map(|number| [2, number + 1, 0]));
+    parts.parameters = (1..=2 * parameters).collect();
+    let angle = |number: u64| if number < parameters { number + 1 } else { 0 };
+    parts.further.push([1, angle(0), angle(1), angle(2), 0]);
+    parts.gates.push(Gate { parameters, arguments: 1, body: Some((0, 1)) });
+    for level in 1..levels {
+        let first = parts.further.len() as u64;
+        parts.further.extend([[3, level - 1, 0, 0, 0]; 2]);
+        parts.gates.push(Gate { parameters, arguments: 1, body: Some((first, 2)) });
+    }
+    parts.main = vec![[3, levels - 1, parameters, 0, 0]; 2];
+    parts.words()
+}
+
+/// Expressions of ten nodes as (pi*i/(j+1) - 1/2) + k, none of them twice, three a U.
+fn expressions(count: u64, kinds: u64) -> Vec<u64> {
+    let mut parts = Parts { quantum: vec![1], arguments: vec![[0, 0]], ..Parts::default() };
+    for kind in 0..kinds {
+        let at = parts.expressions.len() as u64;
+        parts.expressions.extend([
+            [0, 0, 0],
+            [2, kind + 1, 0],
+            [6, at, at + 1],
+            [2, kind % 7 + 2, 0],
+            [7, at + 2, at + 3],
+            [1, 0.5f32.to_bits() as u64, 0],
+            [5, at + 4, at + 5],
+            [2, kind % 5, 0],
+            [9, at + 7, 0],
+            [4, at + 6, at + 8],
+        ]);
+    }
+    let root = |number: u64| number % kinds * 10 + 9;
+    parts.main = (0..count).map(|u| [1, root(3 * u), root(3 * u + 1), root(3 * u + 2), 0]).collect();
+    parts.words()
+}
+
+/// Small programs that are done, of 8 to 12 records each.
+fn small(count: usize) -> Vec<Vec<u64>> {
+    let records = |image: &Vec<u64>| {
+        let mut unit = Unit::new(image);
+        (unit.run(image, ALL), unit.answer[0])
+    };
+    (0..)
+        .map(|item| generate::program(7, item))
+        .filter(|image| !Image::new(image).has_conditional() && tally(image, ALL)[9] < 1000)
+        .filter(|image| matches!(records(image), (8..=12, 0)))
+        .take(count)
+        .collect()
+}
+
+/// The most gates, each calling the one below so many times.
+fn tower(calls: u64) -> Vec<u64> {
+    let mut parts = Parts { quantum: vec![1], arguments: vec![[0, 0]], expressions: vec![[0, 0, 0]], ..Parts::default() };
+    parts.further.push([1, 0, 0, 0, 0]);
+    parts.gates.push(Gate { parameters: 0, arguments: 1, body: Some((0, 1)) });
+    for level in 1..128 {
+        let first = parts.further.len() as u64;
+        parts.further.extend(vec![[3, level - 1, 0, 0, 0]; calls as usize]);
+        parts.gates.push(Gate { parameters: 0, arguments: 1, body: Some((first, calls)) });
+    }
+    parts.main = vec![[3, 127, 0, 0, 0]];
+    parts.words()
+}
+
+// ---- both sides
+
+fn tally(image: &[u64], depth: u64) -> [u64; 11] {
+    let mut answer = [0; 11];
+    unsafe { cowhirame_tally(image.as_ptr(), image.len(), depth, answer.as_mut_ptr()) };
+    answer
+}
+
+/// The sequence unit with the memory that the tally asks for.
+struct Unit {
+    output: Vec<u64>,
+    trace: [u64; 256],
+    answer: [u64; 6],
+}
+
+impl Unit {
+    fn new(image: &[u64]) -> Unit {
+        Unit { output: vec![0; tally(image, ALL)[10] as usize], trace: [0; 256], answer: [0; 6] }
+    }
+
+    /// The records of a run.
+    fn run(&mut self, image: &[u64], depth: u64) -> u64 {
+        unsafe {
+            cowhirame_run(
+                image.as_ptr(),
+                image.len(),
+                depth,
+                self.output.as_mut_ptr(),
+                self.output.len(),
+                self.trace.as_mut_ptr(),
+                self.trace.len(),
+                self.answer.as_mut_ptr(),
+            )
+        };
+        self.answer[3]
+    }
+}
+
+/// The published linearizer's writer: the same words into memory that is there, but for the names of the head.
+struct Sheet<'a> {
+    output: &'a mut Vec<u64>,
+    records: u64,
+}
+
+fn angle(value: Value) -> [u64; 4] {
+    let parts = |part: Rational64| [*part.numer() as u64, *part.denom() as u64];
+    let ([a, b], [c, d]) = (parts(value.a), parts(value.b));
+    [a, b, c, d]
+}
+
+impl Sheet<'_> {
+    fn put(&mut self, words: &[u64]) -> Result<(), Infallible> {
+        self.records += 1;
+        self.output.extend_from_slice(words);
+        Ok(())
+    }
+}
+
+impl GateWriter for &mut Sheet<'_> {
+    type Error = Infallible;
+
+    fn initialize(&mut self, qubits: &[Symbol], bits: &[Symbol]) -> Result<(), Infallible> {
+        self.put(&[0, qubits.len() as u64, bits.len() as u64])
+    }
+
+    fn write_u(&mut self, theta: Value, phi: Value, lambda: Value, reg: usize) -> Result<(), Infallible> {
+        let ([a, b, c, d], [e, f, g, h], [i, j, k, l]) = (angle(theta), angle(phi), angle(lambda));
+        self.put(&[1, a, b, c, d, e, f, g, h, i, j, k, l, reg as u64])
+    }
+
+    fn write_cx(&mut self, copy: usize, xor: usize) -> Result<(), Infallible> {
+        self.put(&[2, copy as u64, xor as u64])
+    }
+
+    fn write_opaque(&mut self, _: &Symbol, params: &[Value], args: &[usize]) -> Result<(), Infallible> {
+        self.put(&[3, 0, params.len() as u64, args.len() as u64])?;
+        self.output.extend(params.iter().flat_map(|value| angle(*value)));
+        self.output.extend(args.iter().map(|qubit| *qubit as u64));
+        Ok(())
+    }
+
+    fn write_barrier(&mut self, regs: &[usize]) -> Result<(), Infallible> {
+        self.put(&[4, regs.len() as u64])?;
+        self.output.extend(regs.iter().map(|qubit| *qubit as u64));
+        Ok(())
+    }
+
+    fn write_measure(&mut self, from: usize, to: usize) -> Result<(), Infallible> {
+        self.put(&[5, from as u64, to as u64])
+    }
+
+    fn write_reset(&mut self, reg: usize) -> Result<(), Infallible> {
+        self.put(&[6, reg as u64])
+    }
+
+    fn start_conditional(&mut self, reg: usize, count: usize, val: u64) -> Result<(), Infallible> {
+        self.put(&[7, reg as u64, count as u64, val])
+    }
+
+    fn end_conditional(&mut self) -> Result<(), Infallible> {
+        self.put(&[8])
+    }
+}
+
+/// The records of a run of the published linearizer.
+fn published(program: &Program, output: &mut Vec<u64>) -> u64 {
+    output.clear();
+    let mut sheet = Sheet { output, records: 0 };
+    if Linearize::new(&mut sheet, usize::MAX).visit_program(program).is_err() {
+        panic!("refused");
+    }
+    sheet.records
+}
+
+// ---- times
+
+/// Seconds of one turn, over as many turns as fill a round.
+fn seconds(mut turn: impl FnMut()) -> f64 {
+    let mut turns = 1;
+    loop {
+        let start = Instant::now();
+        for _ in 0..turns {
+            turn();
+        }
+        let time = start.elapsed().as_secs_f64();
+        if time > ROUND {
+            return time / turns as f64;
+        }
+        turns = (turns * 2).max((turns as f64 * ROUND * 1.1 / time.max(1e-9)) as u64);
+    }
+}
+
+/// The middle one, the least and the largest.
+fn spread(mut numbers: Vec<f64>) -> [f64; 3] {
+    numbers.sort_by(f64::total_cmp);
+    [numbers[numbers.len() / 2], numbers[0], numbers[numbers.len() - 1]]
+}
+
+fn compare(name: &str, images: &[Vec<u64>], rounds: usize) {
+    let programs: Vec<Program> =
+        images.iter().map(|image| image::program(&Image::new(image), MOST_NODES).expect("few nodes")).collect();
+    let mut units: Vec<Unit> = images.iter().map(|image| Unit::new(image)).collect();
+    let mut output = Vec::with_capacity(units.iter().map(|unit| unit.output.len()).max().unwrap());
+    let mut records = 0;
+    for ((image, program), unit) in images.iter().zip(&programs).zip(&mut units) {
+        let ours = unit.run(image, ALL);
+        assert_eq!((ours, unit.answer[0]), (published(program, &mut output), 0), "{name}");
+        // All words but the head's must be the same.
+        let head = unit.output[..].get(1..3).map_or(0, |counts| 3 + 2 * (counts[0] + counts[1]) as usize);
+        if ours > 0 {
+            let same = oracle::with_rising_barriers(&unit.output[head..unit.answer[4] as usize])
+                == with_gate_numbers(&unit.output[head..], oracle::with_rising_barriers(&output[3..]));
+            assert!(same, "{name}");
+        }
+        records += ours;
+    }
+    let (mut ours, mut theirs, mut ratios) = (Vec::new(), Vec::new(), Vec::new());
+    for _ in 0..rounds {
+        let unit_time = seconds(|| {
+            for (image, unit) in images.iter().zip(&mut units) {
+                black_box(unit.run(image, ALL));
+            }
+        });
+        let published_time = seconds(|| {
+            for program in &programs {
+                black_box(published(program, &mut output));
+            }
+        });
+        ours.push(unit_time / records as f64 * 1e9);
+        theirs.push(published_time / records as f64 * 1e9);
+        ratios.push(published_time / unit_time);
+    }
+    let ([ours, ..], [theirs, ..], [ratio, least, most]) = (spread(ours), spread(theirs), spread(ratios));
+    println!(
+        "{name:44} {:>8} records  unit {ours:8.1} ns a record  published {theirs:8.1}  ratio {ratio:6.2} ({least:.2} to {most:.2})",
+        records
+    );
+}
+
+/// The sheet does not tell a gate's number; everything else is compared.
+fn with_gate_numbers(unit: &[u64], mut published: Vec<u64>) -> Vec<u64> {
+    let mut at = 0;
+    while at < published.len() {
+        let length = oracle::record_length(&published[at..]);
+        if published[at] == 3 {
+            published[at + 1] = unit[at + 1];
+        }
+        at += length.max(1);
+    }
+    published
+}
+
+fn alone(name: &str, words: usize, rounds: usize, mut turn: impl FnMut()) {
+    let [middle, least, most] = spread((0..rounds).map(|_| seconds(&mut turn) * 1e6).collect());
+    println!(
+        "{name:44} {words:>8} words    {middle:10.2} us ({least:.2} to {most:.2}), {:.2} ns a word",
+        middle * 1e3 / words as f64
+    );
+}
+
+fn check_and_tally(name: &str, image: &[u64], rounds: usize) {
+    let mut answer = [0; 2];
+    alone(&format!("check: {name}"), image.len(), rounds, || unsafe {
+        cowhirame_check(image.as_ptr(), image.len(), black_box(&mut answer).as_mut_ptr())
+    });
+    assert_eq!(answer, [0, 0], "{name}");
+    alone(&format!("tally: {name}"), image.len(), rounds, || {
+        black_box(tally(image, ALL));
+    });
+}
+
+fn main() {
+    let rounds = std::env::args().nth(1).map_or(15, |word| word.parse().expect("a number of rounds"));
+    let u = [1, 2, 3, 0, 0];
+    compare("(a) U on 4,096 qubits, 20 times", &[broadcasts(&[4096], u, 20)], rounds);
+    compare("(a) U on 4,096 qubits, once", &[broadcasts(&[4096], u, 1)], rounds);
+    let cx = [2, 0, 1, 0, 0];
+    compare("(a) CX of 2,048 pairs, 40 times", &[broadcasts(&[2048, 2048], cx, 40)], rounds);
+    compare("(a) CX of one and 4,095, 20 times", &[broadcasts(&[1, 4095], cx, 20)], rounds);
+    for parameters in [0, 1, 3] {
+        let name = format!("(b) 12 levels of doubling, {parameters} parameters");
+        compare(&name, &[doubling(12, parameters)], rounds);
+    }
+    compare("(c) 1,000 U, 100 expressions of ten nodes", &[expressions(1000, 100)], rounds);
+    compare("(c) 500 U, 180 expressions of ten nodes", &[expressions(500, 180)], rounds);
+    compare("(d) 200 programs of 8 to 12 records", &small(200), rounds);
+    for count in [10, 100, 1000] {
+        check_and_tally(&format!("{count} U"), &expressions(count, 10), rounds.min(5));
+    }
+    for calls in [1, 2, 11] {
+        check_and_tally(&format!("128 gates, {calls}-fold"), &tower(calls), rounds.min(5));
+    }
+}
