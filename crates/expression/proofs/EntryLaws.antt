@@ -9,17 +9,18 @@ use Rattle.value.proofs.Evaluation.{the-type}
 use denote.Enum.Declared.{tagOf}
 use types.Run.{OneOf}
 use native.Mathlib.Omega.{arith}
-use mathlib.Core.Path.{_≡_, refl, sym, ap, _∙_, subst}
+use mathlib.Core.Path.{_≡_, refl, sym, ap, ap₂, _∙_, subst}
 use mathlib.Core.Bool.{Bool, true, false}
 use mathlib.Core.List.{List, [], _∷_}
 use lib.Dec.{T, ltb, ltb→lt}
 use Rattle.value.specs.declared.Value.{Value}
 use Rattle.model.specs.Image.{Expr, Binary, Unary, Binop, Add, Sub, Mul, Div, Pow, Unop, Neg, Sin, Cos, Tan, Exp, Ln, Sqrt, word, expressions, expression, expressionOf, expressionAt}
 use Rattle.model.specs.Check.{entryOk, expressionOk}
-use Rattle.model.specs.Evaluate.{valueOf, evaluate}
+use Rattle.model.specs.Evaluate.{unary, binary, valueOf, evaluate}
 use Rattle.model.proofs.All.{test}
 use Rattle.model.proofs.EvaluateLaws.{operand, node}
 use Rattle.expression.specs.Operands.{Formed}
+use Rattle.expression.specs.Table.{Constant}
 
 module _ (image : List ℕ) (v : ℕ) (op : ℕ → Bool) (p a b : ℕ) where
   -- by its kind an entry has a small first word, or one operand, or two
@@ -135,3 +136,34 @@ module _ (values : List Value) (op : ℕ → Evaluation) (a b : ℕ) where
   pub right-refuses : (kind : ℕ) (x : Value) (r : Evaluation) → 4 ≤ kind → kind < 9 → op a ≡ evaluation.Value x → op b ≡ r → Refused r → r ≡ valueOf values op (expressionOf kind a b)
   unfolding valueOf
   right-refuses kind x r h l d e k = let o = binop kind h l in sym (rw (o .1, d, e) (sym (stays r _ k)))
+
+-- ---- constants
+
+-- an entry of a kind below 3 has no operand, and no parameter goes into it
+leaf-constant : (xs ys : List Value) (f g : ℕ → Evaluation) (a b kind : ℕ) → kind < 3 → valueOf xs f (expressionOf kind a b) ≡ valueOf ys g (expressionOf kind a b)
+unfolding valueOf expressionOf
+leaf-constant xs ys f g a b zero h = refl
+leaf-constant xs ys f g a b (suc zero) h = refl
+leaf-constant xs ys f g a b (suc (suc zero)) h = refl
+leaf-constant xs ys f g a b (suc (suc (suc n))) h = absurd (omega arith)
+
+module _ (image : List ℕ) (e : ℕ) (f : Formed image e) (p kind a b : ℕ) (ep : p ≡ expressionAt image e) (ek : kind ≡ word image p) (ea : a ≡ word image (p + 1)) (eb : b ≡ word image (p + 2)) where
+  alike : (xs ys : List Value) → valueOf xs (evaluate image xs 32) (expressionOf kind a b) ≡ valueOf ys (evaluate image ys 32) (expressionOf kind a b) → evaluate image xs 32 e ≡ evaluate image ys 32 e
+  alike xs ys h = value-is image xs e f p kind a b ep ek ea eb ∙ h ∙ sym (value-is image ys e f p kind a b ep ek ea eb)
+
+  pub constant-leaf : kind < 3 → Constant image e
+  constant-leaf h xs ys = alike xs ys (leaf-constant xs ys (evaluate image xs 32) (evaluate image ys 32) a b kind h)
+
+  -- constants that are operands
+  pub constant-one : 9 ≤ kind → kind < 16 → Constant image a → Constant image e
+  unfolding valueOf
+  constant-one h l c xs ys =
+      let o = unop xs (evaluate image xs 32) a b (kind - 9) (omega arith) in
+      let is : expressionOf kind a b ≡ Unary (o .0) a = sym (ap (λ (n : ℕ). expressionOf n a b) (let same : 9 + (kind - 9) ≡ kind = omega arith in same)) ∙ o .1 in
+      alike xs ys (ap (valueOf xs (evaluate image xs 32)) is ∙ ap (λ (r : Evaluation). andThen r (unary (o .0))) (c xs ys) ∙ sym (ap (valueOf ys (evaluate image ys 32)) is))
+
+  pub constant-two : 4 ≤ kind → kind < 9 → Constant image a → Constant image b → Constant image e
+  unfolding valueOf
+  constant-two h l c d xs ys =
+      let o = binop xs (evaluate image xs 32) a b kind h l in
+      alike xs ys (ap (valueOf xs (evaluate image xs 32)) (o .1) ∙ ap₂ (λ (r s : Evaluation). andThen r λ x. andThen s λ y. binary (o .0) x y) (c xs ys) (d xs ys) ∙ sym (ap (valueOf ys (evaluate image ys 32)) (o .1)))

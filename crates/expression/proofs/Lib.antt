@@ -1,4 +1,5 @@
 pub mod OperandLaws
+pub mod AngleLaws
 pub mod EntryLaws
 pub mod ParameterLaws
 pub mod TableLaws

@@ -13,7 +13,6 @@ use Rattle.writer.specs.Promise.{SoundAngles}
 use Rattle.value.specs.Promise.{EvaluatesTo}
 use Rattle.model.specs.Image.{Binop, Unop, Binary, Unary, expressionOf}
 use Rattle.model.specs.Evaluate.{binary, unary, valueOf, zeroValue}
-use Rattle.model.proofs.ListLaws.{within}
 use Rattle.expression.specs.Operands.{OverTwo, OverOne, OverNone}
 
 pub over-two : (op : Binop) (k : ℕ) → ((a b : ℕ) → expressionOf k a b ≡ Binary op a b) → (kind : ℕ) (x y : Value) (r : Evaluation) → kind ≡ k → EvaluatesTo (binary op x y) r → OverTwo kind x y r
@@ -51,8 +50,6 @@ pub over-int : (values : List Value) (kind a : ℕ) (r : Evaluation) → kind �
 unfolding valueOf expressionOf
 over-int values kind a r e t = record { told = λ operand b. t .is ∙ sym (rw e refl); sound = t .sound }
 
-pub over-variable : (angles : List Value) (kind a : ℕ) (d : Value) → kind ≡ 3 → SoundAngles angles → a < 16 → OverNone angles kind a (evaluation.Value (getD angles a d))
+pub over-variable : (angles : List Value) (kind a : ℕ) (x : Value) → kind ≡ 3 → SoundAngles angles → a < 16 → x ≡ getD angles a zeroValue → OverNone angles kind a (evaluation.Value x)
 unfolding valueOf expressionOf
-over-variable angles kind a d e s h =
-    let same = within angles a d zeroValue (omega (arith, s .full)) in
-    record { told = λ operand b. ap evaluation.Value same ∙ sym (rw e refl); sound = rw same (s .each a h) }
+over-variable angles kind a x e s h q = record { told = λ operand b. ap evaluation.Value q ∙ sym (rw e refl); sound = rw q (s .each a h) }

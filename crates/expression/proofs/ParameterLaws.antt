@@ -9,7 +9,7 @@ use mathlib.Core.Bool.{Bool, true, false}
 use lib.Dec.{eqb}
 use borrow.Author.Tests.{eqb-true, eqb-false}
 use mathlib.Core.List.{List, [], _∷_, _++_, map}
-use lib.ListN.{getD, set, take, length-set, replicate, getD-replicate}
+use lib.ListN.{getD, set, take, length-set}
 use lib.Seq.{take-suc-set, getD-set-same, getD-set-other}
 use lib.Ieee.{Float}
 use Rattle.float.specs.Float.{bits as floatBits}
@@ -36,10 +36,6 @@ use Rattle.expression.proofs.EntryLaws.{Refused}
 
 pub zero-sound : Sound zeroValue
 zero-sound = record { rational-part = zero-lowest; pi-part = zero-lowest }
-
--- an angle sixteen times
-same-sound : (x : Value) → Sound x → SoundAngles (replicate 16 x)
-same-sound x h = record { full = refl; each = λ i l. rw (getD-replicate 16 i x zeroValue l) h }
 
 -- sixteen angles, one of them put in anew
 put-sound : (found : List Value) (i : ℕ) (x : Value) → i < 16 → SoundAngles found → Sound x → SoundAngles (set found i x)
@@ -131,9 +127,9 @@ module _ (image : List ℕ) (angles : List Value) (f : ℕ → ℕ) where
     pub sound : SoundAngles found
     pub front : values 0 i ≡ have (take i found)
 
-  pub front-none : (x : Value) → Sound x → Front 0 (replicate 16 x)
+  pub front-none : (found : List Value) → SoundAngles found → Front 0 found
   unfolding parameterValues range
-  front-none x h = record { sound = same-sound x h; front = refl }
+  front-none found h = record { sound = h; front = refl }
 
   pub front-next : (i e : ℕ) (found : List Value) (r : Evaluation) (x : Value) → i < 16 → Front i found → e ≡ f i → EvaluatesTo (evaluate image angles 32 e) r → r ≡ evaluation.Value x → Front (i + 1) (set found i x)
   front-next i e found r x l k q t h = record {
@@ -141,11 +137,11 @@ module _ (image : List ℕ) (angles : List Value) (f : ℕ → ℕ) where
     front = rw (add-one i) (one-more 0 i i (take i found) x (omega arith) (k .front) (ap (evaluate image angles 32) (sym q) ∙ sym (t .is) ∙ h) ∙ ap have (sym (take-suc-set found i x (omega (arith, k .sound .full)))));
   }
 
-  pub front-done : (i n : ℕ) (found : List Value) (at : Position) → i ≤ n → n ≤ i → Front i found → Given (values 0 n) n at (record { angles = found; ends = linearized.Done at })
+  pub front-done : (i n : ℕ) (found : List Value) (at : Position) → i ≤ n → n ≤ i → Front i found → Given (values 0 n) n at (linearized.Done at) found
   front-done i n found at h l k = record { sound = k .sound; ends = (refl, subst (λ (m : ℕ). values 0 m ≡ have (take m found)) (le-antisymm h l) (k .front)) }
 
   pub front-refuses : (i n e p : ℕ) (found : List Value) (r : Evaluation) (why : LinearizeErrorKind) (at : Position) → i < n → Front i found → e ≡ f i → p ≡ expressionAt image e → EvaluatesTo (evaluate image angles 32 e) r → Refuses r p why
-      → Given (values 0 n) n at (record { angles = found; ends = linearized.Refused (record { kind = why; at = at }) })
+      → Given (values 0 n) n at (linearized.Refused (record { kind = why; at = at })) found
   front-refuses i n e p found r why at l k q qp t h =
       let lacks : (later : Values) → also (valued i) (expressionAt image (f i)) later ≡ lack (h .why) = λ later. sym (rw (sym q, sym (t .is), sym qp) refl) ∙ h .lacks later in
       record { sound = k .sound; ends = (refl, (h .why, refuses-behind 0 i n i (take i found) (h .why) l (omega arith) (k .front) lacks, h .told)) }

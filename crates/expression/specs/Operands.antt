@@ -18,7 +18,6 @@ use Rattle.writer.specs.declared.LinearizeErrorKind.{LinearizeErrorKind}
 use Rattle.writer.specs.declared.Linearized.{Linearized}
 use Rattle.writer.specs.declared.Linearized.the-variants as linearized
 use Rattle.writer.specs.Promise.{SoundAngles, answerTo}
-use Rattle.expression.specs.declared.Evaluated.{Evaluated}
 
 -- an entry of a kind whose operands have the values x and y
 pub record OverTwo (kind : ℕ) (x y : Value) (r : Evaluation) : Type 0 where
@@ -62,6 +61,6 @@ abbrev pub Ends : Values → ℕ → List Value → Position → Linearized → 
 Ends vs n angles at (linearized.Done p) = (p ≡ at) × (vs ≡ have (take n angles))
 Ends vs n angles at (linearized.Refused e) = (e .at ≡ at) × ((x : Refusal) × (vs ≡ lack x) × ((t : List ℕ) → answerTo (e .kind) t ≡ refused t x))
 
-pub record Given (vs : Values) (n : ℕ) (at : Position) (r : Evaluated) : Type 0 where
-  pub sound : SoundAngles (r .angles)
-  pub ends : Ends vs n (r .angles) at (r .ends)
+pub record Given (vs : Values) (n : ℕ) (at : Position) (r : Linearized) (angles : List Value) : Type 0 where
+  pub sound : SoundAngles angles
+  pub ends : Ends vs n angles at r

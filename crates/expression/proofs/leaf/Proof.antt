@@ -1,9 +1,21 @@
 use Prim.Native.Nat.{_<_}
+use mathlib.Core.Path.{_≡_, sym, _∙_}
 use native.Mathlib.Omega.{arith}
+use denote.Ref.{now}
+use Rattle.model.specs.Evaluate.{zeroValue}
+use Rattle.expression.specs.Table.{anglesIn}
+use Rattle.expression.proofs.AngleLaws.{angle-at}
 use Rattle.expression.proofs.OperandLaws.{over-pi, over-real, over-int, over-variable, third}
 use borrow.Author.Needs.{needs}
 use Rattle.expression.proofs.leaf.Statement.{statement}
 use Rattle.expression.proofs.leaf.Tie as tie
+
+-- the last kind is a parameter's
+is-variable : (m : tie.At-match-rest) → m .before .args .kind ≡ 3
+is-variable m = third (m .before .args .kind) (m .before .pre .1) (m .match .rest .0 .0 .1) (m .match .rest .0 .1) (m .match .rest .1)
+
+small : (m : tie.At-match-rest) → m .before .args .a < 16
+small m = m .before .pre .3 (is-variable m)
 
 pi-requires : tie.Need-pi-requires
 pi-requires c κs = search needs
@@ -17,11 +29,11 @@ from-float-requires c κs = search needs
 int-requires : tie.Need-int-requires
 int-requires c κs = search needs
 
-mul-t9 : tie.Need-mul-t9
-mul-t9 c = let h : c .before .args .a < 16 = c .before .pre .3 (third (c .before .args .kind) (c .before .pre .1) (c .match .rest .0 .0 .1) (c .match .rest .0 .1) (c .match .rest .1)) in record { fits = omega arith }
+mul-value-at : tie.Need-mul-value-at
+mul-value-at c = let h = small (c .before) in record { fits = omega arith }
 
-array-copy-out-t12 : tie.Need-array-copy-out-t12
-array-copy-out-t12 c = c .before .pre .3 (third (c .before .args .kind) (c .before .pre .1) (c .match .rest .0 .0 .1) (c .match .rest .0 .1) (c .match .rest .1))
+value-at-requires : tie.Need-value-at-requires
+value-at-requires c κs = let h = small (c .before) in omega arith
 
 returns : tie.Need-returns
 returns c = over-pi _ _ _ _ (c .before .match .keys1) (c .pi .ensures)
@@ -33,9 +45,7 @@ returns-3 : tie.Need-returns-3
 returns-3 c = over-int _ _ _ _ (c .before .match .keys3) (c .int .ensures)
 
 returns-4 : tie.Need-returns-4
-returns-4 c =
-    let k = third (c .before .before .args .kind) (c .before .before .pre .1) (c .before .match .rest .0 .0 .1) (c .before .match .rest .0 .1) (c .before .match .rest .1) in
-    over-variable (c .before .before .args .t1) _ _ _ k (c .before .before .pre .0) (c .before .before .pre .3 k)
+returns-4 c = let s = c .before .before .before in over-variable (anglesIn (now (s .args .variables))) _ _ _ (is-variable (c .before .before)) (s .pre .0) (small (c .before .before)) (c .value-at .ensures ∙ sym (angle-at (now (s .args .variables)) (s .args .a) zeroValue (small (c .before .before))))
 
 pub leaf-spec : {M : Type 1} → statement M
 leaf-spec =
@@ -45,8 +55,8 @@ leaf-spec =
     of-bits-requires
     from-float-requires
     int-requires
-    mul-t9
-    array-copy-out-t12
+    mul-value-at
+    value-at-requires
     returns
     returns-2
     returns-3
