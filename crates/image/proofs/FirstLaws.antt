@@ -1,10 +1,10 @@
 -- The table of first qubits or bits, one register after another.
-use Prim.Native.Nat.{ℕ, _+_, _≤_, _<_}
+use Prim.Native.Nat.{ℕ, _+_, _≤_, _<_, zero-le}
 use native.Mathlib.Omega.{arith}
 use mathlib.Core.Path.{_≡_, ap}
 use mathlib.Core.Logic.{_⊎_, inl, inr}
 use mathlib.Core.List.{List, map}
-use lib.ListN.{length, getD, set}
+use lib.ListN.{length, getD, set, length-set}
 use native.Mathlib.Nat.{eq-or-lt-of-le, zero-add}
 use lib.Seq.{getD-set-same, getD-set-other}
 use Rattle.model.specs.Lists.{range, sum}
@@ -13,10 +13,10 @@ use Rattle.image.specs.Firsts.{Firsts}
 
 module _ (size : ℕ → ℕ) where
   pub firsts-none : (table : List ℕ) → Firsts size 0 table
-  firsts-none table = record { each = λ r h. absurd (omega arith) }
+  firsts-none table = record { fits = zero-le; each = λ r h. absurd (omega arith) }
 
   pub firsts-next : (i total : ℕ) (table : List ℕ) → i < length table → total ≡ sum (map size (range 0 i)) → Firsts size i table → Firsts size (i + 1) (set table i total)
-  firsts-next i total table h t f = record { each = λ r l. go r (eq-or-lt-of-le (omega arith)) }
+  firsts-next i total table h t f = record { fits = omega (arith, length-set table i total); each = λ r l. go r (eq-or-lt-of-le (omega arith)) }
     where
       go : (r : ℕ) → (r ≡ i) ⊎ (r < i) → getD (set table i total) r 0 ≡ sum (map size (range 0 r))
       go r (inl e) = rw (e, getD-set-same table i total 0 h) t

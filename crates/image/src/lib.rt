@@ -180,8 +180,8 @@ fn fits(a: u64, n: u64, m: u64) -> bool
 // ---- registers and gates
 
 // Where each of n registers starts whose sizes stand from a place on: their first qubits, or bits, in one pass.
-pub fn first_of_each(image: &[u64], at: u64, n: u64, firsts: &mut [u64; 4096])
-    requires { ⌜ (at ≤ 16384) × (n ≤ 4096) × (sum (map (λ i. word (now image) (at + i)) (range 0 n)) ≤ 4096) ⌝ }
+pub fn first_of_each(image: &[u64], at: u64, n: u64, firsts: &mut [u64])
+    requires { ⌜ (at ≤ 16384) × (n ≤ length (now firsts)) × (sum (map (λ i. word (now image) (at + i)) (range 0 n)) ≤ 4096) ⌝ }
     ensures { λ r. ⌜ Firsts (λ i. word (now (image .entry)) (at + i)) n (now (firsts .exit)) ⌝ }
 {
     let mut total = 0u64;

@@ -56,6 +56,9 @@ module _ (image : List ℕ) (s : ℕ) where
     pub register-listed : r < 4096
     register-listed = omega (arith, if-facts e f .1, few-classical st, register-is)
 
+    pub register-tabled : r < length bs
+    register-tabled = omega (arith, if-facts e f .1, st .classical .fits, register-is)
+
     pub held-listed : (t < l .all) × PlainFacts image 0 (statement image t)
     held-listed =
         let h : t ≡ word image (statementAt image s + 3) = et ∙ ap (λ (n : ℕ). word image (n + 3)) ep in

@@ -57,8 +57,8 @@ fn write_cut(
 fn visit_leaf(
     image: &[u64],
     l: Layout,
-    qubits: &[u64; 4096],
-    bits: &[u64; 4096],
+    qubits: &[u64],
+    bits: &[u64],
     table: &mut [u64; 16368],
     scope: u64,
     frame: Frame,
@@ -140,8 +140,8 @@ fn at_trace(at: Position, trace: u64) -> Position
 fn visit_statement(
     image: &[u64],
     l: Layout,
-    qubits: &[u64; 4096],
-    bits: &[u64; 4096],
+    qubits: &[u64],
+    bits: &[u64],
     table: &mut [u64; 16368],
     scope: u64,
     frame: Frame,
@@ -177,8 +177,8 @@ fn visit_statement(
 fn visit_gate(
     image: &[u64],
     l: Layout,
-    qubits: &[u64; 4096],
-    bits: &[u64; 4096],
+    qubits: &[u64],
+    bits: &[u64],
     table: &mut [u64; 16368],
     scope: u64,
     frame: Frame,
@@ -221,8 +221,8 @@ fn visit_gate(
 fn visit_rounds(
     image: &[u64],
     l: Layout,
-    qubits: &[u64; 4096],
-    bits: &[u64; 4096],
+    qubits: &[u64],
+    bits: &[u64],
     table: &mut [u64; 16368],
     scope: u64,
     frame: Frame,
@@ -301,8 +301,8 @@ fn visit_rounds(
 fn open_gate(
     image: &[u64],
     l: Layout,
-    qubits: &[u64; 4096],
-    bits: &[u64; 4096],
+    qubits: &[u64],
+    bits: &[u64],
     table: &mut [u64; 16368],
     frame: Frame,
     g: u64,
@@ -353,8 +353,8 @@ fn open_gate(
 fn visit_held(
     image: &[u64],
     l: Layout,
-    qubits: &[u64; 4096],
-    bits: &[u64; 4096],
+    qubits: &[u64],
+    bits: &[u64],
     table: &mut [u64; 16368],
     frame: Frame,
     t: u64,
@@ -389,8 +389,8 @@ fn visit_held(
 fn visit_conditional(
     image: &[u64],
     l: Layout,
-    qubits: &[u64; 4096],
-    bits: &[u64; 4096],
+    qubits: &[u64],
+    bits: &[u64],
     table: &mut [u64; 16368],
     frame: Frame,
     s: u64,
@@ -428,8 +428,8 @@ fn visit_conditional(
 fn visit_main(
     image: &[u64],
     l: Layout,
-    qubits: &[u64; 4096],
-    bits: &[u64; 4096],
+    qubits: &[u64],
+    bits: &[u64],
     table: &mut [u64; 16368],
     frame: Frame,
     s: u64,
@@ -486,8 +486,8 @@ fn main_frame() -> Frame
 fn visit_program(
     image: &[u64],
     l: Layout,
-    qubits: &[u64; 4096],
-    bits: &[u64; 4096],
+    qubits: &[u64],
+    bits: &[u64],
     left: u64,
     out: &mut [u64],
     trace: &mut [u64],
@@ -534,8 +534,27 @@ fn levels(depth: u64) -> u64
     if depth == 0 { 0 } else { depth - 1 }
 }
 
-// Where each register's qubits and bits start, then the main statements.
-fn visit_statements(
+// Where each of a few registers starts, then the main statements.
+fn visit_few_registers(
+    image: &[u64],
+    l: Layout,
+    left: u64,
+    out: &mut [u64],
+    trace: &mut [u64],
+    at: Position,
+) -> Linearized
+    requires { ⌜ Laid (now image) l × Accepted (now image) × Open (now out) at × (256 ≤ length (now trace)) × (at .trace ≡ 0) × (l .quantum ≤ 64) × (l .classical ≤ 64) ⌝ }
+    ensures { λ r. ⌜ Ran (visitBody (now (image .entry)) (opening (now (image .entry)) left) mainFrame) (now (out .entry)) at (now (trace .entry)) r (now (out .exit)) (now (trace .exit)) ⌝ }
+{
+    let mut qubits = [0u64; 64];
+    image::first_of_each(image, 9, l.quantum, &mut qubits);
+    let mut bits = [0u64; 64];
+    image::first_of_each(image, 9 + l.quantum, l.classical, &mut bits);
+    visit_program(image, l, &qubits, &bits, left, out, trace, at)
+}
+
+// The same with tables for as many registers as an image may have.
+fn visit_many_registers(
     image: &[u64],
     l: Layout,
     left: u64,
@@ -551,6 +570,24 @@ fn visit_statements(
     let mut bits = [0u64; 4096];
     image::first_of_each(image, 9 + l.quantum, l.classical, &mut bits);
     visit_program(image, l, &qubits, &bits, left, out, trace, at)
+}
+
+// The main statements, with tables of where registers start: a small program should not pay for clearing the long ones.
+fn visit_statements(
+    image: &[u64],
+    l: Layout,
+    left: u64,
+    out: &mut [u64],
+    trace: &mut [u64],
+    at: Position,
+) -> Linearized
+    requires { ⌜ Laid (now image) l × Accepted (now image) × Open (now out) at × (256 ≤ length (now trace)) × (at .trace ≡ 0) ⌝ }
+    ensures { λ r. ⌜ Ran (visitBody (now (image .entry)) (opening (now (image .entry)) left) mainFrame) (now (out .entry)) at (now (trace .entry)) r (now (out .exit)) (now (trace .exit)) ⌝ }
+{
+    if image::larger(l.quantum, l.classical) <= 64 {
+        return visit_few_registers(image, l, left, out, trace, at);
+    }
+    visit_many_registers(image, l, left, out, trace, at)
 }
 
 // The run of an accepted image: the head comes with the first main statement.

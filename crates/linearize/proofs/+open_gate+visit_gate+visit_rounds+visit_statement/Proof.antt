@@ -124,7 +124,7 @@ open-gate-μ-loop image l qubits bits table₀ frame g left out₀ trace₀ firs
     n - i
 
 open-gate-write-cut-requires : (t : ℕ) → open-gate-lts.Need-write-cut-requires (open-gate-callees t) (open-gate-at t) open-gate.Post open-gate-Inv-loop open-gate-μ-loop
-open-gate-write-cut-requires t c κs = (c .before .before .before .before .before .pre .1 .0 .stands .laid, c .before .before .before .before .before .pre .1 .0 .angles, c .before .before .before .before .before .pre .1 .0 .stands .wide, c .before .before .before .before .before .pre .1 .1, few-arguments (c .before .before .before .before .before .pre .1 .0 .stands) (c .before .before .before .before .before .pre .1 .1), c .before .before .before .before .before .pre .1 .0 .opens)
+open-gate-write-cut-requires t c κs = (c .before .before .before .before .before .before .before .pre .1 .0 .stands .laid, c .before .before .before .before .before .before .before .pre .1 .0 .angles, c .before .before .before .before .before .before .before .pre .1 .0 .stands .wide, c .before .before .before .before .before .before .before .pre .1 .1, few-arguments (c .before .before .before .before .before .before .before .pre .1 .0 .stands) (c .before .before .before .before .before .before .before .pre .1 .1), c .before .before .before .before .before .before .before .pre .1 .0 .opens)
 
 open-gate-same-length : (t : ℕ) → open-gate-lts.Need-same-length (open-gate-callees t) (open-gate-at t) open-gate.Post open-gate-Inv-loop open-gate-μ-loop
 open-gate-same-length t c = c .before .before .write-cut .ensures .plays .same
@@ -133,25 +133,25 @@ open-gate-returns : (t : ℕ) → open-gate-lts.Need-returns (open-gate-callees 
 open-gate-returns t c = wrote-ran _ (wrote-steps (cut-steps _ _ _ _ _ (c .before .before .before .before .if1 .taken)) (c .before .before .write-cut .ensures))
 
 open-gate-add-statements-of : (t : ℕ) → open-gate-lts.Need-add-statements-of (open-gate-callees t) (open-gate-at t) open-gate.Post open-gate-Inv-loop open-gate-μ-loop
-open-gate-add-statements-of t c = record { fits = omega (arith, c .before .before .before .before .pre .1 .1, c .before .before .before .before .pre .1 .0 .stands .laid .gates-is, c .before .before .before .before .pre .1 .0 .stands .laid .few-gates) }
+open-gate-add-statements-of t c = record { fits = omega (arith, c .before .before .before .before .before .before .pre .1 .1, c .before .before .before .before .before .before .pre .1 .0 .stands .laid .gates-is, c .before .before .before .before .before .before .pre .1 .0 .stands .laid .few-gates) }
 
 open-gate-statements-of-requires : (t : ℕ) → open-gate-lts.Need-statements-of-requires (open-gate-callees t) (open-gate-at t) open-gate.Post open-gate-Inv-loop open-gate-μ-loop
-open-gate-statements-of-requires t c κs = (c .before .before .before .before .pre .1 .0 .stands .laid, record { each = c .before .before .before .before .pre .1 .0 .stands .accepted .gateEntry }, omega (arith, c .before .before .before .before .pre .1 .1))
+open-gate-statements-of-requires t c κs = (c .before .before .before .before .before .before .pre .1 .0 .stands .laid, record { each = c .before .before .before .before .before .before .pre .1 .0 .stands .accepted .gateEntry }, omega (arith, c .before .before .before .before .before .before .pre .1 .1))
 
 open-gate-loop-holds : (t : ℕ) → open-gate-lts.Need-loop-holds (open-gate-callees t) (open-gate-at t) open-gate.Post open-gate-Inv-loop open-gate-μ-loop
-open-gate-loop-holds t c = (looped-start _ _ (c .before .before .before .before .before .pre .1 .0 .opens), refl)
+open-gate-loop-holds t c = (looped-start _ _ (c .before .before .before .before .before .before .before .pre .1 .0 .opens), refl)
 
 open-gate-add-visit-statement : (t : ℕ) → open-gate-lts.Need-add-visit-statement (open-gate-callees t) (open-gate-at t) open-gate.Post open-gate-Inv-loop open-gate-μ-loop
-open-gate-add-visit-statement t c = record { fits = omega (arith, c .before .before .before .before .before .before .before .before .pre .1 .1, c .before .before .before .before .before .before .before .before .pre .1 .0 .stands .laid .gates-is, c .before .before .before .before .before .before .before .before .pre .1 .0 .stands .laid .few-gates) }
+open-gate-add-visit-statement t c = record { fits = omega (arith, c .before .before .before .before .before .before .before .before .before .before .pre .1 .1, c .before .before .before .before .before .before .before .before .before .before .pre .1 .0 .stands .laid .gates-is, c .before .before .before .before .before .before .before .before .before .before .pre .1 .0 .stands .laid .few-gates) }
 
 open-gate-add-visit-statement-2 : (t : ℕ) → open-gate-lts.Need-add-visit-statement-2 (open-gate-callees t) (open-gate-at t) open-gate.Post open-gate-Inv-loop open-gate-μ-loop
-open-gate-add-visit-statement-2 t c = record { fits = omega (arith, c .before .loop-test .taken, c .before .before .before .statements-of .ensures .listed, c .before .before .before .before .before .before .before .before .pre .1 .0 .stands .laid .all-is, c .before .before .before .before .before .before .before .before .pre .1 .0 .stands .laid .whole, c .before .before .before .before .before .before .before .before .pre .1 .0 .stands .laid .short) }
+open-gate-add-visit-statement-2 t c = record { fits = omega (arith, c .before .loop-test .taken, c .before .before .before .statements-of .ensures .listed, c .before .before .before .before .before .before .before .before .before .before .pre .1 .0 .stands .laid .all-is, c .before .before .before .before .before .before .before .before .before .before .pre .1 .0 .stands .laid .whole, c .before .before .before .before .before .before .before .before .before .before .pre .1 .0 .stands .laid .short) }
 
 open-gate-sub-visit-statement : (t : ℕ) → open-gate-lts.Need-sub-visit-statement (open-gate-callees t) (open-gate-at t) open-gate.Post open-gate-Inv-loop open-gate-μ-loop
 open-gate-sub-visit-statement t c = omega (arith, c .before .before .before .before .if1 .left)
 
 open-gate-visit-statement-requires : (t : ℕ) → open-gate-lts.Need-visit-statement-requires (open-gate-callees t) (open-gate-at t) open-gate.Post open-gate-Inv-loop open-gate-μ-loop
-open-gate-visit-statement-requires t c κs = (rw (add-one (c .before .before .before .before .before .before .before .before .before .before .args .g)) (omega (arith, c .before .before .before .before .before .before .before .before .before .before .pre .0)), (ready-in-body (ready-on (c .before .before .before .before .before .before .before .before .before .before .pre .1 .0) (c .before .before .before .before .loop .inv .0) (c .before .before .before .before .loop .inv .1)), omega (arith, c .before .before .before .loop-test .taken, c .before .before .before .before .before .statements-of .ensures .listed), facts-in-body (c .before .before .before .before .before .before .before .before .before .before .pre .1 .0) (c .before .before .before .before .before .before .before .before .before .before .pre .1 .1) (c .before .before .before .before .before .statements-of .ensures) (c .before .before .before .loop-test .taken)))
+open-gate-visit-statement-requires t c κs = (rw (add-one (c .before .before .before .before .before .before .before .before .before .before .before .before .args .g)) (omega (arith, c .before .before .before .before .before .before .before .before .before .before .before .before .pre .0)), (ready-in-body (ready-on (c .before .before .before .before .before .before .before .before .before .before .before .before .pre .1 .0) (c .before .before .before .before .loop .inv .0) (c .before .before .before .before .loop .inv .1)), omega (arith, c .before .before .before .loop-test .taken, c .before .before .before .before .before .statements-of .ensures .listed), facts-in-body (c .before .before .before .before .before .before .before .before .before .before .before .before .pre .1 .0) (c .before .before .before .before .before .before .before .before .before .before .before .before .pre .1 .1) (c .before .before .before .before .before .statements-of .ensures) (c .before .before .before .loop-test .taken)))
 
 open-gate-enum-known-next : (t : ℕ) → open-gate-lts.Need-enum-known-next (open-gate-callees t) (open-gate-at t) open-gate.Post open-gate-Inv-loop open-gate-μ-loop
 open-gate-enum-known-next t c = search needs
@@ -160,7 +160,7 @@ open-gate-enum-known-e : (t : ℕ) → open-gate-lts.Need-enum-known-e (open-gat
 open-gate-enum-known-e t c = search needs
 
 open-gate-returns-2 : (t : ℕ) → open-gate-lts.Need-returns-2 (open-gate-callees t) (open-gate-at t) open-gate.Post open-gate-Inv-loop open-gate-μ-loop
-open-gate-returns-2 t c = let f = facts-in-body (c .before .before .before .before .before .before .before .before .before .before .before .before .before .before .before .before .before .before .pre .1 .0) (c .before .before .before .before .before .before .before .before .before .before .before .before .before .before .before .before .before .before .pre .1 .1) (c .before .before .before .before .before .before .before .before .before .before .before .before .before .statements-of .ensures) (c .before .before .before .before .before .before .before .before .before .before .before .loop-test .taken) in let w = ran-from (c .before .before .before .before .before .before .before .before .before .before .before .before .loop .inv .1) (ran-stop _ _ (c .before .before .before .before .before .before .before .before .before .before .before .before .loop .inv .0) (c .before .before .before .before .before .before .before .before .before .before .before .loop-test .taken) (step-in-body _ _ _ _ _ _ _ f) (c .before .before .before .before .before .before .before .visit-statement .ensures) (c .before .e .given .1) refl) in ran-steps (open-steps _ _ _ _ _ _ _ (c .before .before .before .before .before .before .before .before .before .before .before .before .before .before .if1 .left) (holds-body _ _ (c .before .before .before .before .before .before .before .before .before .before .before .before .before .statements-of .ensures))) (ran-enter [] _ w)
+open-gate-returns-2 t c = let f = facts-in-body (c .before .before .before .before .before .before .before .before .before .before .before .before .before .before .before .before .before .before .before .before .pre .1 .0) (c .before .before .before .before .before .before .before .before .before .before .before .before .before .before .before .before .before .before .before .before .pre .1 .1) (c .before .before .before .before .before .before .before .before .before .before .before .before .before .statements-of .ensures) (c .before .before .before .before .before .before .before .before .before .before .before .loop-test .taken) in let w = ran-from (c .before .before .before .before .before .before .before .before .before .before .before .before .loop .inv .1) (ran-stop _ _ (c .before .before .before .before .before .before .before .before .before .before .before .before .loop .inv .0) (c .before .before .before .before .before .before .before .before .before .before .before .loop-test .taken) (step-in-body _ _ _ _ _ _ _ f) (c .before .before .before .before .before .before .before .visit-statement .ensures) (c .before .e .given .1) refl) in ran-steps (open-steps _ _ _ _ _ _ _ (c .before .before .before .before .before .before .before .before .before .before .before .before .before .before .if1 .left) (holds-body _ _ (c .before .before .before .before .before .before .before .before .before .before .before .before .before .statements-of .ensures))) (ran-enter [] _ w)
 
 open-gate-same-length-3 : (t : ℕ) → open-gate-lts.Need-same-length-3 (open-gate-callees t) (open-gate-at t) open-gate.Post open-gate-Inv-loop open-gate-μ-loop
 open-gate-same-length-3 t c = ran-lengths (open-gate-returns-2 t c) .1
@@ -169,13 +169,13 @@ open-gate-same-length-2 : (t : ℕ) → open-gate-lts.Need-same-length-2 (open-g
 open-gate-same-length-2 t c = ran-lengths (open-gate-returns-2 t c) .0
 
 open-gate-add-i : (t : ℕ) → open-gate-lts.Need-add-i (open-gate-callees t) (open-gate-at t) open-gate.Post open-gate-Inv-loop open-gate-μ-loop
-open-gate-add-i t c = record { fits = omega (arith, c .before .before .before .before .before .before .before .before .before .before .before .loop-test .taken, c .before .before .before .before .before .before .before .before .before .before .before .before .before .statements-of .ensures .listed, c .before .before .before .before .before .before .before .before .before .before .before .before .before .before .before .before .before .before .pre .1 .0 .stands .laid .all-is, c .before .before .before .before .before .before .before .before .before .before .before .before .before .before .before .before .before .before .pre .1 .0 .stands .laid .whole, c .before .before .before .before .before .before .before .before .before .before .before .before .before .before .before .before .before .before .pre .1 .0 .stands .laid .short) }
+open-gate-add-i t c = record { fits = omega (arith, c .before .before .before .before .before .before .before .before .before .before .before .loop-test .taken, c .before .before .before .before .before .before .before .before .before .before .before .before .before .statements-of .ensures .listed, c .before .before .before .before .before .before .before .before .before .before .before .before .before .before .before .before .before .before .before .before .pre .1 .0 .stands .laid .all-is, c .before .before .before .before .before .before .before .before .before .before .before .before .before .before .before .before .before .before .before .before .pre .1 .0 .stands .laid .whole, c .before .before .before .before .before .before .before .before .before .before .before .before .before .before .before .before .before .before .before .before .pre .1 .0 .stands .laid .short) }
 
 open-gate-loop-less : (t : ℕ) → open-gate-lts.Need-loop-less (open-gate-callees t) (open-gate-at t) open-gate.Post open-gate-Inv-loop open-gate-μ-loop
 open-gate-loop-less t c = omega (arith, c .before .before .before .before .before .before .before .before .before .before .before .loop-test .taken)
 
 open-gate-loop-again : (t : ℕ) → open-gate-lts.Need-loop-again (open-gate-callees t) (open-gate-at t) open-gate.Post open-gate-Inv-loop open-gate-μ-loop
-open-gate-loop-again t c = let f = facts-in-body (c .before .before .before .before .before .before .before .before .before .before .before .before .before .before .before .before .before .before .pre .1 .0) (c .before .before .before .before .before .before .before .before .before .before .before .before .before .before .before .before .before .before .pre .1 .1) (c .before .before .before .before .before .before .before .before .before .before .before .before .before .statements-of .ensures) (c .before .before .before .before .before .before .before .before .before .before .before .loop-test .taken) in let w = ran-next _ _ (c .before .before .before .before .before .before .before .before .before .before .before .before .loop .inv .0) (c .before .before .before .before .before .before .before .before .before .before .before .loop-test .taken) (step-in-body _ _ _ _ _ _ _ f) (c .before .before .before .before .before .before .before .visit-statement .ensures) (c .before .next .given .1) in (w .0, w .1 ∙ c .before .before .before .before .before .before .before .before .before .before .before .before .loop .inv .1)
+open-gate-loop-again t c = let f = facts-in-body (c .before .before .before .before .before .before .before .before .before .before .before .before .before .before .before .before .before .before .before .before .pre .1 .0) (c .before .before .before .before .before .before .before .before .before .before .before .before .before .before .before .before .before .before .before .before .pre .1 .1) (c .before .before .before .before .before .before .before .before .before .before .before .before .before .statements-of .ensures) (c .before .before .before .before .before .before .before .before .before .before .before .loop-test .taken) in let w = ran-next _ _ (c .before .before .before .before .before .before .before .before .before .before .before .before .loop .inv .0) (c .before .before .before .before .before .before .before .before .before .before .before .loop-test .taken) (step-in-body _ _ _ _ _ _ _ f) (c .before .before .before .before .before .before .before .visit-statement .ensures) (c .before .next .given .1) in (w .0, w .1 ∙ c .before .before .before .before .before .before .before .before .before .before .before .before .loop .inv .1)
 
 open-gate-same-length-4 : (t : ℕ) → open-gate-lts.Need-same-length-4 (open-gate-callees t) (open-gate-at t) open-gate.Post open-gate-Inv-loop open-gate-μ-loop
 open-gate-same-length-4 t c = looped-length _ _ (c .before .loop .inv .0)
@@ -187,16 +187,16 @@ open-gate-returns-3 : (t : ℕ) → open-gate-lts.Need-returns-3 (open-gate-call
 open-gate-returns-3 t c = ran-steps (open-steps _ _ _ _ _ _ _ (c .before .before .before .if1 .left) (holds-body _ _ (c .before .before .statements-of .ensures))) (ran-enter [] _ (ran-still (c .before .loop .inv .1) (ran-done _ _ (c .before .loop .inv .0) (c .loop-test .left) refl)))
 
 visit-gate-call-at-requires : (t : ℕ) → visit-gate-lts.Need-call-at-requires (visit-gate-callees t) (visit-gate-at t) visit-gate.Post
-visit-gate-call-at-requires t c κs = let k = known-gate (c .before .before .before .pre .1 .0 .stands) _ (c .before .before .before .pre .1 .3) (c .before .before .before .pre .1 .2) in (c .before .before .before .pre .1 .0 .stands .laid, c .before .before .before .pre .1 .1, k .0, k .1)
+visit-gate-call-at-requires t c κs = let k = known-gate (c .before .before .before .before .before .pre .1 .0 .stands) _ (c .before .before .before .before .before .pre .1 .3) (c .before .before .before .before .before .pre .1 .2) in (c .before .before .before .before .before .pre .1 .0 .stands .laid, c .before .before .before .before .before .pre .1 .1, k .0, k .1)
 
 visit-gate-parameters-requires : (t : ℕ) → visit-gate-lts.Need-parameters-requires (visit-gate-callees t) (visit-gate-at t) visit-gate.Post
-visit-gate-parameters-requires t c κs = (c .before .before .before .before .before .before .pre .1 .0 .stands .laid, c .before .before .before .before .before .before .pre .1 .0 .angles, named _ _ (c .before .before .before .before .before .before .args .frame .angles) (named-listed (c .before .before .before .before .before .before .pre .1 .0 .stands) _ (c .before .before .before .before .before .before .pre .1 .3) (c .before .before .before .before .before .before .pre .1 .2) (c .before .before .call-at .ensures)))
+visit-gate-parameters-requires t c κs = (c .before .before .before .before .before .before .before .before .pre .1 .0 .stands .laid, c .before .before .before .before .before .before .before .before .pre .1 .0 .angles, named _ _ (c .before .before .before .before .before .before .before .before .args .frame .angles) (named-listed (c .before .before .before .before .before .before .before .before .pre .1 .0 .stands) _ (c .before .before .before .before .before .before .before .before .pre .1 .3) (c .before .before .before .before .before .before .before .before .pre .1 .2) (c .before .before .call-at .ensures)))
 
 visit-gate-enum-known-ends : (t : ℕ) → visit-gate-lts.Need-enum-known-ends (visit-gate-callees t) (visit-gate-at t) visit-gate.Post
 visit-gate-enum-known-ends t c = search needs
 
 visit-gate-visit-rounds-requires : (t : ℕ) → visit-gate-lts.Need-visit-rounds-requires (visit-gate-callees t) (visit-gate-at t) visit-gate.Post
-visit-gate-visit-rounds-requires t c κs = let g = rw (c .before .before .before .before .ends .given .1) at (c .before .before .before .before .before .before .before .parameters .ensures .ends) in (omega (arith, c .before .before .before .before .before .before .before .before .before .before .before .before .before .before .pre .0), (rw (g .0) (c .before .before .before .before .before .before .before .before .before .before .before .before .before .before .pre .1 .0), calls (c .before .before .before .before .before .before .before .before .before .before .before .before .before .before .pre .1 .0 .stands) _ (c .before .before .before .before .before .before .before .before .before .before .before .before .before .before .pre .1 .3) (c .before .before .before .before .before .before .before .before .before .before .before .before .before .before .pre .1 .2) (c .before .before .before .before .before .before .before .before .before .before .call-at .ensures), c .before .before .before .before .before .before .before .parameters .ensures .sound))
+visit-gate-visit-rounds-requires t c κs = let g = rw (c .before .before .before .before .ends .given .1) at (c .before .before .before .before .before .before .before .parameters .ensures .ends) in (omega (arith, c .before .before .before .before .before .before .before .before .before .before .before .before .before .before .before .before .pre .0), (rw (g .0) (c .before .before .before .before .before .before .before .before .before .before .before .before .before .before .before .before .pre .1 .0), calls (c .before .before .before .before .before .before .before .before .before .before .before .before .before .before .before .before .pre .1 .0 .stands) _ (c .before .before .before .before .before .before .before .before .before .before .before .before .before .before .before .before .pre .1 .3) (c .before .before .before .before .before .before .before .before .before .before .before .before .before .before .before .before .pre .1 .2) (c .before .before .before .before .before .before .before .before .before .before .call-at .ensures), c .before .before .before .before .before .before .before .parameters .ensures .sound))
 
 visit-gate-enum-known-ends-2 : (t : ℕ) → visit-gate-lts.Need-enum-known-ends-2 (visit-gate-callees t) (visit-gate-at t) visit-gate.Post
 visit-gate-enum-known-ends-2 t c = search needs
@@ -208,10 +208,10 @@ visit-gate-same-length-2 : (t : ℕ) → visit-gate-lts.Need-same-length-2 (visi
 visit-gate-same-length-2 t c = ran-lengths (c .before .before .before .before .visit-rounds .ensures) .1
 
 visit-gate-returns : (t : ℕ) → visit-gate-lts.Need-returns (visit-gate-callees t) (visit-gate-at t) visit-gate.Post
-visit-gate-returns t c = let g = rw (c .before .before .before .before .before .before .before .before .before .ends .given .1) at (c .before .before .before .before .before .before .before .before .before .before .before .before .parameters .ensures .ends) in rw (gate-given (c .before .before .before .before .before .before .before .before .before .before .before .before .before .before .before .before .before .before .before .pre .1 .0 .stands) _ (c .before .before .before .before .before .before .before .before .before .before .before .before .before .before .before .before .before .before .before .pre .1 .3) (c .before .before .before .before .before .before .before .before .before .before .before .before .before .before .before .call-at .ensures) _ _ (named-listed (c .before .before .before .before .before .before .before .before .before .before .before .before .before .before .before .before .before .before .before .pre .1 .0 .stands) _ (c .before .before .before .before .before .before .before .before .before .before .before .before .before .before .before .before .before .before .before .pre .1 .3) (c .before .before .before .before .before .before .before .before .before .before .before .before .before .before .before .before .before .before .before .pre .1 .2) (c .before .before .before .before .before .before .before .before .before .before .before .before .before .before .before .call-at .ensures)) (g .1)) (ran-steps (call-frame _ _ _ (c .before .before .before .before .before .before .before .before .before .before .before .before .before .before .before .before .before .before .before .args .frame .angles) _ _ (c .before .before .before .before .before .before .before .before .before .before .before .before .before .before .before .call-at .result) _) (rw (g .0) at (c .before .before .before .before .visit-rounds .ensures)))
+visit-gate-returns t c = let g = rw (c .before .before .before .before .before .before .before .before .before .ends .given .1) at (c .before .before .before .before .before .before .before .before .before .before .before .before .parameters .ensures .ends) in rw (gate-given (c .before .before .before .before .before .before .before .before .before .before .before .before .before .before .before .before .before .before .before .before .before .pre .1 .0 .stands) _ (c .before .before .before .before .before .before .before .before .before .before .before .before .before .before .before .before .before .before .before .before .before .pre .1 .3) (c .before .before .before .before .before .before .before .before .before .before .before .before .before .before .before .call-at .ensures) _ _ (named-listed (c .before .before .before .before .before .before .before .before .before .before .before .before .before .before .before .before .before .before .before .before .before .pre .1 .0 .stands) _ (c .before .before .before .before .before .before .before .before .before .before .before .before .before .before .before .before .before .before .before .before .before .pre .1 .3) (c .before .before .before .before .before .before .before .before .before .before .before .before .before .before .before .before .before .before .before .before .before .pre .1 .2) (c .before .before .before .before .before .before .before .before .before .before .before .before .before .before .before .call-at .ensures)) (g .1)) (ran-steps (call-frame _ _ _ (c .before .before .before .before .before .before .before .before .before .before .before .before .before .before .before .before .before .before .before .before .before .args .frame .angles) _ _ (c .before .before .before .before .before .before .before .before .before .before .before .before .before .before .before .call-at .result) _) (rw (g .0) at (c .before .before .before .before .visit-rounds .ensures)))
 
 visit-gate-returns-2 : (t : ℕ) → visit-gate-lts.Need-returns-2 (visit-gate-callees t) (visit-gate-at t) visit-gate.Post
-visit-gate-returns-2 t c = let g = rw (c .before .ends2 .given .1) at (c .before .before .before .before .parameters .ensures .ends) in wrote-ran _ (rw (gate-refused (c .before .before .before .before .before .before .before .before .before .before .before .pre .1 .0 .stands) _ (c .before .before .before .before .before .before .before .before .before .before .before .pre .1 .3) (c .before .before .before .before .before .before .before .call-at .ensures) _ _ (named-listed (c .before .before .before .before .before .before .before .before .before .before .before .pre .1 .0 .stands) _ (c .before .before .before .before .before .before .before .before .before .before .before .pre .1 .3) (c .before .before .before .before .before .before .before .before .before .before .before .pre .1 .2) (c .before .before .before .before .before .before .before .call-at .ensures)) (g .1 .1)) (refuses _ _ (g .0) (g .1 .2) (c .before .before .before .before .before .before .before .before .before .before .before .pre .1 .0 .opens)))
+visit-gate-returns-2 t c = let g = rw (c .before .ends2 .given .1) at (c .before .before .before .before .parameters .ensures .ends) in wrote-ran _ (rw (gate-refused (c .before .before .before .before .before .before .before .before .before .before .before .before .before .pre .1 .0 .stands) _ (c .before .before .before .before .before .before .before .before .before .before .before .before .before .pre .1 .3) (c .before .before .before .before .before .before .before .call-at .ensures) _ _ (named-listed (c .before .before .before .before .before .before .before .before .before .before .before .before .before .pre .1 .0 .stands) _ (c .before .before .before .before .before .before .before .before .before .before .before .before .before .pre .1 .3) (c .before .before .before .before .before .before .before .before .before .before .before .before .before .pre .1 .2) (c .before .before .before .before .before .before .before .call-at .ensures)) (g .1 .1)) (refuses _ _ (g .0) (g .1 .2) (c .before .before .before .before .before .before .before .before .before .before .before .before .before .pre .1 .0 .opens)))
 
 abbrev visit-rounds-Inv-loop : visit-rounds-lts.InvT-loop
 visit-rounds-Inv-loop image l qubits bits table₀ scope call s angles left out₀ trace₀ at formals n now₀ i₀ table out trace now i =
@@ -222,31 +222,31 @@ visit-rounds-μ-loop image l qubits bits table₀ scope call s angles left out�
     n - i
 
 visit-rounds-visit-opaque-requires : (t : ℕ) → visit-rounds-lts.Need-visit-opaque-requires (visit-rounds-callees t) (visit-rounds-at t) visit-rounds.Post visit-rounds-Inv-loop visit-rounds-μ-loop
-visit-rounds-visit-opaque-requires t c κs = (c .before .before .before .before .before .before .before .before .pre .1 .0 .stands, c .before .before .before .before .before .before .before .before .pre .1 .2, c .before .before .before .before .before .before .before .before .pre .1 .1 .few, c .before .before .before .before .before .before .before .before .pre .1 .1 .arguments-fit, c .before .before .before .before .before .before .before .before .pre .1 .0 .opens)
+visit-rounds-visit-opaque-requires t c κs = (c .before .before .before .before .before .before .before .before .before .before .pre .1 .0 .stands, c .before .before .before .before .before .before .before .before .before .before .pre .1 .2, c .before .before .before .before .before .before .before .before .before .before .pre .1 .1 .few, c .before .before .before .before .before .before .before .before .before .before .pre .1 .1 .arguments-fit, c .before .before .before .before .before .before .before .before .before .before .pre .1 .0 .opens)
 
 visit-rounds-same-length : (t : ℕ) → visit-rounds-lts.Need-same-length (visit-rounds-callees t) (visit-rounds-at t) visit-rounds.Post visit-rounds-Inv-loop visit-rounds-μ-loop
 visit-rounds-same-length t c = c .before .before .visit-opaque .ensures .plays .same
 
 visit-rounds-returns : (t : ℕ) → visit-rounds-lts.Need-returns (visit-rounds-callees t) (visit-rounds-at t) visit-rounds.Post visit-rounds-Inv-loop visit-rounds-μ-loop
-visit-rounds-returns t c = wrote-ran _ (wrote-steps (opaque-rounds (c .before .before .before .before .before .before .before .before .before .before .before .pre .1 .0 .stands) (c .before .before .before .before .before .before .before .before .before .before .before .pre .1 .1) _ [] _ (c .before .before .before .before .before .if1 .taken)) (c .before .before .visit-opaque .ensures))
+visit-rounds-returns t c = wrote-ran _ (wrote-steps (opaque-rounds (c .before .before .before .before .before .before .before .before .before .before .before .before .before .pre .1 .0 .stands) (c .before .before .before .before .before .before .before .before .before .before .before .before .before .pre .1 .1) _ [] _ (c .before .before .before .before .before .if1 .taken)) (c .before .before .visit-opaque .ensures))
 
 visit-rounds-rounds-of-requires : (t : ℕ) → visit-rounds-lts.Need-rounds-of-requires (visit-rounds-callees t) (visit-rounds-at t) visit-rounds.Post visit-rounds-Inv-loop visit-rounds-μ-loop
-visit-rounds-rounds-of-requires t c κs = (c .before .before .before .before .before .before .pre .1 .0 .stands .laid, omega (arith, c .before .before .before .before .before .before .pre .1 .1 .arguments-fit .listed, c .before .before .before .before .before .before .pre .1 .0 .stands .laid .arguments-is, c .before .before .before .before .before .before .pre .1 .0 .stands .laid .whole, c .before .before .before .before .before .before .pre .1 .0 .stands .laid .short))
+visit-rounds-rounds-of-requires t c κs = (c .before .before .before .before .before .before .before .before .pre .1 .0 .stands .laid, omega (arith, c .before .before .before .before .before .before .before .before .pre .1 .1 .arguments-fit .listed, c .before .before .before .before .before .before .before .before .pre .1 .0 .stands .laid .arguments-is, c .before .before .before .before .before .before .before .before .pre .1 .0 .stands .laid .whole, c .before .before .before .before .before .before .before .before .pre .1 .0 .stands .laid .short))
 
 visit-rounds-loop-holds : (t : ℕ) → visit-rounds-lts.Need-loop-holds (visit-rounds-callees t) (visit-rounds-at t) visit-rounds.Post visit-rounds-Inv-loop visit-rounds-μ-loop
-visit-rounds-loop-holds t c = (looped-start _ _ (c .before .before .before .before .before .before .before .pre .1 .0 .opens), refl)
+visit-rounds-loop-holds t c = (looped-start _ _ (c .before .before .before .before .before .before .before .before .before .pre .1 .0 .opens), refl)
 
 visit-rounds-qubits-in-requires : (t : ℕ) → visit-rounds-lts.Need-qubits-in-requires (visit-rounds-callees t) (visit-rounds-at t) visit-rounds.Post visit-rounds-Inv-loop visit-rounds-μ-loop
-visit-rounds-qubits-in-requires t c κs = (c .before .before .before .before .before .before .before .before .before .before .pre .1 .0 .stands, c .before .before .before .before .before .before .before .before .before .before .pre .1 .1 .arguments-fit, subst (λ (m : ℕ). c .before .before .loop .i < m) (c .before .before .before .rounds-of .ensures) (c .before .loop-test .taken))
+visit-rounds-qubits-in-requires t c κs = (c .before .before .before .before .before .before .before .before .before .before .before .before .pre .1 .0 .stands, c .before .before .before .before .before .before .before .before .before .before .before .before .pre .1 .1 .arguments-fit, subst (λ (m : ℕ). c .before .before .loop .i < m) (c .before .before .before .rounds-of .ensures) (c .before .loop-test .taken))
 
 visit-rounds-add-at-trace : (t : ℕ) → visit-rounds-lts.Need-add-at-trace (visit-rounds-callees t) (visit-rounds-at t) visit-rounds.Post visit-rounds-Inv-loop visit-rounds-μ-loop
-visit-rounds-add-at-trace t c = record { fits = omega (arith, c .before .before .before .before .before .before .before .before .before .before .before .before .before .before .before .pre .1 .0 .deep) }
+visit-rounds-add-at-trace t c = record { fits = omega (arith, c .before .before .before .before .before .before .before .before .before .before .before .before .before .before .before .before .before .pre .1 .0 .deep) }
 
 visit-rounds-at-trace-requires : (t : ℕ) → visit-rounds-lts.Need-at-trace-requires (visit-rounds-callees t) (visit-rounds-at t) visit-rounds.Post visit-rounds-Inv-loop visit-rounds-μ-loop
 visit-rounds-at-trace-requires t c κs = tt
 
 visit-rounds-open-gate-requires : (t : ℕ) → visit-rounds-lts.Need-open-gate-requires (visit-rounds-callees t) (visit-rounds-at t) visit-rounds.Post visit-rounds-Inv-loop visit-rounds-μ-loop
-visit-rounds-open-gate-requires t c κs = (omega (arith, c .before .before .before .before .before .before .before .before .before .before .before .before .before .before .before .before .pre .0, c .before .before .before .before .before .before .before .before .before .before .before .before .before .before .before .before .pre .1 .1 .downward), (ready-opened (c .before .before .before .before .before .before .before .before .before .before .before .before .before .before .before .before .pre .1 .0) (c .before .before .before .before .before .before .before .before .before .before .before .before .before .before .before .before .pre .1 .1) (c .before .before .before .before .before .before .before .before .before .before .before .before .before .before .before .before .pre .1 .2) (c .before .before .before .before .before .qubits-in .ensures) (c .before .before .before .before .before .before .before .before .before .rounds-of .ensures) (c .before .before .before .before .before .before .before .loop-test .taken) (c .before .before .before .before .before .before .before .before .loop .inv .0) (c .before .before .before .before .before .before .before .before .loop .inv .1) (c .at-trace .ensures), c .before .before .before .before .before .before .before .before .before .before .before .before .before .before .before .before .pre .1 .1 .known))
+visit-rounds-open-gate-requires t c κs = (omega (arith, c .before .before .before .before .before .before .before .before .before .before .before .before .before .before .before .before .before .before .pre .0, c .before .before .before .before .before .before .before .before .before .before .before .before .before .before .before .before .before .before .pre .1 .1 .downward), (ready-opened (c .before .before .before .before .before .before .before .before .before .before .before .before .before .before .before .before .before .before .pre .1 .0) (c .before .before .before .before .before .before .before .before .before .before .before .before .before .before .before .before .before .before .pre .1 .1) (c .before .before .before .before .before .before .before .before .before .before .before .before .before .before .before .before .before .before .pre .1 .2) (c .before .before .before .before .before .qubits-in .ensures) (c .before .before .before .before .before .before .before .before .before .rounds-of .ensures) (c .before .before .before .before .before .before .before .loop-test .taken) (c .before .before .before .before .before .before .before .before .loop .inv .0) (c .before .before .before .before .before .before .before .before .loop .inv .1) (c .at-trace .ensures), c .before .before .before .before .before .before .before .before .before .before .before .before .before .before .before .before .before .before .pre .1 .1 .known))
 
 visit-rounds-enum-known-next : (t : ℕ) → visit-rounds-lts.Need-enum-known-next (visit-rounds-callees t) (visit-rounds-at t) visit-rounds.Post visit-rounds-Inv-loop visit-rounds-μ-loop
 visit-rounds-enum-known-next t c = search needs
@@ -258,10 +258,10 @@ visit-rounds-enum-known-e : (t : ℕ) → visit-rounds-lts.Need-enum-known-e (vi
 visit-rounds-enum-known-e t c = search needs
 
 visit-rounds-mark-call-requires : (t : ℕ) → visit-rounds-lts.Need-mark-call-requires (visit-rounds-callees t) (visit-rounds-at t) visit-rounds.Post visit-rounds-Inv-loop visit-rounds-μ-loop
-visit-rounds-mark-call-requires t c κs = omega (arith, ran-lengths (c .before .before .before .before .before .before .before .before .open-gate .ensures) .1, ap length (c .before .before .before .before .before .before .before .before .before .before .before .before .before .before .before .before .before .loop .inv .1), c .before .before .before .before .before .before .before .before .before .before .before .before .before .before .before .before .before .before .before .before .before .before .before .before .before .pre .1 .0 .room, c .before .before .before .before .before .before .before .before .before .before .before .before .before .before .before .before .before .before .before .before .before .before .before .before .before .pre .1 .0 .deep, c .before .before .before .before .before .before .before .before .before .before .before .before .before .before .before .before .before .before .before .before .before .before .before .before .before .pre .1 .1 .downward)
+visit-rounds-mark-call-requires t c κs = omega (arith, ran-lengths (c .before .before .before .before .before .before .before .before .open-gate .ensures) .1, ap length (c .before .before .before .before .before .before .before .before .before .before .before .before .before .before .before .before .before .loop .inv .1), c .before .before .before .before .before .before .before .before .before .before .before .before .before .before .before .before .before .before .before .before .before .before .before .before .before .before .before .pre .1 .0 .room, c .before .before .before .before .before .before .before .before .before .before .before .before .before .before .before .before .before .before .before .before .before .before .before .before .before .before .before .pre .1 .0 .deep, c .before .before .before .before .before .before .before .before .before .before .before .before .before .before .before .before .before .before .before .before .before .before .before .before .before .before .before .pre .1 .1 .downward)
 
 visit-rounds-returns-2 : (t : ℕ) → visit-rounds-lts.Need-returns-2 (visit-rounds-callees t) (visit-rounds-at t) visit-rounds.Post visit-rounds-Inv-loop visit-rounds-μ-loop
-visit-rounds-returns-2 t c = ran-from (c .before .before .before .before .before .before .before .before .before .before .before .before .before .before .before .before .before .before .before .before .loop .inv .1) (ran-stop _ _ (c .before .before .before .before .before .before .before .before .before .before .before .before .before .before .before .before .before .before .before .before .loop .inv .0) (c .before .before .before .before .before .before .before .before .before .before .before .before .before .before .before .before .before .before .before .loop-test .taken) (body-round (c .before .before .before .before .before .before .before .before .before .before .before .before .before .before .before .before .before .before .before .before .before .before .before .before .before .before .before .before .pre .1 .0 .stands) (c .before .before .before .before .before .before .before .before .before .before .before .before .before .before .before .before .before .before .before .before .before .before .before .before .before .before .before .before .pre .1 .1) (c .before .before .before .before .before .before .before .before .before .before .before .before .before .before .before .before .before .qubits-in .ensures) _ [] _ (c .before .before .before .before .before .before .before .before .before .before .before .before .before .before .before .before .before .before .before .before .before .before .if1 .left)) (ran-refused (c .before .before .before .before .before .before .before .before .before .before .before .open-gate .ensures) (c .before .before .before .before .before .before .before .before .before .before .before .before .at-trace .ensures) (sym (c .before .before .before .before .before .before .before .before .before .before .before .before .before .before .before .before .before .before .before .before .loop .inv .0 .level)) _ _ (c .before .before .before .before .before .e .given .1) (c .before .before .mark-call .ensures)) refl (c .before .before .before .before .before .before .before .before .before .before .before .before .before .before .before .before .before .before .before .before .before .rounds-of .ensures))
+visit-rounds-returns-2 t c = ran-from (c .before .before .before .before .before .before .before .before .before .before .before .before .before .before .before .before .before .before .before .before .loop .inv .1) (ran-stop _ _ (c .before .before .before .before .before .before .before .before .before .before .before .before .before .before .before .before .before .before .before .before .loop .inv .0) (c .before .before .before .before .before .before .before .before .before .before .before .before .before .before .before .before .before .before .before .loop-test .taken) (body-round (c .before .before .before .before .before .before .before .before .before .before .before .before .before .before .before .before .before .before .before .before .before .before .before .before .before .before .before .before .before .before .pre .1 .0 .stands) (c .before .before .before .before .before .before .before .before .before .before .before .before .before .before .before .before .before .before .before .before .before .before .before .before .before .before .before .before .before .before .pre .1 .1) (c .before .before .before .before .before .before .before .before .before .before .before .before .before .before .before .before .before .qubits-in .ensures) _ [] _ (c .before .before .before .before .before .before .before .before .before .before .before .before .before .before .before .before .before .before .before .before .before .before .if1 .left)) (ran-refused (c .before .before .before .before .before .before .before .before .before .before .before .open-gate .ensures) (c .before .before .before .before .before .before .before .before .before .before .before .before .at-trace .ensures) (sym (c .before .before .before .before .before .before .before .before .before .before .before .before .before .before .before .before .before .before .before .before .loop .inv .0 .level)) _ _ (c .before .before .before .before .before .e .given .1) (c .before .before .mark-call .ensures)) refl (c .before .before .before .before .before .before .before .before .before .before .before .before .before .before .before .before .before .before .before .before .before .rounds-of .ensures))
 
 visit-rounds-same-length-3 : (t : ℕ) → visit-rounds-lts.Need-same-length-3 (visit-rounds-callees t) (visit-rounds-at t) visit-rounds.Post visit-rounds-Inv-loop visit-rounds-μ-loop
 visit-rounds-same-length-3 t c = ran-lengths (visit-rounds-returns-2 t c) .1
@@ -270,13 +270,13 @@ visit-rounds-same-length-2 : (t : ℕ) → visit-rounds-lts.Need-same-length-2 (
 visit-rounds-same-length-2 t c = ran-lengths (visit-rounds-returns-2 t c) .0
 
 visit-rounds-add-i : (t : ℕ) → visit-rounds-lts.Need-add-i (visit-rounds-callees t) (visit-rounds-at t) visit-rounds.Post visit-rounds-Inv-loop visit-rounds-μ-loop
-visit-rounds-add-i t c = record { fits = omega (arith, c .before .before .before .before .before .before .before .before .before .before .before .before .before .before .before .before .loop-test .taken, c .before .before .before .before .before .before .before .before .before .before .before .before .before .before .before .before .before .before .rounds-of .ensures, call-rounds-few (c .before .before .before .before .before .before .before .before .before .before .before .before .before .before .before .before .before .before .before .before .before .before .before .before .before .pre .1 .0 .stands) (c .before .before .before .before .before .before .before .before .before .before .before .before .before .before .before .before .before .before .before .before .before .before .before .before .before .pre .1 .1 .arguments-fit)) }
+visit-rounds-add-i t c = record { fits = omega (arith, c .before .before .before .before .before .before .before .before .before .before .before .before .before .before .before .before .loop-test .taken, c .before .before .before .before .before .before .before .before .before .before .before .before .before .before .before .before .before .before .rounds-of .ensures, call-rounds-few (c .before .before .before .before .before .before .before .before .before .before .before .before .before .before .before .before .before .before .before .before .before .before .before .before .before .before .before .pre .1 .0 .stands) (c .before .before .before .before .before .before .before .before .before .before .before .before .before .before .before .before .before .before .before .before .before .before .before .before .before .before .before .pre .1 .1 .arguments-fit)) }
 
 visit-rounds-loop-less : (t : ℕ) → visit-rounds-lts.Need-loop-less (visit-rounds-callees t) (visit-rounds-at t) visit-rounds.Post visit-rounds-Inv-loop visit-rounds-μ-loop
 visit-rounds-loop-less t c = omega (arith, c .before .before .before .before .before .before .before .before .before .before .before .before .before .before .before .before .loop-test .taken)
 
 visit-rounds-loop-again : (t : ℕ) → visit-rounds-lts.Need-loop-again (visit-rounds-callees t) (visit-rounds-at t) visit-rounds.Post visit-rounds-Inv-loop visit-rounds-μ-loop
-visit-rounds-loop-again t c = let w = ran-returned (c .before .before .before .before .before .before .before .before .open-gate .ensures) (c .before .before .before .before .before .before .before .before .before .at-trace .ensures) (sym (c .before .before .before .before .before .before .before .before .before .before .before .before .before .before .before .before .before .loop .inv .0 .level)) (c .before .before .before .before .before .before .before .before .before .before .before .before .before .before .before .before .before .before .before .before .before .before .before .before .before .args .scope ∷ c .before .before .before .before .before .before .before .before .before .before .before .before .before .before .before .before .before .before .before .before .before .before .before .before .before .args .call .place ∷ []) (c .before .before .next .given .1) (c .at-trace2 .ensures) in (looped-next _ _ (c .before .before .before .before .before .before .before .before .before .before .before .before .before .before .before .before .before .loop .inv .0) (c .before .before .before .before .before .before .before .before .before .before .before .before .before .before .before .before .loop-test .taken) (body-round (c .before .before .before .before .before .before .before .before .before .before .before .before .before .before .before .before .before .before .before .before .before .before .before .before .before .pre .1 .0 .stands) (c .before .before .before .before .before .before .before .before .before .before .before .before .before .before .before .before .before .before .before .before .before .before .before .before .before .pre .1 .1) (c .before .before .before .before .before .before .before .before .before .before .before .before .before .before .qubits-in .ensures) _ [] _ (c .before .before .before .before .before .before .before .before .before .before .before .before .before .before .before .before .before .before .before .if1 .left)) refl (w .0), w .1 ∙ c .before .before .before .before .before .before .before .before .before .before .before .before .before .before .before .before .before .loop .inv .1)
+visit-rounds-loop-again t c = let w = ran-returned (c .before .before .before .before .before .before .before .before .open-gate .ensures) (c .before .before .before .before .before .before .before .before .before .at-trace .ensures) (sym (c .before .before .before .before .before .before .before .before .before .before .before .before .before .before .before .before .before .loop .inv .0 .level)) (c .before .before .before .before .before .before .before .before .before .before .before .before .before .before .before .before .before .before .before .before .before .before .before .before .before .before .before .args .scope ∷ c .before .before .before .before .before .before .before .before .before .before .before .before .before .before .before .before .before .before .before .before .before .before .before .before .before .before .before .args .call .place ∷ []) (c .before .before .next .given .1) (c .at-trace2 .ensures) in (looped-next _ _ (c .before .before .before .before .before .before .before .before .before .before .before .before .before .before .before .before .before .loop .inv .0) (c .before .before .before .before .before .before .before .before .before .before .before .before .before .before .before .before .loop-test .taken) (body-round (c .before .before .before .before .before .before .before .before .before .before .before .before .before .before .before .before .before .before .before .before .before .before .before .before .before .before .before .pre .1 .0 .stands) (c .before .before .before .before .before .before .before .before .before .before .before .before .before .before .before .before .before .before .before .before .before .before .before .before .before .before .before .pre .1 .1) (c .before .before .before .before .before .before .before .before .before .before .before .before .before .before .qubits-in .ensures) _ [] _ (c .before .before .before .before .before .before .before .before .before .before .before .before .before .before .before .before .before .before .before .if1 .left)) refl (w .0), w .1 ∙ c .before .before .before .before .before .before .before .before .before .before .before .before .before .before .before .before .before .loop .inv .1)
 
 visit-rounds-same-length-4 : (t : ℕ) → visit-rounds-lts.Need-same-length-4 (visit-rounds-callees t) (visit-rounds-at t) visit-rounds.Post visit-rounds-Inv-loop visit-rounds-μ-loop
 visit-rounds-same-length-4 t c = looped-length _ _ (c .before .loop .inv .0)
@@ -288,13 +288,13 @@ visit-rounds-returns-3 : (t : ℕ) → visit-rounds-lts.Need-returns-3 (visit-ro
 visit-rounds-returns-3 t c = ran-still (c .before .loop .inv .1) (ran-done _ _ (c .before .loop .inv .0) (c .loop-test .left) (c .before .before .rounds-of .ensures))
 
 visit-statement-statement-at-requires : (t : ℕ) → visit-statement-lts.Need-statement-at-requires (visit-statement-callees t) (visit-statement-at t) visit-statement.Post
-visit-statement-statement-at-requires t c κs = (c .before .before .before .pre .1 .0 .stands .laid, omega (arith, c .before .before .before .pre .1 .1, c .before .before .before .pre .1 .0 .stands .laid .all-is, c .before .before .before .pre .1 .0 .stands .laid .whole, c .before .before .before .pre .1 .0 .stands .laid .short))
+visit-statement-statement-at-requires t c κs = (c .before .before .before .before .before .pre .1 .0 .stands .laid, omega (arith, c .before .before .before .before .before .pre .1 .1, c .before .before .before .before .before .pre .1 .0 .stands .laid .all-is, c .before .before .before .before .before .pre .1 .0 .stands .laid .whole, c .before .before .before .before .before .pre .1 .0 .stands .laid .short))
 
 visit-statement-word-requires : (t : ℕ) → visit-statement-lts.Need-word-requires (visit-statement-callees t) (visit-statement-at t) visit-statement.Post
 visit-statement-word-requires t c κs = tt
 
 visit-statement-visit-gate-requires : (t : ℕ) → visit-statement-lts.Need-visit-gate-requires (visit-statement-callees t) (visit-statement-at t) visit-statement.Post
-visit-statement-visit-gate-requires t c κs = (omega (arith, c .before .before .before .before .before .before .before .before .before .pre .0), (c .before .before .before .before .before .before .before .before .before .pre .1 .0, c .before .before .before .before .before .before .before .before .before .pre .1 .1, c .before .before .before .before .before .before .before .before .before .pre .1 .2, kind-read (now (c .before .before .before .before .before .before .before .before .before .args .image)) (c .before .before .before .before .before .before .before .before .before .args .s) (c .before .before .before .before .before .statement-at .ensures) (c .before .before .before .before .word .ensures) (c .before .before .before .if1 .taken)))
+visit-statement-visit-gate-requires t c κs = (omega (arith, c .before .before .before .before .before .before .before .before .before .before .before .pre .0), (c .before .before .before .before .before .before .before .before .before .before .before .pre .1 .0, c .before .before .before .before .before .before .before .before .before .before .before .pre .1 .1, c .before .before .before .before .before .before .before .before .before .before .before .pre .1 .2, kind-read (now (c .before .before .before .before .before .before .before .before .before .before .before .args .image)) (c .before .before .before .before .before .before .before .before .before .before .before .args .s) (c .before .before .before .before .before .statement-at .ensures) (c .before .before .before .before .word .ensures) (c .before .before .before .if1 .taken)))
 
 visit-statement-same-length : (t : ℕ) → visit-statement-lts.Need-same-length (visit-statement-callees t) (visit-statement-at t) visit-statement.Post
 visit-statement-same-length t c = ran-lengths (c .before .before .before .before .visit-gate .ensures) .0
@@ -306,13 +306,13 @@ visit-statement-returns : (t : ℕ) → visit-statement-lts.Need-returns (visit-
 visit-statement-returns t c = c .before .before .before .before .visit-gate .ensures
 
 visit-statement-visit-leaf-requires : (t : ℕ) → visit-statement-lts.Need-visit-leaf-requires (visit-statement-callees t) (visit-statement-at t) visit-statement.Post
-visit-statement-visit-leaf-requires t c κs = (c .before .before .before .before .before .before .before .before .pre .1 .0 .stands, c .before .before .before .before .before .before .before .before .pre .1 .0 .angles, c .before .before .before .before .before .before .before .before .pre .1 .1, c .before .before .before .before .before .before .before .before .pre .1 .2, (λ e. c .before .before .if1 .left (c .before .before .before .word .ensures ∙ ap (word (now (c .before .before .before .before .before .before .before .before .args .image))) (c .before .before .before .before .statement-at .ensures) ∙ e)), c .before .before .before .before .before .before .before .before .pre .1 .0 .opens)
+visit-statement-visit-leaf-requires t c κs = (c .before .before .before .before .before .before .before .before .before .before .pre .1 .0 .stands, c .before .before .before .before .before .before .before .before .before .before .pre .1 .0 .angles, c .before .before .before .before .before .before .before .before .before .before .pre .1 .1, c .before .before .before .before .before .before .before .before .before .before .pre .1 .2, (λ e. c .before .before .if1 .left (c .before .before .before .word .ensures ∙ ap (word (now (c .before .before .before .before .before .before .before .before .before .before .args .image))) (c .before .before .before .before .statement-at .ensures) ∙ e)), c .before .before .before .before .before .before .before .before .before .before .pre .1 .0 .opens)
 
 visit-statement-same-length-3 : (t : ℕ) → visit-statement-lts.Need-same-length-3 (visit-statement-callees t) (visit-statement-at t) visit-statement.Post
 visit-statement-same-length-3 t c = c .before .before .visit-leaf .ensures .plays .same
 
 visit-statement-returns-2 : (t : ℕ) → visit-statement-lts.Need-returns-2 (visit-statement-callees t) (visit-statement-at t) visit-statement.Post
-visit-statement-returns-2 t c = wrote-ran _ (wrote-steps (leaf-steps _ _ _ _ (λ e. c .before .before .before .before .before .if1 .left (c .before .before .before .before .before .before .word .ensures ∙ ap (word (now (c .before .before .before .before .before .before .before .before .before .before .before .args .image))) (c .before .before .before .before .before .before .before .statement-at .ensures) ∙ e))) (c .before .before .visit-leaf .ensures))
+visit-statement-returns-2 t c = wrote-ran _ (wrote-steps (leaf-steps _ _ _ _ (λ e. c .before .before .before .before .before .if1 .left (c .before .before .before .before .before .before .word .ensures ∙ ap (word (now (c .before .before .before .before .before .before .before .before .before .before .before .before .before .args .image))) (c .before .before .before .before .before .before .before .statement-at .ensures) ∙ e))) (c .before .before .visit-leaf .ensures))
 
 pub +open-gate+visit-gate+visit-rounds+visit-statement-spec : {M : Type 1} → statement M
 +open-gate+visit-gate+visit-rounds+visit-statement-spec =

@@ -6,13 +6,13 @@ use Rattle.linearize.proofs.visit_held.Statement.{statement}
 use Rattle.linearize.proofs.visit_held.Tie as tie
 
 visit-statement-requires : tie.Need-visit-statement-requires
-visit-statement-requires c κs = (c .before .before .before .before .before .before .pre .0, c .before .before .before .before .before .before .pre .1, c .before .before .before .before .before .before .pre .2)
+visit-statement-requires c κs = (c .before .before .before .before .before .before .before .before .pre .0, c .before .before .before .before .before .before .before .before .pre .1, c .before .before .before .before .before .before .before .before .pre .2)
 
 enum-known-next : tie.Need-enum-known-next
 enum-known-next c = search needs
 
 write-conditional-end-requires : tie.Need-write-conditional-end-requires
-write-conditional-end-requires c κs = ran-open (c .before .before .before .before .before .before .before .before .before .before .before .before .before .before .before .pre .0 .opens) (c .before .before .before .before .before .before .before .before .visit-statement .ensures) (c .before .before .next .given .1)
+write-conditional-end-requires c κs = ran-open (c .before .before .before .before .before .before .before .before .before .before .before .before .before .before .before .before .before .pre .0 .opens) (c .before .before .before .before .before .before .before .before .visit-statement .ensures) (c .before .before .next .given .1)
 
 enum-known-e : tie.Need-enum-known-e
 enum-known-e c = search needs

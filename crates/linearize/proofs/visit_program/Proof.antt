@@ -23,10 +23,10 @@ main-frame-requires : tie.Need-main-frame-requires Inv-loop μ-loop
 main-frame-requires c κs = tt
 
 loop-holds : tie.Need-loop-holds Inv-loop μ-loop
-loop-holds c = (looped-start _ _ (c .before .before .before .before .pre .1), refl)
+loop-holds c = (looped-start _ _ (c .before .before .before .before .before .before .pre .1), refl)
 
 visit-main-requires : tie.Need-visit-main-requires Inv-loop μ-loop
-visit-main-requires c κs = (ready-on (main-ready (c .before .before .before .before .before .before .before .before .before .pre .0) (c .before .before .before .before .before .main-frame .ensures .1) (c .before .before .before .before .before .main-frame .ensures .0) (c .before .before .before .before .before .before .before .before .before .pre .1) (c .before .before .before .before .before .before .before .before .before .pre .2) (c .before .before .before .before .before .before .before .before .before .pre .3)) (c .before .before .before .before .loop .inv .0) (c .before .before .before .before .loop .inv .1), omega (arith, c .before .before .before .loop-test .taken, c .before .before .before .before .before .before .before .before .before .pre .0 .laid .main-is, c .before .before .before .before .before .before .before .before .before .pre .0 .laid .all-is), main-facts (c .before .before .before .before .before .before .before .before .before .pre .0) (c .before .before .before .loop-test .taken))
+visit-main-requires c κs = (ready-on (main-ready (c .before .before .before .before .before .before .before .before .before .before .before .pre .0) (c .before .before .before .before .before .main-frame .ensures .1) (c .before .before .before .before .before .main-frame .ensures .0) (c .before .before .before .before .before .before .before .before .before .before .before .pre .1) (c .before .before .before .before .before .before .before .before .before .before .before .pre .2) (c .before .before .before .before .before .before .before .before .before .before .before .pre .3)) (c .before .before .before .before .loop .inv .0) (c .before .before .before .before .loop .inv .1), omega (arith, c .before .before .before .loop-test .taken, c .before .before .before .before .before .before .before .before .before .before .before .pre .0 .laid .main-is, c .before .before .before .before .before .before .before .before .before .before .before .pre .0 .laid .all-is), main-facts (c .before .before .before .before .before .before .before .before .before .before .before .pre .0) (c .before .before .before .loop-test .taken))
 
 enum-known-next : tie.Need-enum-known-next Inv-loop μ-loop
 enum-known-next c = search needs
@@ -35,7 +35,7 @@ enum-known-e : tie.Need-enum-known-e Inv-loop μ-loop
 enum-known-e c = search needs
 
 returns : tie.Need-returns Inv-loop μ-loop
-returns c = ran-steps (main-steps _ _ _ _ (c .before .before .before .before .before .before .before .before .before .before .before .before .before .before .before .before .before .pre .0 .laid .main-is)) (ran-from (c .before .before .before .before .before .before .before .before .before .before .before .before .loop .inv .1) (ran-stop _ _ (c .before .before .before .before .before .before .before .before .before .before .before .before .loop .inv .0) (c .before .before .before .before .before .before .before .before .before .before .before .loop-test .taken) refl (c .before .before .before .before .before .before .before .visit-main .ensures) (c .before .e .given .1) refl))
+returns c = ran-steps (main-steps _ _ _ _ (c .before .before .before .before .before .before .before .before .before .before .before .before .before .before .before .before .before .before .before .pre .0 .laid .main-is)) (ran-from (c .before .before .before .before .before .before .before .before .before .before .before .before .loop .inv .1) (ran-stop _ _ (c .before .before .before .before .before .before .before .before .before .before .before .before .loop .inv .0) (c .before .before .before .before .before .before .before .before .before .before .before .loop-test .taken) refl (c .before .before .before .before .before .before .before .visit-main .ensures) (c .before .e .given .1) refl))
 
 same-length-2 : tie.Need-same-length-2 Inv-loop μ-loop
 same-length-2 c = ran-lengths (returns c) .1
@@ -44,7 +44,7 @@ same-length : tie.Need-same-length Inv-loop μ-loop
 same-length c = ran-lengths (returns c) .0
 
 add-s : tie.Need-add-s Inv-loop μ-loop
-add-s c = record { fits = omega (arith, c .before .before .before .before .before .before .before .before .before .before .before .loop-test .taken, c .before .before .before .before .before .before .before .before .before .before .before .before .before .before .before .before .before .pre .0 .laid .main-is, c .before .before .before .before .before .before .before .before .before .before .before .before .before .before .before .before .before .pre .0 .laid .whole, c .before .before .before .before .before .before .before .before .before .before .before .before .before .before .before .before .before .pre .0 .laid .short) }
+add-s c = record { fits = omega (arith, c .before .before .before .before .before .before .before .before .before .before .before .loop-test .taken, c .before .before .before .before .before .before .before .before .before .before .before .before .before .before .before .before .before .before .before .pre .0 .laid .main-is, c .before .before .before .before .before .before .before .before .before .before .before .before .before .before .before .before .before .before .before .pre .0 .laid .whole, c .before .before .before .before .before .before .before .before .before .before .before .before .before .before .before .before .before .before .before .pre .0 .laid .short) }
 
 loop-less : tie.Need-loop-less Inv-loop μ-loop
 loop-less c = omega (arith, c .before .before .before .before .before .before .before .before .before .before .before .loop-test .taken)
@@ -59,7 +59,7 @@ same-length-4 : tie.Need-same-length-4 Inv-loop μ-loop
 same-length-4 c = ap length (c .before .loop .inv .1)
 
 returns-2 : tie.Need-returns-2 Inv-loop μ-loop
-returns-2 c = ran-steps (main-steps _ _ _ _ (c .before .before .before .before .before .before .pre .0 .laid .main-is)) (ran-still (c .before .loop .inv .1) (ran-done _ _ (c .before .loop .inv .0) (c .loop-test .left) refl))
+returns-2 c = ran-steps (main-steps _ _ _ _ (c .before .before .before .before .before .before .before .before .pre .0 .laid .main-is)) (ran-still (c .before .loop .inv .1) (ran-done _ _ (c .before .loop .inv .0) (c .loop-test .left) refl))
 
 pub visit-program-spec : {M : Type 1} → statement M
 visit-program-spec =

@@ -1,0 +1,63 @@
+use native.Mathlib.Omega.{arith}
+use borrow.Author.Needs.{needs}
+use Rattle.linearize.proofs.ProgramLaws.{quantum-fits, classical-fits, tabled}
+use Rattle.linearize.proofs.visit_many_registers.Statement.{statement}
+use Rattle.linearize.proofs.visit_many_registers.Tie as tie
+
+slice-aggregate-first-of-each : tie.Need-slice-aggregate-first-of-each
+slice-aggregate-first-of-each c = search needs
+
+first-of-each-requires : tie.Need-first-of-each-requires
+first-of-each-requires c κs =
+    let s = c .before .before .before .before in
+    let q = quantum-fits (s .pre .0) (s .pre .1) in
+    (omega arith, q .0, q .1)
+
+add-first-of-each : tie.Need-add-first-of-each
+add-first-of-each c = search needs
+
+slice-aggregate-first-of-each-2 : tie.Need-slice-aggregate-first-of-each-2
+slice-aggregate-first-of-each-2 c = search needs
+
+first-of-each-requires-2 : tie.Need-first-of-each-requires-2
+first-of-each-requires-2 c κs =
+    let s = c .before .before .before .before .before .before .before .before in
+    classical-fits (s .pre .0) (s .pre .1)
+
+slice-aggregate-visit-program : tie.Need-slice-aggregate-visit-program
+slice-aggregate-visit-program c = search needs
+
+slice-aggregate-visit-program-2 : tie.Need-slice-aggregate-visit-program-2
+slice-aggregate-visit-program-2 c = search needs
+
+visit-program-requires : tie.Need-visit-program-requires
+visit-program-requires c κs =
+    let b = c .before .before .before .before .before in
+    let q = b .before .before .before .before in
+    let s = q .before .before .before .before .before in
+    (tabled (s .pre .0) (s .pre .1) (q .first-of-each .ensures) (b .first-of-each2 .ensures), s .pre .2, s .pre .3, s .pre .4)
+
+same-length : tie.Need-same-length
+same-length c = search needs
+
+same-length-2 : tie.Need-same-length-2
+same-length-2 c = search needs
+
+returns : tie.Need-returns
+returns c = search needs
+
+pub visit-many-registers-spec : {M : Type 1} → statement M
+visit-many-registers-spec =
+    tie.close
+    (tie.spec
+    slice-aggregate-first-of-each
+    first-of-each-requires
+    add-first-of-each
+    slice-aggregate-first-of-each-2
+    first-of-each-requires-2
+    slice-aggregate-visit-program
+    slice-aggregate-visit-program-2
+    visit-program-requires
+    same-length
+    same-length-2
+    returns)
