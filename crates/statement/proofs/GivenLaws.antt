@@ -1,5 +1,5 @@
 -- Angles of a frame's expressions, and what is done with them.
-use Prim.Native.Nat.{ℕ, zero, suc, _+_}
+use Prim.Native.Nat.{ℕ, zero, suc, _+_, _*_, _<_}
 use native.Mathlib.Omega.{arith}
 use mathlib.Core.Path.{_≡_, refl, sym, ap, ap₂, subst, _∙_}
 use mathlib.Core.List.{List, [], _∷_}
@@ -7,7 +7,7 @@ use lib.Dec.{T, ltb→lt}
 use lib.ListN.{take}
 use Rattle.value.specs.declared.Value.{Value}
 use Rattle.value.specs.declared.Evaluation.the-variants as evaluation
-use Rattle.value.specs.Value.{andThen}
+use Rattle.value.specs.Value.{Sound, andThen}
 use Rattle.model.specs.Image.{Expr, Pi, Real, Int, Var, Binary, Unary, word, expression, expressionAt, variables}
 use Rattle.model.specs.Evaluate.{unary, binary, valueOf, evaluate, zeroValue}
 use Rattle.model.specs.Check.{entryOk, expressionOk}
@@ -22,8 +22,11 @@ use Rattle.writer.specs.declared.Position.{Position}
 use Rattle.writer.specs.declared.LinearizeError.{LinearizeError}
 use Rattle.writer.specs.declared.Linearized.{Linearized}
 use Rattle.writer.specs.declared.Linearized.the-variants as linearized
-use Rattle.writer.specs.Promise.{Open, Wrote, answerTo, placeAt}
+use Rattle.writer.specs.Promise.{Open, Wrote, SoundAngles, answerTo, placeAt}
 use Rattle.expression.specs.Operands.{Named}
+use Rattle.expression.specs.Table.{valueAt, anglesIn}
+use Rattle.expression.proofs.AngleLaws.{angle-at}
+use Rattle.model.specs.Lists.{range}
 use Rattle.statement.specs.Frames.{standing, namedAt, Listed}
 
 -- ---- an accepted expression reads the variables that it may, so the angles behind them do not show
@@ -96,3 +99,11 @@ pub u-frame : (image : List ℕ) (scope : ℕ) (angles : List Value) (formals : 
     → Wrote (inRounds n (writeU image (standing image scope [] formals) q xs)) out at r out′ → Wrote (inRounds n (writeU image (standing image scope angles formals) q xs)) out at r out′
 unfolding writeU qubitIn
 u-frame image scope angles formals n q xs w = w
+
+-- the first three angles that some words hold, as they were read
+pub three-angles : (words : List ℕ) {x y z : Value} → x ≡ valueAt words 0 → y ≡ valueAt words 6 → z ≡ valueAt words 12 → have (take 3 (anglesIn words)) ≡ have (x ∷ y ∷ z ∷ [])
+unfolding anglesIn range
+three-angles words e f g = sym (rw (e, f, g) refl)
+
+pub angle-sound : (words : List ℕ) (i : ℕ) {x : Value} → i < 16 → SoundAngles (anglesIn words) → x ≡ valueAt words (6 * i) → Sound x
+angle-sound words i h s e = rw (e ∙ sym (angle-at words i zeroValue h)) (s .each i h)

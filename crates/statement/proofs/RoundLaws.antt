@@ -1,24 +1,19 @@
 -- One round of each statement, from the qubits and bits that the code found.
-use Prim.Native.Nat.{ℕ, _<_}
-use native.Mathlib.Omega.{arith}
-use mathlib.Core.Path.{_≡_, refl, sym, ap, ap₂, _∙_}
+use Prim.Native.Nat.{ℕ}
+use mathlib.Core.Path.{_≡_, refl, ap, ap₂}
 use borrow.Author.Tests.{eq-eqb, ne-eqb}
 use mathlib.Core.List.{List, [], _∷_}
-use lib.ListN.{getD, take}
 use Rattle.value.specs.declared.Value.{Value}
-use Rattle.value.specs.Value.{Sound}
-use Rattle.model.specs.Evaluate.{zeroValue}
 use Rattle.model.specs.Records.{Record}
 use Rattle.model.specs.Steps.{Step, write, Frame, qubitIn, bitIn, writeReset, writeMeasure, writeCX, writeU}
 use Rattle.model.specs.Image.{argumentAt}
 use Rattle.model.specs.Run.{play}
-use Rattle.model.proofs.ListLaws.{within, getD-take}
 use Rattle.model.proofs.PlayLaws.{plays-stop}
 use Rattle.writer.specs.declared.Position.{Position}
 use Rattle.writer.specs.declared.LinearizeErrorKind.the-variants as kind
 use Rattle.writer.specs.declared.Linearized.{Linearized}
 use Rattle.writer.specs.declared.Linearized.the-variants as linearized
-use Rattle.writer.specs.Promise.{Open, Wrote, SoundAngles}
+use Rattle.writer.specs.Promise.{Open, Wrote}
 use Rattle.statement.specs.Frames.{standing, apartCX}
 
 module _ (image : List ℕ) (scope : ℕ) (angles : List Value) (formals : List ℕ) where
@@ -37,6 +32,10 @@ module _ (image : List ℕ) (scope : ℕ) (angles : List Value) (formals : List 
   unfolding writeCX apartCX
   cx-round a b i e f = ap₂ (apartCX image a b) e f
 
+  pub u-round : (theta phi lambda : Value) (a i : ℕ) {q : ℕ} → q ≡ qubitIn image frame i a → _≡_ {A = List Step} (write [] (Record.U theta phi lambda q) ∷ []) (writeU image frame a (theta ∷ phi ∷ lambda ∷ []) i)
+  unfolding writeU
+  u-round theta phi lambda a i e = ap (λ (q : ℕ). write [] (Record.U theta phi lambda q) ∷ []) e
+
 -- the two ways of a CX
 module _ (image : List ℕ) (a b : ℕ) {out : List ℕ} {p q : ℕ} {at : Position} where
   pub cx-overlaps : {m n : ℕ} → Open out at → m ≡ argumentAt image a → n ≡ argumentAt image b → p ≡ q
@@ -47,16 +46,3 @@ module _ (image : List ℕ) (a b : ℕ) {out : List ℕ} {p q : ℕ} {at : Posit
   pub cx-apart : {p′ q′ : ℕ} {r : Linearized} {out′ : List ℕ} → p′ ≡ p → q′ ≡ q → ¬ (p′ ≡ q′) → Wrote (write [] (Record.CX p′ q′) ∷ []) out at r out′ → Wrote (apartCX image a b p q) out at r out′
   unfolding apartCX
   cx-apart e f n w = rw (← e, ← f, ne-eqb _ _ n) w
-
--- angles as the code reads them, with another default
-module _ {angles : List Value} (s : SoundAngles angles) (d : Value) where
-  pub sound-at : (i : ℕ) → i < 16 → Sound (getD angles i d)
-  sound-at i h = rw (within angles i d zeroValue (omega (arith, s .full))) (s .each i h)
-
-  front-at : (i : ℕ) → i < 3 → getD angles i d ≡ getD (take 3 angles) i zeroValue
-  front-at i h = within angles i d zeroValue (omega (arith, s .full)) ∙ sym (getD-take 3 i angles zeroValue h)
-
-  pub u-round : (image : List ℕ) (scope : ℕ) (formals : List ℕ) (a i : ℕ) {q : ℕ} → q ≡ qubitIn image (standing image scope [] formals) i a
-      → _≡_ {A = List Step} (write [] (Record.U (getD angles 0 d) (getD angles 1 d) (getD angles 2 d) q) ∷ []) (writeU image (standing image scope [] formals) a (take 3 angles) i)
-  unfolding writeU
-  u-round image scope formals a i e = rw (front-at 0 (omega arith), front-at 1 (omega arith), front-at 2 (omega arith), e) refl
