@@ -168,7 +168,7 @@ fn is_constant(image: &[u64], l: Layout, table: &[u64], e: u64) -> bool
     if table[7 * a] != 1 {
         return false;
     }
-    if 8 < kind {
+    if kind >= 9 {
         return true;
     }
     let b = image::word(image, at + 2) as usize;

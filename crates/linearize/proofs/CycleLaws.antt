@@ -15,7 +15,7 @@ use Rattle.image.specs.declared.Span.{Span}
 use Rattle.image.specs.Layout.{Holds}
 use Rattle.image.proofs.KindLaws.{words-are}
 use Rattle.writer.specs.declared.Position.{Position}
-use Rattle.statement.specs.declared.Frame.{Frame as CodeFrame}
+use Rattle.expression.specs.Table.{anglesIn, Fixed}
 use Rattle.linearize.specs.declared.Call.{Call}
 use Rattle.writer.specs.declared.Linearized.{Linearized}
 use Rattle.writer.specs.Promise.{Open, Wrote, SoundAngles}
@@ -58,18 +58,19 @@ holds-body image g h = rw (add-one g) at (h .statements-are)
 
 module _ {image : List ℕ} {l : Layout} {qs bs : List ℕ} where
   -- where a loop over statements or rounds has come to
-  pub ready-on : {scope : ℕ} {frame : CodeFrame} {out trace out′ trace′ : List ℕ} {at now : Position} {g : ℕ → List Step} {n i : ℕ} → Ready image l qs bs scope frame out trace at → Looped g n out at i out′ now → trace′ ≡ trace
-      → Ready image l qs bs scope frame out′ trace′ now
-  ready-on r k e =
-      record { stands = r .stands; angles = r .angles; opens = k .opens; room = subst (λ (t : List ℕ). 256 ≤ length t) (sym e) (r .room); deep = omega (arith, r .deep, k .level) }
+  pub ready-on : {scope : ℕ} {table table′ variables formals out trace out′ trace′ : List ℕ} {at now : Position} {g : ℕ → List Step} {n i : ℕ} → Ready image l qs bs table scope variables formals out trace at → Looped g n out at i out′ now → trace′ ≡ trace → Fixed image table′
+      → Ready image l qs bs table′ scope variables formals out′ trace′ now
+  ready-on r k e f =
+      record { stands = r .stands; fixed = f; angles = r .angles; opens = k .opens; room = subst (λ (t : List ℕ). 256 ≤ length t) (sym e) (r .room); deep = omega (arith, r .deep, k .level) }
 
   -- where a call opens a gate
-  pub ready-opened : {scope s i n : ℕ} {frame : CodeFrame} {call : Call} {angles : List Value} {q out trace out′ trace′ : List ℕ} {at now deep : Position} {g : ℕ → List Step}
-      → Ready image l qs bs scope frame out trace at → Calls image l scope s call → SoundAngles angles → QubitsAre image scope (frame .qubits) (call .argument) (call .arguments) i q
-      → n ≡ rounds image scope (range (call .argument) (call .arguments)) → i < n → Looped g n out at i out′ now → trace′ ≡ trace → deep ≡ record { records = now .records; words = now .words; trace = at .trace + 2 }
-      → Ready image l qs bs (suc (call .gate)) (record { angles = angles; qubits = q }) out′ trace′ deep
-  ready-opened {i = i} r c a k e h lo t d =
+  pub ready-opened : {scope s i n : ℕ} {call : Call} {table table′ variables formals angles q out trace out′ trace′ : List ℕ} {at now deep : Position} {g : ℕ → List Step}
+      → Ready image l qs bs table scope variables formals out trace at → Calls image l scope s call → SoundAngles (anglesIn angles) → QubitsAre image scope formals (call .argument) (call .arguments) i q
+      → n ≡ rounds image scope (range (call .argument) (call .arguments)) → i < n → Looped g n out at i out′ now → trace′ ≡ trace → deep ≡ record { records = now .records; words = now .words; trace = at .trace + 2 } → Fixed image table′
+      → Ready image l qs bs table′ (suc (call .gate)) angles q out′ trace′ deep
+  ready-opened {i = i} r c a k e h lo t d f =
       record {
+        fixed = f;
         stands = opened-stands (r .stands) c k (subst (λ (m : ℕ). i < m) e h);
         angles = a;
         opens = rw d (record { inside = lo .opens .inside; fewer = lo .opens .fewer });
@@ -78,10 +79,10 @@ module _ {image : List ℕ} {l : Layout} {qs bs : List ℕ} where
       }
 
   -- where a body runs a statement
-  pub ready-in-body : {g : ℕ} {frame : CodeFrame} {out trace : List ℕ} {at : Position} → Ready image l qs bs (suc g) frame out trace at → Ready image l qs bs (g + 1) frame out trace at
+  pub ready-in-body : {g : ℕ} {table variables formals out trace : List ℕ} {at : Position} → Ready image l qs bs table (suc g) variables formals out trace at → Ready image l qs bs table (g + 1) variables formals out trace at
   ready-in-body {g} r = rw (add-one g) r
 
-  pub facts-in-body : {g i : ℕ} {frame : CodeFrame} {out trace : List ℕ} {at : Position} {r : Span} → Ready image l qs bs (suc g) frame out trace at → g < l .gates → Holds image l (g + 1) r → i < r .count → PlainFacts image (g + 1) (statement image (r .first + i))
+  pub facts-in-body : {g i : ℕ} {table variables formals out trace : List ℕ} {at : Position} {r : Span} → Ready image l qs bs table (suc g) variables formals out trace at → g < l .gates → Holds image l (g + 1) r → i < r .count → PlainFacts image (g + 1) (statement image (r .first + i))
   facts-in-body {g} {i} {r = r} d h k lt = rw (add-one g) (body-facts image (d .stands .accepted) g (r .first) (r .count) i (omega (arith, h, d .stands .laid .gates-is)) (holds-body image g k) lt)
 
 pub step-in-body : (image : List ℕ) (g left : ℕ) (angles : List Value) (q : List ℕ) (first i : ℕ) → PlainFacts image (g + 1) (statement image (first + i))
@@ -93,8 +94,8 @@ step-in-body image g left angles q first i f = rw (add-one g) (statement-steps i
 pub ran-open : {ss : List Step} {out out′ trace trace′ : List ℕ} {at p : Position} {r : Linearized} → Open out at → Ran ss out at trace r out′ trace′ → r ≡ linearized.Done p → Open out′ p
 ran-open o w e = wrote-open o (ran-wrote w e .0)
 
-pub ready-wrote : {image : List ℕ} {l : Layout} {qs bs : List ℕ} {scope : ℕ} {frame : CodeFrame} {ss : List Step} {out out′ trace : List ℕ} {at p : Position} {r : Linearized}
-    → Ready image l qs bs scope frame out trace at → Wrote ss out at r out′ → r ≡ linearized.Done p → Ready image l qs bs scope frame out′ trace p
+pub ready-wrote : {image : List ℕ} {l : Layout} {qs bs : List ℕ} {scope : ℕ} {ss : List Step} {table variables formals out out′ trace : List ℕ} {at p : Position} {r : Linearized}
+    → Ready image l qs bs table scope variables formals out trace at → Wrote ss out at r out′ → r ≡ linearized.Done p → Ready image l qs bs table scope variables formals out′ trace p
 ready-wrote {ss = ss} {out} {out′} {at = at} {p} d w e =
     let v : Wrote ss out at (linearized.Done p) out′ = rw e at w in
-    record { stands = d .stands; angles = d .angles; opens = wrote-open (d .opens) v; room = d .room; deep = omega (arith, d .deep, v .level) }
+    record { stands = d .stands; fixed = d .fixed; angles = d .angles; opens = wrote-open (d .opens) v; room = d .room; deep = omega (arith, d .deep, v .level) }

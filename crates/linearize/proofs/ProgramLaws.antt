@@ -5,7 +5,7 @@ use native.Mathlib.Omega.{arith}
 use mathlib.Core.Path.{_≡_, refl, sym, ap, ap₂, subst, _∙_}
 use mathlib.Core.List.{List, [], _∷_, _++_, map}
 use borrow.Author.Tests.{eq-eqb, ne-eqb}
-use lib.ListN.{length, getD}
+use lib.ListN.{length, getD, replicate}
 use Rattle.value.specs.declared.Value.{Value}
 use Rattle.value.specs.Value.{Sound}
 use Rattle.model.specs.Lists.{range, sum}
@@ -26,7 +26,8 @@ use Rattle.writer.specs.declared.Linearized.the-variants as linearized
 use Rattle.statement.proofs.LoopLaws.{wrote-open}
 use Rattle.image.proofs.KindLaws.{if-is, words-are}
 use Rattle.statement.specs.Frames.{standing, formalsOf, Stands}
-use Rattle.statement.specs.declared.Frame.{Frame}
+use Rattle.expression.specs.Table.{Fixed}
+use Rattle.expression.proofs.AngleLaws.{zeros-sound}
 use Rattle.writer.specs.declared.Position.{Position}
 use Rattle.writer.specs.Promise.{Open, Wrote, SoundAngles}
 use Rattle.linearize.specs.Running.{Tabled, Ready, plainSteps}
@@ -102,9 +103,9 @@ pub sound-zeros : {x : Value} → Sound x → SoundAngles (x ∷ x ∷ x ∷ x �
 sound-zeros h = record { full = refl; each = λ i k. All-getD {P = Sound} i zeroValue k (cons h (cons h (cons h (cons h (cons h (cons h (cons h (cons h (cons h (cons h (cons h (cons h (cons h (cons h (cons h (cons h nil)))))))))))))))) }
 
 -- where main's statements are run
-pub main-ready : {image : List ℕ} {l : Layout} {qs bs : List ℕ} {frame : Frame} {out trace : List ℕ} {at : Position} → Tabled image l qs bs → length (frame .qubits) ≡ 16 → SoundAngles (frame .angles) → Open out at → 256 ≤ length trace → at .trace ≡ 0
-    → Ready image l qs bs 0 frame out trace at
-main-ready t h a o r z = record { stands = main-stands t h; angles = a; opens = o; room = r; deep = omega arith }
+pub main-ready : {image : List ℕ} {l : Layout} {qs bs table formals out trace : List ℕ} {at : Position} → Tabled image l qs bs → Fixed image table → length formals ≡ 16 → Open out at → 256 ≤ length trace → at .trace ≡ 0
+    → Ready image l qs bs table 0 (replicate 96 0) formals out trace at
+main-ready t f h o r z = record { stands = main-stands t h; fixed = f; angles = zeros-sound 96; opens = o; room = r; deep = omega arith }
 
 pub main-facts : {image : List ℕ} {l : Layout} {qs bs : List ℕ} {s : ℕ} → Tabled image l qs bs → s < l .main → Facts image 0 (statement image s)
 unfolding scopeStatements

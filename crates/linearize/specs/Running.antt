@@ -17,9 +17,9 @@ use Rattle.image.specs.Layout.{Laid}
 use Rattle.image.specs.Firsts.{Firsts}
 use Rattle.writer.specs.declared.Position.{Position}
 use Rattle.writer.specs.declared.Linearized.{Linearized}
-use Rattle.statement.specs.declared.Frame.{Frame}
 use Rattle.linearize.specs.declared.Call.{Call}
 use Rattle.writer.specs.Promise.{placeAt, positionOf, answerOf, Open, SoundAngles}
+use Rattle.expression.specs.Table.{anglesIn, Fixed}
 use Rattle.statement.specs.Frames.{Stands, Called}
 
 -- the calls that may nest in a scope: each goes to a gate of smaller number
@@ -27,10 +27,11 @@ abbrev pub nested : ℕ → ℕ
 nested zero = 128
 nested (suc g) = g
 
--- where statements of a scope are run: the trace has room for every call that may nest
-pub record Ready (image : List ℕ) (l : Layout) (qubits bits : List ℕ) (scope : ℕ) (frame : Frame) (out trace : List ℕ) (at : Position) : Type 0 where
-  pub stands : Stands image l qubits bits scope (frame .qubits)
-  pub angles : SoundAngles (frame .angles)
+-- where statements of a scope are run: a frame's angles and qubits are lent, the table holds constants, and the trace has room for every call that may nest
+pub record Ready (image : List ℕ) (l : Layout) (qubits bits table : List ℕ) (scope : ℕ) (variables formals out trace : List ℕ) (at : Position) : Type 0 where
+  pub stands : Stands image l qubits bits scope formals
+  pub fixed : Fixed image table
+  pub angles : SoundAngles (anglesIn variables)
   pub opens : Open out at
   pub room : 256 ≤ length trace
   pub deep : at .trace + 2 * nested scope ≤ 256

@@ -3,7 +3,6 @@ use image::CheckAnswer;
 use image::Contents;
 use image::Layout;
 use statement::Frame;
-use value::Value;
 use writer::LinearizeError;
 use writer::LinearizeErrorKind;
 use writer::Linearized;
@@ -21,6 +20,7 @@ ghost use Rattle.model.proofs.Accepted.{Accepted};
 ghost use Rattle.model.proofs.Facts.{PlainFacts, Facts};
 ghost use Rattle.image.specs.Layout.{Laid};
 ghost use Rattle.writer.specs.Promise.{SoundAngles, Open, Wrote};
+ghost use Rattle.expression.specs.Table.{anglesIn, Fixed};
 ghost use Rattle.statement.specs.Frames.{standing, Stands};
 ghost use Rattle.linearize.specs.Running.{Tabled, Ready, Ran, plainSteps, callOf, Calls, callSteps};
 ghost use Rattle.linearize.specs.Linearizes.{refusedWith, Linearizes};
@@ -39,17 +39,17 @@ fn mark_call(trace: &mut [u64], at: u64, scope: u64, place: u64)
 fn write_cut(
     image: &[u64],
     l: Layout,
-    frame: Frame,
+    formals: [u64; 16],
     g: u64,
     out: &mut [u64],
     at: Position,
 ) -> Linearized
-    requires { ⌜ Laid (now image) l × SoundAngles (frame .angles) × (length (frame .qubits) ≡ 16) × (g < l .gates) × (gateArguments (now image) g ≤ 16) × Open (now out) at ⌝ }
-    ensures { λ r. ⌜ Wrote (write [] (Record.Opaque g [] (take (gateArguments (now (image .entry)) g) (frame .qubits))) ∷ []) (now (out .entry)) at r (now (out .exit)) ⌝ }
+    requires { ⌜ Laid (now image) l × (length formals ≡ 16) × (g < l .gates) × (gateArguments (now image) g ≤ 16) × Open (now out) at ⌝ }
+    ensures { λ r. ⌜ Wrote (write [] (Record.Opaque g [] (take (gateArguments (now (image .entry)) g) formals)) ∷ []) (now (out .entry)) at r (now (out .exit)) ⌝ }
 {
     let gate = image::gate_at(image, l, g);
-    let angles = frame.angles;
-    let formals = frame.qubits;
+    let angle = expression::zero();
+    let angles = [angle; 16];
     writer::write_opaque(out, at, g, angles, 0, formals, image::word(image, gate + 1))
 }
 
@@ -59,39 +59,40 @@ fn visit_leaf(
     l: Layout,
     qubits: &[u64],
     bits: &[u64],
-    table: &mut [u64; 16368],
+    table: &mut [u64],
     scope: u64,
-    frame: Frame,
+    variables: &[u64; 96],
+    formals: &[u64; 16],
     s: u64,
     out: &mut [u64],
     at: Position,
 ) -> Linearized
-    requires { ⌜ Stands (now image) l (now qubits) (now bits) scope (frame .qubits) × SoundAngles (frame .angles) × (s < l .all) × PlainFacts (now image) scope (statement (now image) s) × ¬ (word (now image) (statementAt (now image) s) ≡ 3) × Open (now out) at ⌝ }
-    ensures { λ r. ⌜ Wrote (plainSteps (now (image .entry)) 0 (standing (now (image .entry)) scope (frame .angles) (frame .qubits)) s) (now (out .entry)) at r (now (out .exit)) ⌝ }
+    requires { ⌜ Stands (now image) l (now qubits) (now bits) scope (now formals) × Fixed (now image) (now table) × SoundAngles (anglesIn (now variables)) × (s < l .all) × PlainFacts (now image) scope (statement (now image) s) × ¬ (word (now image) (statementAt (now image) s) ≡ 3) × Open (now out) at ⌝ }
+    ensures { λ r. ⌜ Wrote (plainSteps (now (image .entry)) 0 (standing (now (image .entry)) scope (anglesIn (now (variables .entry))) (now (formals .entry))) s) (now (out .entry)) at r (now (out .exit)) × Fixed (now (image .entry)) (now (table .exit)) ⌝ }
 {
     let place = image::statement_at(image, l, s);
     let kind = image::word(image, place);
     let a = image::word(image, place + 1);
     let b = image::word(image, place + 2);
-    let formals = frame.qubits;
     match kind {
         1 => statement::visit_u(
             image,
             l,
             qubits,
             bits,
-            scope,
-            frame,
             table,
+            scope,
+            variables,
+            formals,
             place + 1,
             image::word(image, place + 4),
             out,
             at,
         ),
-        2 => statement::visit_cx(image, l, qubits, bits, scope, &formals, a, b, out, at),
-        4 => statement::visit_barrier(image, l, qubits, bits, scope, &formals, a, b, out, at),
-        5 => statement::visit_measure(image, l, qubits, bits, scope, &formals, a, b, out, at),
-        _ => statement::visit_reset(image, l, qubits, bits, scope, &formals, a, out, at),
+        2 => statement::visit_cx(image, l, qubits, bits, scope, formals, a, b, out, at),
+        4 => statement::visit_barrier(image, l, qubits, bits, scope, formals, a, b, out, at),
+        5 => statement::visit_measure(image, l, qubits, bits, scope, formals, a, b, out, at),
+        _ => statement::visit_reset(image, l, qubits, bits, scope, formals, a, out, at),
     }
 }
 
@@ -142,17 +143,18 @@ fn visit_statement(
     l: Layout,
     qubits: &[u64],
     bits: &[u64],
-    table: &mut [u64; 16368],
+    table: &mut [u64],
     scope: u64,
-    frame: Frame,
+    variables: &[u64; 96],
+    formals: &[u64; 16],
     s: u64,
     left: u64,
     out: &mut [u64],
     trace: &mut [u64],
     at: Position,
 ) -> Linearized
-    requires { ⌜ Ready (now image) l (now qubits) (now bits) scope frame (now out) (now trace) at × (s < l .all) × PlainFacts (now image) scope (statement (now image) s) ⌝ }
-    ensures { λ r. ⌜ Ran (plainSteps (now (image .entry)) left (standing (now (image .entry)) scope (frame .angles) (frame .qubits)) s) (now (out .entry)) at (now (trace .entry)) r (now (out .exit)) (now (trace .exit)) ⌝ }
+    requires { ⌜ Ready (now image) l (now qubits) (now bits) (now table) scope (now variables) (now formals) (now out) (now trace) at × (s < l .all) × PlainFacts (now image) scope (statement (now image) s) ⌝ }
+    ensures { λ r. ⌜ Ran (plainSteps (now (image .entry)) left (standing (now (image .entry)) scope (anglesIn (now (variables .entry))) (now (formals .entry))) s) (now (out .entry)) at (now (trace .entry)) r (now (out .exit)) (now (trace .exit)) × Fixed (now (image .entry)) (now (table .exit)) ⌝ }
 {
     if image::word(image, image::statement_at(image, l, s)) == 3 {
         return visit_gate(
@@ -162,7 +164,8 @@ fn visit_statement(
             bits,
             table,
             scope,
-            frame,
+            variables,
+            formals,
             s,
             left,
             out,
@@ -170,7 +173,19 @@ fn visit_statement(
             at,
         );
     }
-    visit_leaf(image, l, qubits, bits, table, scope, frame, s, out, at)
+    visit_leaf(
+        image,
+        l,
+        qubits,
+        bits,
+        table,
+        scope,
+        variables,
+        formals,
+        s,
+        out,
+        at,
+    )
 }
 
 // A call: its parameters before anything else.
@@ -179,24 +194,31 @@ fn visit_gate(
     l: Layout,
     qubits: &[u64],
     bits: &[u64],
-    table: &mut [u64; 16368],
+    table: &mut [u64],
     scope: u64,
-    frame: Frame,
+    variables: &[u64; 96],
+    formals: &[u64; 16],
     s: u64,
     left: u64,
     out: &mut [u64],
     trace: &mut [u64],
     at: Position,
 ) -> Linearized
-    requires { ⌜ Ready (now image) l (now qubits) (now bits) scope frame (now out) (now trace) at × (s < l .all) × PlainFacts (now image) scope (statement (now image) s) × (word (now image) (statementAt (now image) s) ≡ 3) ⌝ }
-    ensures { λ r. ⌜ Ran (plainSteps (now (image .entry)) left (standing (now (image .entry)) scope (frame .angles) (frame .qubits)) s) (now (out .entry)) at (now (trace .entry)) r (now (out .exit)) (now (trace .exit)) ⌝ }
+    requires { ⌜ Ready (now image) l (now qubits) (now bits) (now table) scope (now variables) (now formals) (now out) (now trace) at × (s < l .all) × PlainFacts (now image) scope (statement (now image) s) × (word (now image) (statementAt (now image) s) ≡ 3) ⌝ }
+    ensures { λ r. ⌜ Ran (plainSteps (now (image .entry)) left (standing (now (image .entry)) scope (anglesIn (now (variables .entry))) (now (formals .entry))) s) (now (out .entry)) at (now (trace .entry)) r (now (out .exit)) (now (trace .exit)) × Fixed (now (image .entry)) (now (table .exit)) ⌝ }
 {
     let call = call_at(image, l, s);
-    let given = frame.angles;
-    let made = expression::parameters(image, l, given, table, call.named, call.parameters, at);
-    let angles = made.angles;
-    let ends = made.ends;
-    match ends {
+    let mut given = [0u64; 96];
+    match expression::parameters(
+        image,
+        l,
+        variables,
+        table,
+        call.named,
+        call.parameters,
+        &mut given,
+        at,
+    ) {
         Linearized::Done(now) => visit_rounds(
             image,
             l,
@@ -204,10 +226,10 @@ fn visit_gate(
             bits,
             table,
             scope,
-            frame,
+            formals,
             call,
             s,
-            angles,
+            given,
             left,
             out,
             trace,
@@ -223,31 +245,31 @@ fn visit_rounds(
     l: Layout,
     qubits: &[u64],
     bits: &[u64],
-    table: &mut [u64; 16368],
+    table: &mut [u64],
     scope: u64,
-    frame: Frame,
+    formals: &[u64; 16],
     call: Call,
     s: u64,
-    angles: [Value; 16],
+    angles: [u64; 96],
     left: u64,
     out: &mut [u64],
     trace: &mut [u64],
     at: Position,
 ) -> Linearized
-    requires { ⌜ Ready (now image) l (now qubits) (now bits) scope frame (now out) (now trace) at × Calls (now image) l scope s call × SoundAngles angles ⌝ }
-    ensures { λ r. ⌜ Ran (callSteps (now (image .entry)) left (standing (now (image .entry)) scope [] (frame .qubits)) s call (take (call .parameters) angles)) (now (out .entry)) at (now (trace .entry)) r (now (out .exit)) (now (trace .exit)) ⌝ }
+    requires { ⌜ Ready (now image) l (now qubits) (now bits) (now table) scope angles (now formals) (now out) (now trace) at × Calls (now image) l scope s call ⌝ }
+    ensures { λ r. ⌜ Ran (callSteps (now (image .entry)) left (standing (now (image .entry)) scope [] (now (formals .entry))) s call (take (call .parameters) (anglesIn angles))) (now (out .entry)) at (now (trace .entry)) r (now (out .exit)) (now (trace .exit)) × Fixed (now (image .entry)) (now (table .exit)) ⌝ }
 {
-    let formals = frame.qubits;
     if call.body == 0 {
+        let values = expression::values_in(&angles);
         return statement::visit_opaque(
             image,
             l,
             qubits,
             bits,
             scope,
-            &formals,
+            formals,
             call.gate,
-            angles,
+            values,
             call.parameters,
             call.argument,
             call.arguments,
@@ -265,7 +287,7 @@ fn visit_rounds(
             qubits,
             bits,
             scope,
-            &formals,
+            formals,
             call.argument,
             call.arguments,
             i,
@@ -303,7 +325,7 @@ fn open_gate(
     l: Layout,
     qubits: &[u64],
     bits: &[u64],
-    table: &mut [u64; 16368],
+    table: &mut [u64],
     frame: Frame,
     g: u64,
     left: u64,
@@ -311,11 +333,13 @@ fn open_gate(
     trace: &mut [u64],
     at: Position,
 ) -> Linearized
-    requires { ⌜ Ready (now image) l (now qubits) (now bits) (suc g) frame (now out) (now trace) at × (g < l .gates) ⌝ }
-    ensures { λ r. ⌜ Ran (openGate (now (image .entry)) (opening (now (image .entry)) left) (standing (now (image .entry)) (suc g) (frame .angles) (frame .qubits)) g) (now (out .entry)) at (now (trace .entry)) r (now (out .exit)) (now (trace .exit)) ⌝ }
+    requires { ⌜ Ready (now image) l (now qubits) (now bits) (now table) (suc g) (frame .angles) (frame .qubits) (now out) (now trace) at × (g < l .gates) ⌝ }
+    ensures { λ r. ⌜ Ran (openGate (now (image .entry)) (opening (now (image .entry)) left) (standing (now (image .entry)) (suc g) (anglesIn (frame .angles)) (frame .qubits)) g) (now (out .entry)) at (now (trace .entry)) r (now (out .exit)) (now (trace .exit)) × Fixed (now (image .entry)) (now (table .exit)) ⌝ }
 {
+    let angles = frame.angles;
+    let formals = frame.qubits;
     if left == 0 {
-        return write_cut(image, l, frame, g, out, at);
+        return write_cut(image, l, formals, g, out, at);
     }
     let body = image::statements_of(image, l, g + 1);
     let first = body.first;
@@ -330,7 +354,8 @@ fn open_gate(
             bits,
             table,
             g + 1,
-            frame,
+            &angles,
+            &formals,
             first + i,
             left - 1,
             out,
@@ -355,16 +380,17 @@ fn visit_held(
     l: Layout,
     qubits: &[u64],
     bits: &[u64],
-    table: &mut [u64; 16368],
-    frame: Frame,
+    table: &mut [u64],
+    variables: &[u64; 96],
+    formals: &[u64; 16],
     t: u64,
     left: u64,
     out: &mut [u64],
     trace: &mut [u64],
     at: Position,
 ) -> Linearized
-    requires { ⌜ Ready (now image) l (now qubits) (now bits) 0 frame (now out) (now trace) at × (t < l .all) × PlainFacts (now image) 0 (statement (now image) t) ⌝ }
-    ensures { λ r. ⌜ Ran (plainSteps (now (image .entry)) left (standing (now (image .entry)) 0 (frame .angles) (frame .qubits)) t ++ write [] Record.ConditionalEnd ∷ []) (now (out .entry)) at (now (trace .entry)) r (now (out .exit)) (now (trace .exit)) ⌝ }
+    requires { ⌜ Ready (now image) l (now qubits) (now bits) (now table) 0 (now variables) (now formals) (now out) (now trace) at × (t < l .all) × PlainFacts (now image) 0 (statement (now image) t) ⌝ }
+    ensures { λ r. ⌜ Ran (plainSteps (now (image .entry)) left (standing (now (image .entry)) 0 (anglesIn (now (variables .entry))) (now (formals .entry))) t ++ write [] Record.ConditionalEnd ∷ []) (now (out .entry)) at (now (trace .entry)) r (now (out .exit)) (now (trace .exit)) × Fixed (now (image .entry)) (now (table .exit)) ⌝ }
 {
     match visit_statement(
         image,
@@ -373,7 +399,8 @@ fn visit_held(
         bits,
         table,
         0,
-        frame,
+        variables,
+        formals,
         t,
         left,
         out,
@@ -391,16 +418,17 @@ fn visit_conditional(
     l: Layout,
     qubits: &[u64],
     bits: &[u64],
-    table: &mut [u64; 16368],
-    frame: Frame,
+    table: &mut [u64],
+    variables: &[u64; 96],
+    formals: &[u64; 16],
     s: u64,
     left: u64,
     out: &mut [u64],
     trace: &mut [u64],
     at: Position,
 ) -> Linearized
-    requires { ⌜ Ready (now image) l (now qubits) (now bits) 0 frame (now out) (now trace) at × (s < l .all) × Facts (now image) 0 (statement (now image) s) × (word (now image) (statementAt (now image) s) ≡ 7) ⌝ }
-    ensures { λ r. ⌜ Ran (visitStatement (now (image .entry)) (opening (now (image .entry)) left) (standing (now (image .entry)) 0 (frame .angles) (frame .qubits)) s) (now (out .entry)) at (now (trace .entry)) r (now (out .exit)) (now (trace .exit)) ⌝ }
+    requires { ⌜ Ready (now image) l (now qubits) (now bits) (now table) 0 (now variables) (now formals) (now out) (now trace) at × (s < l .all) × Facts (now image) 0 (statement (now image) s) × (word (now image) (statementAt (now image) s) ≡ 7) ⌝ }
+    ensures { λ r. ⌜ Ran (visitStatement (now (image .entry)) (opening (now (image .entry)) left) (standing (now (image .entry)) 0 (anglesIn (now (variables .entry))) (now (formals .entry))) s) (now (out .entry)) at (now (trace .entry)) r (now (out .exit)) (now (trace .exit)) × Fixed (now (image .entry)) (now (table .exit)) ⌝ }
 {
     let place = image::statement_at(image, l, s);
     let register = image::word(image, place + 1);
@@ -413,7 +441,8 @@ fn visit_conditional(
             qubits,
             bits,
             table,
-            frame,
+            variables,
+            formals,
             image::word(image, place + 3),
             left,
             out,
@@ -430,16 +459,17 @@ fn visit_main(
     l: Layout,
     qubits: &[u64],
     bits: &[u64],
-    table: &mut [u64; 16368],
-    frame: Frame,
+    table: &mut [u64],
+    variables: &[u64; 96],
+    formals: &[u64; 16],
     s: u64,
     left: u64,
     out: &mut [u64],
     trace: &mut [u64],
     at: Position,
 ) -> Linearized
-    requires { ⌜ Ready (now image) l (now qubits) (now bits) 0 frame (now out) (now trace) at × (s < l .all) × Facts (now image) 0 (statement (now image) s) ⌝ }
-    ensures { λ r. ⌜ Ran (visitStatement (now (image .entry)) (opening (now (image .entry)) left) (standing (now (image .entry)) 0 (frame .angles) (frame .qubits)) s) (now (out .entry)) at (now (trace .entry)) r (now (out .exit)) (now (trace .exit)) ⌝ }
+    requires { ⌜ Ready (now image) l (now qubits) (now bits) (now table) 0 (now variables) (now formals) (now out) (now trace) at × (s < l .all) × Facts (now image) 0 (statement (now image) s) ⌝ }
+    ensures { λ r. ⌜ Ran (visitStatement (now (image .entry)) (opening (now (image .entry)) left) (standing (now (image .entry)) 0 (anglesIn (now (variables .entry))) (now (formals .entry))) s) (now (out .entry)) at (now (trace .entry)) r (now (out .exit)) (now (trace .exit)) × Fixed (now (image .entry)) (now (table .exit)) ⌝ }
 {
     if image::word(image, image::statement_at(image, l, s)) == 7 {
         return visit_conditional(
@@ -448,7 +478,8 @@ fn visit_main(
             qubits,
             bits,
             table,
-            frame,
+            variables,
+            formals,
             s,
             left,
             out,
@@ -463,7 +494,8 @@ fn visit_main(
         bits,
         table,
         0,
-        frame,
+        variables,
+        formals,
         s,
         left,
         out,
@@ -472,32 +504,23 @@ fn visit_main(
     )
 }
 
-// Main's frame: main has no variables and no formals.
-fn main_frame() -> Frame
-    ensures { λ r. ⌜ SoundAngles (r .angles) × (length (r .qubits) ≡ 16) ⌝ }
-{
-    let angle = expression::zero();
-    let angles = [angle; 16];
-    let qubits = [0u64; 16];
-    Frame { angles, qubits }
-}
-
 // The main statements in turn, with bodies opened so many levels deep.
 fn visit_program(
     image: &[u64],
     l: Layout,
     qubits: &[u64],
     bits: &[u64],
+    table: &mut [u64],
     left: u64,
     out: &mut [u64],
     trace: &mut [u64],
     at: Position,
 ) -> Linearized
-    requires { ⌜ Tabled (now image) l (now qubits) (now bits) × Open (now out) at × (256 ≤ length (now trace)) × (at .trace ≡ 0) ⌝ }
+    requires { ⌜ Tabled (now image) l (now qubits) (now bits) × Fixed (now image) (now table) × Open (now out) at × (256 ≤ length (now trace)) × (at .trace ≡ 0) ⌝ }
     ensures { λ r. ⌜ Ran (visitBody (now (image .entry)) (opening (now (image .entry)) left) mainFrame) (now (out .entry)) at (now (trace .entry)) r (now (out .exit)) (now (trace .exit)) ⌝ }
 {
-    let mut table = [0u64; 16368];
-    let frame = main_frame();
+    let variables = [0u64; 96];
+    let formals = [0u64; 16];
     let n = l.main;
     let mut now = at;
     let mut s = 0u64;
@@ -507,8 +530,9 @@ fn visit_program(
             l,
             qubits,
             bits,
-            &mut table,
-            frame,
+            table,
+            &variables,
+            &formals,
             s,
             left,
             out,
@@ -525,6 +549,62 @@ fn visit_program(
         s += 1;
     }
     Linearized::Done(now)
+}
+
+// The main statements, with a table for the values of at most 64 expressions.
+fn visit_few_expressions(
+    image: &[u64],
+    l: Layout,
+    qubits: &[u64],
+    bits: &[u64],
+    left: u64,
+    out: &mut [u64],
+    trace: &mut [u64],
+    at: Position,
+) -> Linearized
+    requires { ⌜ Tabled (now image) l (now qubits) (now bits) × Open (now out) at × (256 ≤ length (now trace)) × (at .trace ≡ 0) × (l .expressions ≤ 64) ⌝ }
+    ensures { λ r. ⌜ Ran (visitBody (now (image .entry)) (opening (now (image .entry)) left) mainFrame) (now (out .entry)) at (now (trace .entry)) r (now (out .exit)) (now (trace .exit)) ⌝ }
+{
+    let mut table = [0u64; 448];
+    visit_program(image, l, qubits, bits, &mut table, left, out, trace, at)
+}
+
+// The same with a table for as many expressions as an image may have.
+fn visit_many_expressions(
+    image: &[u64],
+    l: Layout,
+    qubits: &[u64],
+    bits: &[u64],
+    left: u64,
+    out: &mut [u64],
+    trace: &mut [u64],
+    at: Position,
+) -> Linearized
+    requires { ⌜ Tabled (now image) l (now qubits) (now bits) × Open (now out) at × (256 ≤ length (now trace)) × (at .trace ≡ 0) ⌝ }
+    ensures { λ r. ⌜ Ran (visitBody (now (image .entry)) (opening (now (image .entry)) left) mainFrame) (now (out .entry)) at (now (trace .entry)) r (now (out .exit)) (now (trace .exit)) ⌝ }
+{
+    let mut table = [0u64; 19096];
+    visit_program(image, l, qubits, bits, &mut table, left, out, trace, at)
+}
+
+// The main statements, with a table for the values of expressions: a small program should not pay for clearing the long one.
+fn visit_tabled(
+    image: &[u64],
+    l: Layout,
+    qubits: &[u64],
+    bits: &[u64],
+    left: u64,
+    out: &mut [u64],
+    trace: &mut [u64],
+    at: Position,
+) -> Linearized
+    requires { ⌜ Tabled (now image) l (now qubits) (now bits) × Open (now out) at × (256 ≤ length (now trace)) × (at .trace ≡ 0) ⌝ }
+    ensures { λ r. ⌜ Ran (visitBody (now (image .entry)) (opening (now (image .entry)) left) mainFrame) (now (out .entry)) at (now (trace .entry)) r (now (out .exit)) (now (trace .exit)) ⌝ }
+{
+    if l.expressions <= 64 {
+        return visit_few_expressions(image, l, qubits, bits, left, out, trace, at);
+    }
+    visit_many_expressions(image, l, qubits, bits, left, out, trace, at)
 }
 
 // The levels that are opened at a depth: depths 0 and 1 open none.
@@ -550,7 +630,7 @@ fn visit_few_registers(
     image::first_of_each(image, 9, l.quantum, &mut qubits);
     let mut bits = [0u64; 64];
     image::first_of_each(image, 9 + l.quantum, l.classical, &mut bits);
-    visit_program(image, l, &qubits, &bits, left, out, trace, at)
+    visit_tabled(image, l, &qubits, &bits, left, out, trace, at)
 }
 
 // The same with tables for as many registers as an image may have.
@@ -569,7 +649,7 @@ fn visit_many_registers(
     image::first_of_each(image, 9, l.quantum, &mut qubits);
     let mut bits = [0u64; 4096];
     image::first_of_each(image, 9 + l.quantum, l.classical, &mut bits);
-    visit_program(image, l, &qubits, &bits, left, out, trace, at)
+    visit_tabled(image, l, &qubits, &bits, left, out, trace, at)
 }
 
 // The main statements, with tables of where registers start: a small program should not pay for clearing the long ones.

@@ -1,39 +1,45 @@
 use Prim.Native.Nat.{_-_}
 use borrow.Author.Needs.{needs}
-use Rattle.linearize.proofs.RanLaws.{ran-then, ran-stops, ran-lengths}
+use Rattle.linearize.proofs.RanLaws.{ran-then, ran-stops}
 use Rattle.linearize.proofs.CycleLaws.{ran-open}
 use Rattle.linearize.proofs.visit_held.Statement.{statement}
 use Rattle.linearize.proofs.visit_held.Tie as tie
 
 visit-statement-requires : tie.Need-visit-statement-requires
-visit-statement-requires c κs = (c .before .before .before .before .before .before .before .before .pre .0, c .before .before .before .before .before .before .before .before .pre .1, c .before .before .before .before .before .before .before .before .pre .2)
+visit-statement-requires c κs = search needs
 
 enum-known-next : tie.Need-enum-known-next
 enum-known-next c = search needs
 
 write-conditional-end-requires : tie.Need-write-conditional-end-requires
-write-conditional-end-requires c κs = ran-open (c .before .before .before .before .before .before .before .before .before .before .before .before .before .before .before .before .before .pre .0 .opens) (c .before .before .before .before .before .before .before .before .visit-statement .ensures) (c .before .before .next .given .1)
+write-conditional-end-requires c κs = ran-open (c .before .before .before .before .before .before .before .before .before .before .before .before .before .before .before .before .before .before .before .before .pre .0 .opens) (c .before .before .before .before .before .before .before .before .before .before .visit-statement .ensures .0) (c .before .before .next .given .1)
 
 enum-known-e : tie.Need-enum-known-e
 enum-known-e c = search needs
 
-returns : tie.Need-returns
-returns c = ran-then (c .before .before .before .before .before .before .before .before .before .before .before .visit-statement .ensures) (c .before .before .before .before .before .next .given .1) (c .before .before .write-conditional-end .ensures)
+same-length : tie.Need-same-length
+same-length c = search needs
 
 same-length-2 : tie.Need-same-length-2
-same-length-2 c = ran-lengths (returns c) .1
-
-same-length : tie.Need-same-length
-same-length c = ran-lengths (returns c) .0
-
-returns-2 : tie.Need-returns-2
-returns-2 c = ran-stops _ (c .before .before .before .before .before .before .before .visit-statement .ensures) (c .before .e .given .1)
-
-same-length-4 : tie.Need-same-length-4
-same-length-4 c = ran-lengths (returns-2 c) .1
+same-length-2 c = search needs
 
 same-length-3 : tie.Need-same-length-3
-same-length-3 c = ran-lengths (returns-2 c) .0
+same-length-3 c = search needs
+
+returns : tie.Need-returns
+returns c = (ran-then (c .before .before .before .before .before .before .before .before .before .before .before .before .before .visit-statement .ensures .0) (c .before .before .before .before .before .next .given .1) (c .before .before .write-conditional-end .ensures), c .before .before .before .before .before .before .before .before .before .before .before .before .before .visit-statement .ensures .1)
+
+same-length-4 : tie.Need-same-length-4
+same-length-4 c = search needs
+
+same-length-5 : tie.Need-same-length-5
+same-length-5 c = search needs
+
+same-length-6 : tie.Need-same-length-6
+same-length-6 c = search needs
+
+returns-2 : tie.Need-returns-2
+returns-2 c = (ran-stops _ (c .before .before .before .before .before .before .before .before .before .visit-statement .ensures .0) (c .before .e .given .1), c .before .before .before .before .before .before .before .before .before .visit-statement .ensures .1)
 
 pub visit-held-spec : {M : Type 1} → statement M
 visit-held-spec =
@@ -45,7 +51,9 @@ visit-held-spec =
     enum-known-e
     same-length
     same-length-2
-    returns
     same-length-3
+    returns
     same-length-4
+    same-length-5
+    same-length-6
     returns-2)

@@ -1,9 +1,8 @@
-use native.Mathlib.Omega.{arith}
 use Prim.Native.Nat.{_-_}
 use mathlib.Core.Path.{ap, _∙_}
 use borrow.Author.Needs.{needs}
 use denote.Ref.{now}
-use Rattle.linearize.proofs.RanLaws.{ran-lengths, ran-steps}
+use Rattle.linearize.proofs.RanLaws.{ran-steps}
 use Rattle.linearize.proofs.CycleLaws.{kind-read}
 use Rattle.linearize.proofs.BodyLaws.{statement-steps}
 use Rattle.linearize.proofs.ProgramLaws.{plain-in-main}
@@ -12,34 +11,40 @@ use Rattle.linearize.proofs.visit_main.Statement.{statement}
 use Rattle.linearize.proofs.visit_main.Tie as tie
 
 statement-at-requires : tie.Need-statement-at-requires
-statement-at-requires c κs = (c .before .before .before .before .before .pre .0 .stands .laid, omega (arith, c .before .before .before .before .before .pre .1, c .before .before .before .before .before .pre .0 .stands .laid .all-is, c .before .before .before .before .before .pre .0 .stands .laid .whole, c .before .before .before .before .before .pre .0 .stands .laid .short))
+statement-at-requires c κs = search needs
 
 word-requires : tie.Need-word-requires
 word-requires c κs = search needs
 
 visit-conditional-requires : tie.Need-visit-conditional-requires
-visit-conditional-requires c κs = (c .before .before .before .before .before .before .before .before .before .before .before .pre .0, c .before .before .before .before .before .before .before .before .before .before .before .pre .1, c .before .before .before .before .before .before .before .before .before .before .before .pre .2, kind-read (now (c .before .before .before .before .before .before .before .before .before .before .before .args .image)) (c .before .before .before .before .before .before .before .before .before .before .before .args .s) (c .before .before .before .before .before .statement-at .ensures) (c .before .before .before .before .word .ensures) (c .before .before .before .if1 .taken))
+visit-conditional-requires c κs = (c .before .before .before .before .before .before .before .before .before .before .before .before .pre .0, c .before .before .before .before .before .before .before .before .before .before .before .before .pre .1, c .before .before .before .before .before .before .before .before .before .before .before .before .pre .2, kind-read (now (c .before .before .before .before .before .before .before .before .before .before .before .before .args .image)) (c .before .before .before .before .before .before .before .before .before .before .before .before .args .s) (c .before .before .before .before .before .statement-at .ensures) (c .before .before .before .before .word .ensures) (c .before .before .before .if1 .taken))
 
 same-length : tie.Need-same-length
-same-length c = ran-lengths (c .before .before .before .before .visit-conditional .ensures) .0
+same-length c = search needs
 
 same-length-2 : tie.Need-same-length-2
-same-length-2 c = ran-lengths (c .before .before .before .before .visit-conditional .ensures) .1
-
-returns : tie.Need-returns
-returns c = c .before .before .before .before .visit-conditional .ensures
-
-visit-statement-requires : tie.Need-visit-statement-requires
-visit-statement-requires c κs = (c .before .before .before .before .before .before .before .before .before .before .before .pre .0, c .before .before .before .before .before .before .before .before .before .before .before .pre .1, plain-in-main _ _ (λ e. c .before .before .before .if1 .left (c .before .before .before .before .word .ensures ∙ ap (word (now (c .before .before .before .before .before .before .before .before .before .before .before .args .image))) (c .before .before .before .before .before .statement-at .ensures) ∙ e)) (c .before .before .before .before .before .before .before .before .before .before .before .pre .2))
+same-length-2 c = search needs
 
 same-length-3 : tie.Need-same-length-3
-same-length-3 c = ran-lengths (c .before .before .before .before .visit-statement .ensures) .0
+same-length-3 c = search needs
+
+returns : tie.Need-returns
+returns c = search needs
+
+visit-statement-requires : tie.Need-visit-statement-requires
+visit-statement-requires c κs = (c .before .before .before .before .before .before .before .before .before .before .before .before .pre .0, c .before .before .before .before .before .before .before .before .before .before .before .before .pre .1, plain-in-main _ _ (λ e. c .before .before .before .if1 .left (c .before .before .before .before .word .ensures ∙ ap (word (now (c .before .before .before .before .before .before .before .before .before .before .before .before .args .image))) (c .before .before .before .before .before .statement-at .ensures) ∙ e)) (c .before .before .before .before .before .before .before .before .before .before .before .before .pre .2))
 
 same-length-4 : tie.Need-same-length-4
-same-length-4 c = ran-lengths (c .before .before .before .before .visit-statement .ensures) .1
+same-length-4 c = search needs
+
+same-length-5 : tie.Need-same-length-5
+same-length-5 c = search needs
+
+same-length-6 : tie.Need-same-length-6
+same-length-6 c = search needs
 
 returns-2 : tie.Need-returns-2
-returns-2 c = ran-steps (statement-steps _ 0 _ _ _ (plain-in-main _ _ (λ e. c .before .before .before .before .before .before .before .before .if1 .left (c .before .before .before .before .before .before .before .before .before .word .ensures ∙ ap (word (now (c .before .before .before .before .before .before .before .before .before .before .before .before .before .before .before .before .args .image))) (c .before .before .before .before .before .before .before .before .before .before .statement-at .ensures) ∙ e)) (c .before .before .before .before .before .before .before .before .before .before .before .before .before .before .before .before .pre .2))) (c .before .before .before .before .visit-statement .ensures)
+returns-2 c = (ran-steps (statement-steps _ 0 _ _ _ (plain-in-main _ _ (λ e. c .before .before .before .before .before .before .before .before .before .before .if1 .left (c .before .before .before .before .before .before .before .before .before .before .before .word .ensures ∙ ap (word (now (c .before .before .before .before .before .before .before .before .before .before .before .before .before .before .before .before .before .before .before .args .image))) (c .before .before .before .before .before .before .before .before .before .before .before .before .statement-at .ensures) ∙ e)) (c .before .before .before .before .before .before .before .before .before .before .before .before .before .before .before .before .before .before .before .pre .2))) (c .before .before .before .before .before .before .visit-statement .ensures .0), c .before .before .before .before .before .before .visit-statement .ensures .1)
 
 pub visit-main-spec : {M : Type 1} → statement M
 visit-main-spec =
@@ -50,8 +55,10 @@ visit-main-spec =
     visit-conditional-requires
     same-length
     same-length-2
+    same-length-3
     returns
     visit-statement-requires
-    same-length-3
     same-length-4
+    same-length-5
+    same-length-6
     returns-2)

@@ -24,14 +24,14 @@ first-of-each-requires-2 c κs =
     let s = c .before .before .before .before .before .before .before .before in
     classical-fits (s .pre .0) (s .pre .1)
 
-slice-aggregate-visit-program : tie.Need-slice-aggregate-visit-program
-slice-aggregate-visit-program c = search needs
+slice-aggregate-visit-tabled : tie.Need-slice-aggregate-visit-tabled
+slice-aggregate-visit-tabled c = search needs
 
-slice-aggregate-visit-program-2 : tie.Need-slice-aggregate-visit-program-2
-slice-aggregate-visit-program-2 c = search needs
+slice-aggregate-visit-tabled-2 : tie.Need-slice-aggregate-visit-tabled-2
+slice-aggregate-visit-tabled-2 c = search needs
 
-visit-program-requires : tie.Need-visit-program-requires
-visit-program-requires c κs =
+visit-tabled-requires : tie.Need-visit-tabled-requires
+visit-tabled-requires c κs =
     let b = c .before .before .before .before .before in
     let q = b .before .before .before .before in
     let s = q .before .before .before .before .before in
@@ -55,9 +55,9 @@ visit-many-registers-spec =
     add-first-of-each
     slice-aggregate-first-of-each-2
     first-of-each-requires-2
-    slice-aggregate-visit-program
-    slice-aggregate-visit-program-2
-    visit-program-requires
+    slice-aggregate-visit-tabled
+    slice-aggregate-visit-tabled-2
+    visit-tabled-requires
     same-length
     same-length-2
     returns)

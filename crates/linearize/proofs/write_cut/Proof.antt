@@ -2,28 +2,39 @@ use native.Mathlib.Omega.{arith}
 use denote.Ref.{now}
 use borrow.Author.Needs.{needs}
 use Rattle.linearize.proofs.StatementLaws.{read-at, near-gate, cut-is}
+use Rattle.linearize.proofs.ProgramLaws.{sound-zeros}
 use Rattle.linearize.proofs.write_cut.Statement.{statement}
 use Rattle.linearize.proofs.write_cut.Tie as tie
 
 gate-at-requires : tie.Need-gate-at-requires
-gate-at-requires c κs = (c .before .before .pre .0, omega (arith, c .before .before .pre .3, c .before .before .pre .0 .gates-is, c .before .before .pre .0 .few-gates))
+gate-at-requires c κs = (c .before .before .pre .0, omega (arith, c .before .before .pre .2, c .before .before .pre .0 .gates-is, c .before .before .pre .0 .few-gates))
+
+zero-requires : tie.Need-zero-requires
+zero-requires c κs = search needs
 
 add-word : tie.Need-add-word
-add-word c = record { fits = omega (arith, near-gate (c .before .before .before .before .before .before .pre .0) _ (c .before .before .before .before .before .before .pre .3) (c .before .before .before .gate-at .ensures)) }
+add-word c = record { fits = omega (arith, near-gate (c .before .before .before .before .before .pre .0) _ (c .before .before .before .before .before .pre .2) (c .before .before .gate-at .ensures)) }
 
 word-requires : tie.Need-word-requires
 word-requires c κs = search needs
 
 write-opaque-requires : tie.Need-write-opaque-requires
-write-opaque-requires c κs = (c .before .before .before .before .before .before .before .pre .5, c .before .before .before .before .before .before .before .pre .1, c .before .before .before .before .before .before .before .pre .2, omega arith, omega (arith, c .before .before .before .before .before .before .before .pre .4, read-at (now (c .before .before .before .before .before .before .before .args .image)) 1 (c .before .before .before .before .gate-at .ensures) (c .word .ensures)))
+write-opaque-requires c κs = (c .before .before .before .before .before .before .pre .4, sound-zeros (c .before .before .zero .ensures .1), c .before .before .before .before .before .before .pre .1, omega arith, omega (arith, c .before .before .before .before .before .before .pre .3, read-at (now (c .before .before .before .before .before .before .args .image)) 1 (c .before .before .before .gate-at .ensures) (c .word .ensures)))
 
 same-length : tie.Need-same-length
 same-length c = c .before .before .write-opaque .ensures .plays .same
 
 returns : tie.Need-returns
-returns c = cut-is _ _ (read-at (now (c .before .before .before .before .before .before .before .before .before .before .args .image)) 1 (c .before .before .before .before .before .before .before .gate-at .ensures) (c .before .before .before .word .ensures)) (c .before .before .write-opaque .ensures)
+returns c = cut-is _ _ (read-at (now (c .before .before .before .before .before .before .before .before .before .args .image)) 1 (c .before .before .before .before .before .before .gate-at .ensures) (c .before .before .before .word .ensures)) (c .before .before .write-opaque .ensures)
 
 pub write-cut-spec : {M : Type 1} → statement M
 write-cut-spec =
     tie.close
-    (tie.spec gate-at-requires add-word word-requires write-opaque-requires same-length returns)
+    (tie.spec
+    gate-at-requires
+    zero-requires
+    add-word
+    word-requires
+    write-opaque-requires
+    same-length
+    returns)
