@@ -130,13 +130,14 @@ listing-empty bytes h = go (eqb (length bytes % 8) 0)
     go true = rw (lt-leb 8 (length bytes) h) refl
     go false = refl
 
-parted : (bytes : List ℕ) {k m : ℕ} → k ≡ suc m → runText (runs (wordsOf m (drop 8 bytes)) (littleEndian (take 8 bytes)) 8192 256) ≡ runText (runs (drop 1 (wordsOf k bytes)) (getD (wordsOf k bytes) 0 0) 8192 256)
+-- the depth and the image behind it
+pub parted : {A : Type 0} (f : List ℕ → ℕ → A) (bytes : List ℕ) {k m : ℕ} → k ≡ suc m → f (wordsOf m (drop 8 bytes)) (littleEndian (take 8 bytes)) ≡ f (drop 1 (wordsOf k bytes)) (getD (wordsOf k bytes) 0 0)
 unfolding wordsOf
-parted bytes e = rw e refl
+parted f bytes e = rw e refl
 
 pub listing-run : (bytes : List ℕ) → length bytes % 8 ≡ 0 → 8 ≤ length bytes → imageText bytes ≡ listing bytes
 unfolding listing
-listing-run bytes h k = rw (eq-eqb (length bytes % 8) 0 h, le-leb 8 (length bytes) k) (parted bytes (omega arith))
+listing-run bytes h k = rw (eq-eqb (length bytes % 8) 0 h, le-leb 8 (length bytes) k) (parted (λ (l : List ℕ) (n : ℕ). runText (runs l n 8192 256)) bytes (omega arith))
 
 pub cut-below : (n : ℕ) → n < 8193 → n ≡ cond (ltb n 8193) n 8193
 cut-below n h = rw (lt-ltb n 8193 h) refl
