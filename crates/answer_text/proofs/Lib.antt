@@ -1,2 +1,4 @@
 pub mod NumberLaws
 pub mod ImageLaws
+pub mod FrontLaws
+pub mod LastLaws

@@ -53,7 +53,7 @@ word-is l at h e f =
 
 -- ---- words
 
-length-words : (n : ℕ) (bytes : List ℕ) → length (wordsOf n bytes) ≡ n
+pub length-words : (n : ℕ) (bytes : List ℕ) → length (wordsOf n bytes) ≡ n
 unfolding wordsOf
 length-words zero bytes = refl
 length-words (suc n) bytes = ap suc (length-words n (drop 8 bytes))
