@@ -15,7 +15,6 @@ use Rattle.writer.proofs.WriteLaws.{flat-append}
 use Rattle.listing_text.specs.Put.{Put, PutMost}
 use Rattle.listing_text.specs.WordText.{recordLine}
 use Rattle.listing_text.proofs.PutLaws.{put-none, put-same, put-then, put-length}
-use Rattle.answer_text.specs.declared.Front.{Front}
 use Rattle.answer_text.specs.Reading.{ReadFront}
 
 -- ---- what stands at a position

@@ -1,5 +1,5 @@
 -- The answers to an image, from what was read of it.
-use Prim.Native.Nat.{ℕ, suc, _-_, _/_, _%_, _≤_, _<_}
+use Prim.Native.Nat.{ℕ, _-_, _/_, _%_, _≤_, _<_}
 use native.Mathlib.Omega.{arith}
 use mathlib.Core.Path.{_≡_, refl, sym, ap, _∙_}
 use mathlib.Core.Bool.{Bool, true, false, _&&_, cond}
@@ -10,7 +10,7 @@ use lib.ListN.{length, getD, take, drop, replicate}
 use lib.Seq.{sets}
 use Rattle.model.specs.Lists.{range, all}
 use Rattle.model.specs.Check.{Verdict, fine, bad, check}
-use Rattle.model.specs.Tally.{TallyAnswer, tallied, refused, figures, ifAccepted, tally}
+use Rattle.model.specs.Tally.{tallied, refused, figures, ifAccepted, tally}
 use Rattle.model.specs.Listing.{littleEndian, wordsOf}
 use Rattle.unit.specs.Exports.{checkWords, tallyWords}
 use Rattle.listing_text.specs.Put.{Put}

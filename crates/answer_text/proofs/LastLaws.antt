@@ -2,17 +2,16 @@
 use Prim.Native.Nat.{ℕ, _+_, _*_, _/_, _^_, _≤_, _<_, min}
 use native.Mathlib.Omega.{arith}
 use mathlib.Core.Path.{_≡_, refl, sym, ap, ap₂, _∙_}
-use mathlib.Core.Bool.{Bool, true, false, _&&_, cond}
-use mathlib.Core.List.{List, [], _∷_, _++_, map, flatMap}
+use mathlib.Core.Bool.{Bool, true, false, _&&_}
+use mathlib.Core.List.{List, [], _∷_, _++_}
 use borrow.Author.Tests.{eq-eqb, ne-eqb, lt-ltb, le-ltb}
-use lib.Dec.{eqb, ltb}
+use lib.Dec.{ltb}
 use lib.ListN.{length, take, drop, replicate, length-append, length-replicate}
 use lib.Seq.{sets}
-use Rattle.model.specs.Lists.{sum}
 use Rattle.model.specs.Reader.{recordsIn}
 use Rattle.model.specs.Listing.{ascii, decimal, line, wordsOf}
 use Rattle.listing_text.specs.Put.{Room, Put}
-use Rattle.listing_text.specs.WordText.{recordLine, twoText}
+use Rattle.listing_text.specs.WordText.{twoText}
 use Rattle.listing_text.proofs.PutLaws.{put-same, put-then, put-length}
 use Rattle.listing_text.proofs.DigitLaws.{decimal-short}
 use Rattle.listing_text.proofs.EndLaws.{length-two}

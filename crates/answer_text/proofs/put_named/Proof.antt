@@ -3,7 +3,6 @@ use mathlib.Core.Path.{refl}
 use denote.Ref.{now}
 use Rattle.listing_text.proofs.PutLaws.{put-same, put-then, put-length, room-front, room-rest}
 use Rattle.answer_text.proofs.LastLaws.{named-is, named-room}
-use borrow.Author.Needs.{needs}
 use Rattle.answer_text.proofs.put_named.Statement.{statement}
 use Rattle.answer_text.proofs.put_named.Tie as tie
 
