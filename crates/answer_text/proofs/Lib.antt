@@ -2,3 +2,4 @@ pub mod NumberLaws
 pub mod ImageLaws
 pub mod FrontLaws
 pub mod LastLaws
+pub mod Samples

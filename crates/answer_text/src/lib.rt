@@ -42,6 +42,7 @@ fn put_check(text: &mut [u8], input: &[u8]) -> usize
     put_numbers(text, &answer)
 }
 
+// The check's answer.
 fn put_check_answer(text: &mut [u8], input: &[u8]) -> usize
     requires { ⌜ 256 ≤ length (now text) ⌝ }
     ensures { λ r. ⌜ Put (checkAnswer (now (input .entry))) (now (text .entry)) 0 r (now (text .exit)) ⌝ }
@@ -83,6 +84,7 @@ fn put_malformed(text: &mut [u8]) -> usize
     put_numbers(text, &[1, 0, 0, 0, 0, 0, 0, 0, 0, 0, 0])
 }
 
+// The tally's answer.
 fn put_tally_answer(text: &mut [u8], input: &[u8]) -> usize
     requires { ⌜ 256 ≤ length (now text) ⌝ }
     ensures { λ r. ⌜ Put (tallyAnswer (now (input .entry))) (now (text .entry)) 0 r (now (text .exit)) ⌝ }
@@ -186,7 +188,8 @@ fn within(n: usize) -> usize
     if n < 65536 { n } else { 65536 }
 }
 
-fn put_back(text: &mut [u8], input: &[u8]) -> usize
+// The records of some input, and the last line.
+fn put_read_back(text: &mut [u8], input: &[u8]) -> usize
     requires { ⌜ 1441792 ≤ length (now text) ⌝ }
     ensures { λ r. ⌜ Put (readBack (now (input .entry))) (now (text .entry)) 0 r (now (text .exit)) ⌝ }
 {
@@ -197,9 +200,9 @@ fn put_back(text: &mut [u8], input: &[u8]) -> usize
     put_last(text, front.end, input.len(), front.words, front.records)
 }
 
-// The records of some input, laid over a text, and the text's length.
+// Some input read back, laid over a text, and its length.
 pub fn read_back(input: &[u8], text: &mut [u8; 1441792]) -> usize
     ensures { λ r. ⌜ InFront (readBack (now (input .entry))) (now (text .entry)) r (now (text .exit)) ⌝ }
 {
-    put_back(text, input)
+    put_read_back(text, input)
 }

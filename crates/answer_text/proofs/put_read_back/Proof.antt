@@ -4,8 +4,8 @@ use lib.ListN.{replicate}
 use Rattle.listing_text.proofs.PutLaws.{put-length}
 use Rattle.listing_text.proofs.InputLaws.{read-inside, read-length}
 use Rattle.answer_text.proofs.LastLaws.{within-fits, within-inside, front-lines-room, last-room, back-put}
-use Rattle.answer_text.proofs.put_back.Statement.{statement}
-use Rattle.answer_text.proofs.put_back.Tie as tie
+use Rattle.answer_text.proofs.put_read_back.Statement.{statement}
+use Rattle.answer_text.proofs.put_read_back.Tie as tie
 
 within-requires : tie.Need-within-requires
 within-requires c κs = tt
@@ -58,8 +58,8 @@ returns c =
 same-length : tie.Need-same-length
 same-length c = put-length (returns c)
 
-pub put-back-spec : {M : Type 1} → statement M
-put-back-spec =
+pub put-read-back-spec : {M : Type 1} → statement M
+put-read-back-spec =
     tie.close
     (tie.spec
     within-requires
