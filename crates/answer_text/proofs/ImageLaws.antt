@@ -57,7 +57,7 @@ check-whole bytes h = rw (eq-eqb (length bytes % 8) 0 h) refl
 
 -- ---- the tally
 
-long-tally : (depth : ℕ) (image : List ℕ) → 8192 < length image → tally image depth ≡ refused 1 0
+pub long-tally : (depth : ℕ) (image : List ℕ) → 8192 < length image → tally image depth ≡ refused 1 0
 unfolding tally ifAccepted
 long-tally depth image h = rw (too-long image h) refl
 

@@ -1,6 +1,6 @@
 -- Answers computed: the shortest inputs, and the last line around 65,536 words.
 use mathlib.Core.Path.{_≡_, refl}
-use mathlib.Core.List.{[], _∷_, _++_, map, flatMap}
+use mathlib.Core.List.{[], _∷_, _++_, flatMap}
 use Rattle.model.specs.Lists.{sum, every}
 use Rattle.model.specs.Check.{contentsOk, check}
 use Rattle.model.specs.Reader.{recordLength, nextAt, found, recordsFrom, recordsIn}

@@ -29,16 +29,16 @@ tallyAnswer bytes =
 
 -- ---- records read back
 
--- The last line for an input of n bytes, of whose words r records were read and the next one would stand at word p: `more` if the input is longer than 65,536 words, so that only these were looked at, and a record was read; `end` if the records are the whole input; else 17 where no whole record stands.
+-- The last line for an input of n bytes, of which r records were read, up to word p. `more`: only the first 65,536 words of a longer input were looked at, and the next record starts at p. `end`: the records are the whole input. Else 17 at p, where no whole record stands; so too if a longer input begins with none.
 unfoldable pub lastLine : ℕ → ℕ → ℕ → List ℕ
 lastLine n p r =
     cond (ltb 524288 n && ltb 0 r) (line (ascii "more" ∷ decimal p ∷ decimal r ∷ []))
     (cond (eqb (8 * p) n) (line (ascii "end" ∷ decimal r ∷ [])) (line (ascii "refused" ∷ decimal 17 ∷ decimal p ∷ [])))
 
--- The records of some words from the first on, each as its line in the listing, and the last line. Where they end is where the next one would stand.
+-- Records, each as its line in the listing, and the last line: they end where their words do.
 unfoldable pub recordsText : ℕ → List (List ℕ) → List ℕ
 recordsText n records = flatMap recordLine records ++ lastLine n (sum (map length records)) (length records)
 
--- Of an input: the records of its whole words, of the first 65,536 at most.
+-- Of an input: the records of its whole words from the first on, of 65,536 words at most.
 unfoldable pub readBack : List ℕ → List ℕ
 readBack bytes = recordsText (length bytes) (recordsIn (wordsOf (min (length bytes / 8) 65536) bytes))
