@@ -18,27 +18,10 @@ fn text_room() -> [u8; 262144]
     [0; 262144]
 }
 
-// Reads more of standard input; whether there was any.
-fn read_more() -> bool {
-    let mut rest = io::large_buffer();
-    io::read_full(STDIN_FILENO, &mut rest) != 0
-}
-
-// Reads what is left of standard input, so that no writer is cut off.
-fn read_rest() {
-    let mut turns = 18446744073709551615u64;
-    while turns > 0 {
-        if !read_more() {
-            return;
-        }
-        turns -= 1;
-    }
-}
-
 fn main() {
     let mut input = input_room();
     let n = io::read_full(STDIN_FILENO, &mut input);
-    read_rest();
+    standard_input::read_rest();
     let mut text = text_room();
     let end = listing_text::listing_text(&input[..n], &mut text);
     io::write_all(STDOUT_FILENO, &text[..end]);

@@ -53,7 +53,7 @@ refused-is n = refl
 
 -- ---- room for them
 
-length-two : (a b : ℕ) → a < 2 ^ 64 → b < 2 ^ 64 → length (twoText a b) ≤ 43
+pub length-two : (a b : ℕ) → a < 2 ^ 64 → b < 2 ^ 64 → length (twoText a b) ≤ 43
 length-two a b h k =
     omega (
       arith,

@@ -8,13 +8,13 @@ use mathlib.Core.Bool.{Bool, true, false, _&&_, cond}
 use mathlib.Core.List.{List, [], _∷_, _++_}
 use borrow.Author.Tests.{lt-ltb, le-ltb, lt-leb, le-leb, eq-eqb, ne-eqb, ltb-true, ltb-false}
 use lib.Dec.{eqb, ltb, leb}
-use lib.ListN.{length, getD, take, drop, set}
+use lib.ListN.{length, getD, take, drop, set, replicate, length-replicate}
 use lib.Seq.{sets, sets-eq, length-sets, length-take-le, drop-cons, drop-drop}
 use Rattle.model.specs.Lists.{every}
-use Rattle.model.specs.Check.{contentsOk, check}
+use Rattle.model.specs.Check.{bad, contentsOk, check}
 use Rattle.model.specs.Run.{stop, rejected, accepted, runs, numbers}
 use Rattle.model.specs.Listing.{littleEndian, wordsOf, refusedText, runText, listing}
-use Rattle.listing_text.specs.Put.{Put, imageText, Listed}
+use Rattle.listing_text.specs.Put.{Put, imageText, InFront}
 use Rattle.writer.proofs.WriteLaws.{put-more, front}
 use Rattle.listing_text.proofs.PutLaws.{put-same, put-length}
 
@@ -53,7 +53,7 @@ word-is l at h e f =
 
 -- ---- words
 
-length-words : (n : ℕ) (bytes : List ℕ) → length (wordsOf n bytes) ≡ n
+pub length-words : (n : ℕ) (bytes : List ℕ) → length (wordsOf n bytes) ≡ n
 unfolding wordsOf
 length-words zero bytes = refl
 length-words (suc n) bytes = ap suc (length-words n (drop 8 bytes))
@@ -65,44 +65,56 @@ words-snoc (suc n) bytes =
     let e : 8 * suc n ≡ 8 + 8 * n = omega arith in
     rw (e, sym (drop-drop (8 * n) 8 bytes)) (ap (λ (l : List ℕ). littleEndian (take 8 bytes) ∷ l) (words-snoc n (drop 8 bytes)))
 
-pub words-more : {ws′ : List ℕ} (ws input : List ℕ) (i : ℕ) {w : ℕ} → ws′ ≡ sets ws 0 (wordsOf i (drop 8 input)) → w ≡ littleEndian (take 8 (drop (8 + 8 * i) input))
-    → set ws′ i w ≡ sets ws 0 (wordsOf (i + 1) (drop 8 input))
-words-more ws input i {w} e f =
-    put-more ws 0 i (wordsOf i (drop 8 input)) (w ∷ []) (omega (arith, length-words i (drop 8 input))) e refl
-    ∙ rw (add-one i, words-snoc i (drop 8 input), drop-drop (8 * i) 8 input, f) refl
+pub words-more : {ws′ : List ℕ} (ws input : List ℕ) (from i : ℕ) {w : ℕ} → ws′ ≡ sets ws 0 (wordsOf i (drop from input)) → w ≡ littleEndian (take 8 (drop (from + 8 * i) input))
+    → set ws′ i w ≡ sets ws 0 (wordsOf (i + 1) (drop from input))
+words-more ws input from i {w} e f =
+    put-more ws 0 i (wordsOf i (drop from input)) (w ∷ []) (omega (arith, length-words i (drop from input))) e refl
+    ∙ rw (add-one i, words-snoc i (drop from input), drop-drop (8 * i) from input, f) refl
 
-pub words-none : (ws input : List ℕ) → ws ≡ sets ws 0 (wordsOf 0 (drop 8 input))
+pub words-none : (ws bytes : List ℕ) → ws ≡ sets ws 0 (wordsOf 0 bytes)
 unfolding wordsOf
-words-none ws input = refl
+words-none ws bytes = refl
 
 -- ---- an image that is too long
 
-too-long : (image : List ℕ) (depth : ℕ) → 8192 < length image → runs image depth 8192 256 ≡ stop (rejected 1 0)
-unfolding runs accepted check contentsOk every
-too-long image depth h = rw (lt-leb (length image) 8192 h, le-leb 9 (length image) (omega arith)) refl
+pub too-long : (image : List ℕ) → 8192 < length image → check image ≡ bad 1 0
+unfolding check contentsOk every
+too-long image h = rw (lt-leb (length image) 8192 h, le-leb 9 (length image) (omega arith)) refl
 
--- of m words, the first 8,193 at most
-pub cut-runs : (m n depth : ℕ) (bytes : List ℕ) → n ≡ cond (ltb m 8193) m 8193 → runs (wordsOf n bytes) depth 8192 256 ≡ runs (wordsOf m bytes) depth 8192 256
-cut-runs m n depth bytes e = go (ltb m 8193) refl e
+-- of m words, the first 8,193 at most: the same to all that answers images that are too long alike
+pub cut-same : {A : Type 0} (f : List ℕ → A) (long : A) → ((image : List ℕ) → 8192 < length image → f image ≡ long)
+    → (m n : ℕ) (bytes : List ℕ) → n ≡ cond (ltb m 8193) m 8193 → f (wordsOf n bytes) ≡ f (wordsOf m bytes)
+cut-same f long h m n bytes e = go (ltb m 8193) refl e
   where
-    go : (b : Bool) → ltb m 8193 ≡ b → n ≡ cond b m 8193 → runs (wordsOf n bytes) depth 8192 256 ≡ runs (wordsOf m bytes) depth 8192 256
-    go true c d = ap (λ (k : ℕ). runs (wordsOf k bytes) depth 8192 256) d
+    go : (b : Bool) → ltb m 8193 ≡ b → n ≡ cond b m 8193 → f (wordsOf n bytes) ≡ f (wordsOf m bytes)
+    go true c d = ap (λ (k : ℕ). f (wordsOf k bytes)) d
     go false c d =
-        too-long (wordsOf n bytes) depth (omega (arith, length-words n bytes))
-        ∙ sym (too-long (wordsOf m bytes) depth (omega (arith, length-words m bytes, ltb-false m 8193 c)))
+        h (wordsOf n bytes) (omega (arith, length-words n bytes)) ∙ sym (h (wordsOf m bytes) (omega (arith, length-words m bytes, ltb-false m 8193 c)))
 
-pub cut-few : (m n : ℕ) → n ≡ cond (ltb m 8193) m 8193 → (n ≤ 8193) × (n ≤ m)
+long-run : (depth : ℕ) (image : List ℕ) → 8192 < length image → runs image depth 8192 256 ≡ stop (rejected 1 0)
+unfolding runs accepted
+long-run depth image h = rw (too-long image h) refl
+
+cut-few : (m n : ℕ) → n ≡ cond (ltb m 8193) m 8193 → (n ≤ 8193) × (n ≤ m)
 cut-few m n e = go (ltb m 8193) refl e
   where
     go : (b : Bool) → ltb m 8193 ≡ b → n ≡ cond b m 8193 → (n ≤ 8193) × (n ≤ m)
     go true c d = (omega (arith, ltb-true m 8193 c), omega arith)
     go false c d = (omega arith, omega (arith, ltb-false m 8193 c))
 
--- the words read, as the image's
-pub read-front : {ws′ : List ℕ} (ws input : List ℕ) (n : ℕ) → n ≤ length ws → ws′ ≡ sets ws 0 (wordsOf n (drop 8 input)) → take n ws′ ≡ wordsOf n (drop 8 input)
-read-front ws input n h e =
-    let k = length-words n (drop 8 input) in
-    ap (take n) e ∙ ap (λ (j : ℕ). take j (sets ws 0 (wordsOf n (drop 8 input)))) (sym k) ∙ front (wordsOf n (drop 8 input)) ws (omega arith)
+-- ---- words that were read
+
+module _ (ws bytes : List ℕ) {ws′ : List ℕ} {n : ℕ} (h : n ≤ length ws) (e : ws′ ≡ sets ws 0 (wordsOf n bytes)) where
+  pub read-inside : n ≤ length ws′
+  read-inside = omega (arith, ap length e, length-sets ws 0 (wordsOf n bytes))
+
+  pub read-length : n ≡ length (take n ws′)
+  read-length = sym (length-take-le n ws′ read-inside)
+
+  pub read-front : take n ws′ ≡ wordsOf n bytes
+  read-front =
+      let k = length-words n bytes in
+      ap (take n) e ∙ ap (λ (j : ℕ). take j (sets ws 0 (wordsOf n bytes))) (sym k) ∙ front (wordsOf n bytes) ws (omega arith)
 
 -- ---- the listing of an input
 
@@ -118,13 +130,14 @@ listing-empty bytes h = go (eqb (length bytes % 8) 0)
     go true = rw (lt-leb 8 (length bytes) h) refl
     go false = refl
 
-parted : (bytes : List ℕ) {k m : ℕ} → k ≡ suc m → runText (runs (wordsOf m (drop 8 bytes)) (littleEndian (take 8 bytes)) 8192 256) ≡ runText (runs (drop 1 (wordsOf k bytes)) (getD (wordsOf k bytes) 0 0) 8192 256)
+-- the depth and the image behind it
+pub parted : {A : Type 0} (f : List ℕ → ℕ → A) (bytes : List ℕ) {k m : ℕ} → k ≡ suc m → f (wordsOf m (drop 8 bytes)) (littleEndian (take 8 bytes)) ≡ f (drop 1 (wordsOf k bytes)) (getD (wordsOf k bytes) 0 0)
 unfolding wordsOf
-parted bytes e = rw e refl
+parted f bytes e = rw e refl
 
 pub listing-run : (bytes : List ℕ) → length bytes % 8 ≡ 0 → 8 ≤ length bytes → imageText bytes ≡ listing bytes
 unfolding listing
-listing-run bytes h k = rw (eq-eqb (length bytes % 8) 0 h, le-leb 8 (length bytes) k) (parted bytes (omega arith))
+listing-run bytes h k = rw (eq-eqb (length bytes % 8) 0 h, le-leb 8 (length bytes) k) (parted (λ (l : List ℕ) (n : ℕ). runText (runs l n 8192 256)) bytes (omega arith))
 
 pub cut-below : (n : ℕ) → n < 8193 → n ≡ cond (ltb n 8193) n 8193
 cut-below n h = rw (lt-ltb n 8193 h) refl
@@ -134,31 +147,30 @@ cut-above n h = rw (le-ltb n 8193 h) refl
 
 -- ---- the image read and run
 
-module _ (input ws : List ℕ) {n : ℕ} (long : length ws ≡ 8193) (e : n ≡ cond (ltb (length input / 8 - 1) 8193) (length input / 8 - 1) 8193) where
-  pub cut-inside : 8 ≤ length input → (n ≤ length ws) × (8 + 8 * n ≤ length input)
-  cut-inside h = let c = cut-few (length input / 8 - 1) n e in (omega (arith, c .0), omega (arith, c .1))
+-- room for the words, and words enough
+module _ (m : ℕ) {n : ℕ} (e : n ≡ cond (ltb m 8193) m 8193) where
+  pub cut-fits : n ≤ length (replicate {A = ℕ} 8193 0)
+  cut-fits = omega (arith, cut-few m n e .0, length-replicate {A = ℕ} 8193 0)
 
-  module _ {ws′ : List ℕ} (r : ws′ ≡ sets ws 0 (wordsOf n (drop 8 input))) where
-    pub read-inside : n ≤ length ws′
-    read-inside = omega (arith, ap length r, length-sets ws 0 (wordsOf n (drop 8 input)), cut-few (length input / 8 - 1) n e .0)
+  pub cut-inside : (input : List ℕ) (from : ℕ) → from + 8 * m ≤ length input → from + 8 * n ≤ length input
+  cut-inside input from h = omega (arith, cut-few m n e .1)
 
-    pub read-length : n ≡ length (take n ws′)
-    read-length = sym (length-take-le n ws′ read-inside)
-
-    pub image-put : {depth : ℕ} {text text′ : List ℕ} {end : ℕ} → depth ≡ littleEndian (take 8 (drop 0 input)) → Put (runText (runs (take n ws′) depth 8192 256)) text 0 end text′
-        → Put (imageText input) text 0 end text′
-    image-put {depth} d p =
-        let f : take n ws′ ≡ wordsOf n (drop 8 input) = read-front ws input n (omega (arith, cut-few (length input / 8 - 1) n e .0)) r in
-        put-same
-        (ap (λ (l : List ℕ). runText (runs l depth 8192 256)) f ∙ ap runText (cut-runs (length input / 8 - 1) n depth (drop 8 input) e)
-        ∙ ap (λ (k : ℕ). runText (runs (wordsOf (length input / 8 - 1) (drop 8 input)) k 8192 256)) d)
-        p
+pub image-put : (input : List ℕ) {n : ℕ} {ws′ : List ℕ} {depth : ℕ} {text text′ : List ℕ} {end : ℕ} → n ≡ cond (ltb (length input / 8 - 1) 8193) (length input / 8 - 1) 8193
+    → ws′ ≡ sets (replicate 8193 0) 0 (wordsOf n (drop 8 input)) → depth ≡ littleEndian (take 8 (drop 0 input)) → Put (runText (runs (take n ws′) depth 8192 256)) text 0 end text′
+    → Put (imageText input) text 0 end text′
+image-put input {n} {ws′} {depth} e r d p =
+    let f : take n ws′ ≡ wordsOf n (drop 8 input) = read-front (replicate 8193 0) (drop 8 input) (cut-fits (length input / 8 - 1) e) r in
+    put-same
+    (ap (λ (l : List ℕ). runText (runs l depth 8192 256)) f
+    ∙ ap runText (cut-same (λ (l : List ℕ). runs l depth 8192 256) (stop (rejected 1 0)) (long-run depth) (length input / 8 - 1) n (drop 8 input) e)
+    ∙ ap (λ (k : ℕ). runText (runs (wordsOf (length input / 8 - 1) (drop 8 input)) k 8192 256)) d)
+    p
 
 -- what is put from the start on is laid over
-pub listed : {input text text′ : List ℕ} {n : ℕ} → Put (listing input) text 0 n text′ → Listed input text n text′
-listed {input} {text} p =
+pub in-front : {bytes text text′ : List ℕ} {n : ℕ} → Put bytes text 0 n text′ → InFront bytes text n text′
+in-front {bytes} {text} p =
     record {
-      contents = p .contents ∙ sets-eq (listing input) text 0 (omega (arith, p .ends, p .fits)) ∙ rw zero-add refl;
+      contents = p .contents ∙ sets-eq bytes text 0 (omega (arith, p .ends, p .fits)) ∙ rw zero-add refl;
       count = omega (arith, p .ends);
       inside = omega (arith, p .fits, put-length p);
     }

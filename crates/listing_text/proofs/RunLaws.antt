@@ -17,6 +17,7 @@ use Rattle.model.proofs.AnglesSound.{step-claims}
 use Rattle.model.proofs.ReadBack.{reads-back}
 use Rattle.model.proofs.Outcome.{recordsOf, plays-fair, Ran, none, plays, ran-either, claims}
 use Rattle.writer.specs.declared.Linearized.{Linearized}
+use Rattle.writer.specs.declared.Position.{Position}
 use Rattle.writer.specs.declared.LinearizeErrorKind.{LinearizeErrorKind}
 use Rattle.writer.specs.declared.LinearizeErrorKind.the-variants as kind
 use Rattle.writer.specs.declared.Linearized.the-variants as linearized
@@ -116,7 +117,13 @@ module _ {image : List ℕ} {depth : ℕ} {out trace : List ℕ} {r : Linearized
 
   -- ---- with an output of 8,192 words and a trace of 256, into a text that is long enough
 
-  module _ (eo : length out ≡ 8192) (et : length trace ≡ 256) {n : ℕ} (en : n ≡ positionOf r .words) where
+  module _ (eo : length out ≡ 8192) (et : length trace ≡ 256) {at : Position} (told : at ≡ positionOf r) where
+    abbrev n : ℕ
+    n = at .words
+
+    en : n ≡ positionOf r .words
+    en = ap (λ x. x .words) told
+
     same-out : length out′ ≡ length out
     unfolding linearize
     same-out = ap (λ x. length (x .outputLeft)) (h .outcome) ∙ claims image depth out trace .lengths .0

@@ -21,10 +21,10 @@ use Rattle.listing_text.proofs.SignLaws.{no-sign, minus-sign}
 use Rattle.listing_text.proofs.LineLaws.{numerator-opaque, numerator-behind}
 
 -- words, each behind a space
-abbrev spaced : List (List ℕ) → List ℕ
+abbrev pub spaced : List (List ℕ) → List ℕ
 spaced l = flatMap (λ w. 32 ∷ w) l
 
-line-spaced : (w : List ℕ) (l : List (List ℕ)) → line (w ∷ l) ≡ w ++ (spaced l ++ 10 ∷ [])
+pub line-spaced : (w : List ℕ) (l : List (List ℕ)) → line (w ∷ l) ≡ w ++ (spaced l ++ 10 ∷ [])
 unfolding line flatMap
 line-spaced w [] = refl
 line-spaced w (v ∷ l) = ap (λ (x : List ℕ). w ++ 32 ∷ x) (line-spaced v l ∙ sym (append-assoc v (spaced l) (10 ∷ [])))

@@ -26,8 +26,11 @@ pub record PutMost (bytes : List ℕ) (most : ℕ) (text : List ℕ) (at end : �
 abbrev pub imageText : List ℕ → List ℕ
 imageText bytes = runText (runs (wordsOf (length bytes / 8 - 1) (drop 8 bytes)) (littleEndian (take 8 bytes)) 8192 256)
 
--- the listing of some input stands in front of a text, and what was behind it stands there still
-pub record Listed (input text : List ℕ) (n : ℕ) (text′ : List ℕ) : Type 0 where
-  pub contents : text′ ≡ laidOver (listing input) text
-  pub count : n ≡ length (listing input)
+-- some bytes stand in front of a text, and what was behind them stands there still
+pub record InFront (bytes text : List ℕ) (n : ℕ) (text′ : List ℕ) : Type 0 where
+  pub contents : text′ ≡ laidOver bytes text
+  pub count : n ≡ length bytes
   pub inside : n ≤ length text′
+
+abbrev pub Listed : List ℕ → List ℕ → ℕ → List ℕ → Type 0
+Listed input text n text′ = InFront (listing input) text n text′

@@ -17,7 +17,7 @@ ghost use Rattle.listing_text.specs.Put.{Room, Put, PutMost, imageText, 
 ghost use Rattle.listing_text.specs.WordText.{signedText, wordText, numerator, recordLine, Recorded, twoText, endText};
 
 // A byte, and the place behind it.
-fn put(text: &mut [u8], at: usize, byte: u8) -> usize
+pub fn put(text: &mut [u8], at: usize, byte: u8) -> usize
     requires { ⌜ Room (byte ∷ []) (now text) at ⌝ }
     ensures { λ r. ⌜ Put (byte ∷ []) (now (text .entry)) at r (now (text .exit)) ⌝ }
 {
@@ -28,7 +28,7 @@ fn put(text: &mut [u8], at: usize, byte: u8) -> usize
 // ---- words
 
 // A number in decimal.
-fn put_number(text: &mut [u8], at: usize, n: u64) -> usize
+pub fn put_number(text: &mut [u8], at: usize, n: u64) -> usize
     requires { ⌜ Room (decimal n) (now text) at ⌝ }
     ensures { λ r. ⌜ Put (decimal n) (now (text .entry)) at r (now (text .exit)) ⌝ }
 {
@@ -52,7 +52,7 @@ fn put_signed(text: &mut [u8], at: usize, n: u64) -> usize
 }
 
 // A word behind a space, signed or not.
-fn put_word(text: &mut [u8], at: usize, n: u64, sign: bool) -> usize
+pub fn put_word(text: &mut [u8], at: usize, n: u64, sign: bool) -> usize
     requires { ⌜ Room (32 ∷ wordText sign n) (now text) at ⌝ }
     ensures { λ r. ⌜ Put (32 ∷ wordText sign n) (now (text .entry)) at r (now (text .exit)) ⌝ }
 {
@@ -89,7 +89,7 @@ fn is_numerator(words: &[u64], i: usize) -> bool
 }
 
 // A record's line.
-fn put_record(text: &mut [u8], at: usize, words: &[u64]) -> usize
+pub fn put_record(text: &mut [u8], at: usize, words: &[u64]) -> usize
     requires { ⌜ (1 ≤ length (now words)) × (at + 21 * length (now words) ≤ length (now text)) ⌝ }
     ensures { λ r. ⌜ PutMost (recordLine (now (words .entry))) (21 * length (now (words .entry))) (now (text .entry)) at r (now (text .exit)) ⌝ }
 {
@@ -120,7 +120,7 @@ fn put_records(text: &mut [u8], at: usize, words: &[u64]) -> usize
 // ---- the end
 
 // Some bytes.
-fn put_bytes(text: &mut [u8], at: usize, bytes: &[u8]) -> usize
+pub fn put_bytes(text: &mut [u8], at: usize, bytes: &[u8]) -> usize
     requires { ⌜ Room (now bytes) (now text) at ⌝ }
     ensures { λ r. ⌜ Put (now (bytes .entry)) (now (text .entry)) at r (now (text .exit)) ⌝ }
 {
@@ -134,7 +134,7 @@ fn put_bytes(text: &mut [u8], at: usize, bytes: &[u8]) -> usize
 }
 
 // The last two numbers of a line.
-fn put_two(text: &mut [u8], at: usize, a: u64, b: u64) -> usize
+pub fn put_two(text: &mut [u8], at: usize, a: u64, b: u64) -> usize
     requires { ⌜ Room (twoText a b) (now text) at ⌝ }
     ensures { λ r. ⌜ Put (twoText a b) (now (text .entry)) at r (now (text .exit)) ⌝ }
 {
@@ -203,16 +203,6 @@ fn put_end(text: &mut [u8], at: usize, r: Linearized, trace: &[u64]) -> usize
 
 // ---- a run
 
-// The output words that an answer tells.
-fn words_of(r: Linearized) -> u64
-    ensures { λ n. ⌜ n ≡ positionOf r .words ⌝ }
-{
-    match r {
-        Linearized::Done(p) => p.words,
-        Linearized::Refused(e) => e.at.words,
-    }
-}
-
 // A run of an image at a depth.
 fn put_run(text: &mut [u8], image: &[u64], depth: u64) -> usize
     requires { ⌜ 262144 ≤ length (now text) ⌝ }
@@ -221,7 +211,8 @@ fn put_run(text: &mut [u8], image: &[u64], depth: u64) -> usize
     let mut out = [0u64; 8192];
     let mut trace = [0u64; 256];
     let r = unit::run(image, depth, &mut out, &mut trace);
-    let n = words_of(r) as usize;
+    let written = unit::position_of(r);
+    let n = written.words as usize;
     let end = put_records(text, 0, &out[..n]);
     put_end(text, end, r, &trace)
 }
@@ -241,7 +232,7 @@ fn half_at(input: &[u8], at: usize) -> u64
 }
 
 // The word of eight bytes.
-fn word_at(input: &[u8], at: usize) -> u64
+pub fn word_at(input: &[u8], at: usize) -> u64
     requires { ⌜ at + 8 ≤ length (now input) ⌝ }
     ensures { λ r. ⌜ r ≡ littleEndian (take 8 (drop at (now (input .entry)))) ⌝ }
 {
@@ -250,20 +241,28 @@ fn word_at(input: &[u8], at: usize) -> u64
     low + 4294967296 * high
 }
 
-// The first n words behind the depth.
-fn read_words(words: &mut [u64], input: &[u8], n: usize)
-    requires { ⌜ (n ≤ length (now words)) × (8 + 8 * n ≤ length (now input)) ⌝ }
-    ensures { λ _. ⌜ now (words .exit) ≡ sets (now (words .entry)) 0 (wordsOf n (drop 8 (now (input .entry)))) ⌝ }
+// The first n words from a place on.
+pub fn read_from(words: &mut [u64], input: &[u8], from: usize, n: usize)
+    requires { ⌜ (n ≤ length (now words)) × (from + 8 * n ≤ length (now input)) ⌝ }
+    ensures { λ _. ⌜ now (words .exit) ≡ sets (now (words .entry)) 0 (wordsOf n (drop from (now (input .entry)))) ⌝ }
 {
     let mut i = 0;
     while i < n {
-        words[i] = word_at(input, 8 + 8 * i);
+        words[i] = word_at(input, from + 8 * i);
         i += 1;
     }
 }
 
+// The first n words behind the depth.
+pub fn read_words(words: &mut [u64], input: &[u8], n: usize)
+    requires { ⌜ (n ≤ length (now words)) × (8 + 8 * n ≤ length (now input)) ⌝ }
+    ensures { λ _. ⌜ now (words .exit) ≡ sets (now (words .entry)) 0 (wordsOf n (drop 8 (now (input .entry)))) ⌝ }
+{
+    read_from(words, input, 8, n);
+}
+
 // A number of words, and one more than an image may have if there are more.
-fn cut(n: usize) -> usize
+pub fn cut(n: usize) -> usize
     ensures { λ r. ⌜ r ≡ cond (ltb n 8193) n 8193 ⌝ }
 {
     if n < 8193 { n } else { 8193 }

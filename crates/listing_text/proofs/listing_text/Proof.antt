@@ -1,6 +1,6 @@
 use Prim.Native.Nat.{_-_}
 use borrow.Author.Needs.{needs}
-use Rattle.listing_text.proofs.InputLaws.{listed}
+use Rattle.listing_text.proofs.InputLaws.{in-front}
 use Rattle.listing_text.proofs.listing_text.Statement.{statement}
 use Rattle.listing_text.proofs.listing_text.Tie as tie
 
@@ -8,7 +8,7 @@ put-listing-requires : tie.Need-put-listing-requires
 put-listing-requires c κs = search needs
 
 returns : tie.Need-returns
-returns c = listed (c .put-listing .ensures)
+returns c = in-front (c .put-listing .ensures)
 
 pub listing-text-spec : {M : Type 1} → statement M
 listing-text-spec = tie.close (tie.spec put-listing-requires returns)

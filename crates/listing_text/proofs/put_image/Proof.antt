@@ -1,9 +1,10 @@
-use Prim.Native.Nat.{ℕ, _-_}
+use native.Mathlib.Omega.{arith}
+use Prim.Native.Nat.{_-_, _/_}
 use borrow.Author.Needs.{needs}
 use denote.Ref.{now}
 use Rattle.listing_text.proofs.PutLaws.{put-length}
-use Rattle.listing_text.proofs.InputLaws.{cut-inside, read-inside, read-length, image-put}
-use lib.ListN.{replicate, length-replicate}
+use Rattle.listing_text.proofs.InputLaws.{cut-fits, cut-inside, read-inside, read-length, image-put}
+use lib.ListN.{length, drop, replicate}
 use Rattle.listing_text.proofs.put_image.Statement.{statement}
 use Rattle.listing_text.proofs.put_image.Tie as tie
 
@@ -17,21 +18,25 @@ slice-aggregate-read-words : tie.Need-slice-aggregate-read-words
 slice-aggregate-read-words c = search needs
 
 read-words-requires : tie.Need-read-words-requires
-read-words-requires c κs = cut-inside (now (c .before .before .before .before .args .input)) (replicate 8193 0) (length-replicate {A = ℕ} 8193 0) (c .before .cut .ensures) (c .before .before .before .before .pre .1)
+read-words-requires c κs =
+    let p = c .before in
+    let q = p .before .before .before in
+    let m = length (now (q .args .input)) / 8 - 1 in
+    (cut-fits m (p .cut .ensures), cut-inside m (p .cut .ensures) (now (q .args .input)) 8 (omega (arith, q .pre .1)))
 
 array-share-prefix-image : tie.Need-array-share-prefix-image
 array-share-prefix-image c =
     let p = c .before .before in
     let q = p .before .before in
     let u = q .before .before .before in
-    read-inside (now (u .args .input)) (replicate 8193 0) (length-replicate {A = ℕ} 8193 0) (q .cut .ensures) (p .read-words .ensures)
+    read-inside (replicate 8193 0) (drop 8 (now (u .args .input))) (cut-fits (length (now (u .args .input)) / 8 - 1) (q .cut .ensures)) (p .read-words .ensures)
 
 slice-aggregate-put-run : tie.Need-slice-aggregate-put-run
 slice-aggregate-put-run c =
     let p = c .before .before .before in
     let q = p .before .before in
     let u = q .before .before .before in
-    read-length (now (u .args .input)) (replicate 8193 0) (length-replicate {A = ℕ} 8193 0) (q .cut .ensures) (p .read-words .ensures)
+    read-length (replicate 8193 0) (drop 8 (now (u .args .input))) (cut-fits (length (now (u .args .input)) / 8 - 1) (q .cut .ensures)) (p .read-words .ensures)
 
 word-at-requires : tie.Need-word-at-requires
 word-at-requires c κs = search needs
@@ -46,7 +51,7 @@ returns c =
     let u = q .before .before .before .before in
     let v = u .before .before in
     let w = v .before .before .before in
-    image-put (now (w .args .input)) (replicate 8193 0) (length-replicate {A = ℕ} 8193 0) (v .cut .ensures) (u .read-words .ensures) (q .word-at .ensures) (p .put-run .ensures)
+    image-put (now (w .args .input)) (v .cut .ensures) (u .read-words .ensures) (q .word-at .ensures) (p .put-run .ensures)
 
 same-length : tie.Need-same-length
 same-length c = put-length (returns c)

@@ -15,21 +15,21 @@ slice-aggregate-run-2 c = search needs
 run-requires : tie.Need-run-requires
 run-requires c κs = tt
 
-words-of-requires : tie.Need-words-of-requires
-words-of-requires c κs = tt
+position-of-requires : tie.Need-position-of-requires
+position-of-requires c κs = tt
 
 array-share-prefix-out : tie.Need-array-share-prefix-out
-array-share-prefix-out c = prefix-inside (c .before .before .before .before .run .ensures) (length-replicate {A = ℕ} 8192 0) (length-replicate {A = ℕ} 256 0) (c .before .words-of .ensures)
+array-share-prefix-out c = prefix-inside (c .before .before .before .before .run .ensures) (length-replicate {A = ℕ} 8192 0) (length-replicate {A = ℕ} 256 0) (c .before .position-of .ensures)
 
 slice-aggregate-put-records : tie.Need-slice-aggregate-put-records
-slice-aggregate-put-records c = prefix-length (c .before .before .before .before .before .run .ensures) (length-replicate {A = ℕ} 8192 0) (length-replicate {A = ℕ} 256 0) (c .before .before .words-of .ensures)
+slice-aggregate-put-records c = prefix-length (c .before .before .before .before .before .run .ensures) (length-replicate {A = ℕ} 8192 0) (length-replicate {A = ℕ} 256 0) (c .before .before .position-of .ensures)
 
 put-records-requires : tie.Need-put-records-requires
 put-records-requires c κs =
     let p = c .before .before in
     let q = p .before .before .before in
     let u = q .before .before .before .before .before in
-    (prefix-recorded (q .run .ensures) (length-replicate {A = ℕ} 8192 0) (length-replicate {A = ℕ} 256 0) (p .words-of .ensures), lines-room (q .run .ensures) (length-replicate {A = ℕ} 8192 0) (length-replicate {A = ℕ} 256 0) (p .words-of .ensures) _ (u .pre))
+    (prefix-recorded (q .run .ensures) (length-replicate {A = ℕ} 8192 0) (length-replicate {A = ℕ} 256 0) (p .position-of .ensures), lines-room (q .run .ensures) (length-replicate {A = ℕ} 8192 0) (length-replicate {A = ℕ} 256 0) (p .position-of .ensures) _ (u .pre))
 
 slice-aggregate-put-end : tie.Need-slice-aggregate-put-end
 slice-aggregate-put-end c = search needs
@@ -40,7 +40,7 @@ put-end-requires c κs =
     let q = p .before .before .before in
     let u = q .before .before .before in
     let v = u .before .before .before .before .before in
-    (trace-inside (u .run .ensures) (length-replicate {A = ℕ} 8192 0) (length-replicate {A = ℕ} 256 0) (q .words-of .ensures), trace-short (u .run .ensures) (length-replicate {A = ℕ} 8192 0) (length-replicate {A = ℕ} 256 0) (q .words-of .ensures), end-room (u .run .ensures) (length-replicate {A = ℕ} 8192 0) (length-replicate {A = ℕ} 256 0) (q .words-of .ensures) (p .put-records .ensures) (v .pre))
+    (trace-inside (u .run .ensures) (length-replicate {A = ℕ} 8192 0) (length-replicate {A = ℕ} 256 0) (q .position-of .ensures), trace-short (u .run .ensures) (length-replicate {A = ℕ} 8192 0) (length-replicate {A = ℕ} 256 0) (q .position-of .ensures), end-room (u .run .ensures) (length-replicate {A = ℕ} 8192 0) (length-replicate {A = ℕ} 256 0) (q .position-of .ensures) (p .put-records .ensures) (v .pre))
 
 returns : tie.Need-returns
 returns c =
@@ -48,7 +48,7 @@ returns c =
     let q = p .before .before .before .before .before in
     let u = q .before .before .before in
     let v = u .before .before .before in
-    run-put (v .run .ensures) (length-replicate {A = ℕ} 8192 0) (length-replicate {A = ℕ} 256 0) (u .words-of .ensures) (q .put-records .ensures) (p .put-end .ensures)
+    run-put (v .run .ensures) (length-replicate {A = ℕ} 8192 0) (length-replicate {A = ℕ} 256 0) (u .position-of .ensures) (q .put-records .ensures) (p .put-end .ensures)
 
 same-length : tie.Need-same-length
 same-length c = put-length (returns c)
@@ -60,7 +60,7 @@ put-run-spec =
     slice-aggregate-run
     slice-aggregate-run-2
     run-requires
-    words-of-requires
+    position-of-requires
     array-share-prefix-out
     slice-aggregate-put-records
     put-records-requires

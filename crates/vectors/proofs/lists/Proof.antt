@@ -1,19 +1,8 @@
-use Prim.Native.Nat.{ℕ, _≤_}
-use native.Mathlib.Omega.{arith}
-use mathlib.Core.Path.{sym, ap}
-use mathlib.Core.List.{List}
-use lib.ListN.{length, drop, length-append}
+use mathlib.Core.Path.{sym}
 use lib.Seq.{length-take-le}
 use borrow.Author.Needs.{needs}
-use Rattle.model.specs.Listing.{listing}
-use Rattle.listing_text.specs.Put.{Listed}
 use Rattle.vectors.proofs.lists.Statement.{statement}
 use Rattle.vectors.proofs.lists.Tie as tie
-
--- a listing that stands in front of a text is no longer than it
-listed-fits : {input text text′ : List ℕ} {n : ℕ} → Listed input text n text′ → n ≤ length text′
-listed-fits {input} {text} h =
-    omega (arith, h .count, ap length (h .contents), length-append (listing input) (drop (length (listing input)) text))
 
 text-room-requires : tie.Need-text-room-requires
 text-room-requires c κs = search needs
@@ -25,10 +14,10 @@ returns : tie.Need-returns
 returns c = search needs
 
 array-share-prefix-text : tie.Need-array-share-prefix-text
-array-share-prefix-text c = listed-fits (c .before .listing-text .ensures)
+array-share-prefix-text c = c .before .listing-text .ensures .inside
 
 slice-aggregate-checksum : tie.Need-slice-aggregate-checksum
-slice-aggregate-checksum c = sym (length-take-le _ _ (listed-fits (c .before .before .listing-text .ensures)))
+slice-aggregate-checksum c = sym (length-take-le _ _ (c .before .before .listing-text .ensures .inside))
 
 checksum-requires : tie.Need-checksum-requires
 checksum-requires c κs = search needs

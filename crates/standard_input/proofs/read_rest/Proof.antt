@@ -1,6 +1,6 @@
 use borrow.Author.Needs.{needs}
-use Rattle.listing.proofs.read_rest.Statement.{statement}
-use Rattle.listing.proofs.read_rest.Tie as tie
+use Rattle.standard_input.proofs.read_rest.Statement.{statement}
+use Rattle.standard_input.proofs.read_rest.Tie as tie
 
 abbrev Inv-loop : tie.InvT-loop
 Inv-loop turns₀ turns = Unit {0}

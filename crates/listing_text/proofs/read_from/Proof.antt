@@ -9,17 +9,17 @@ use lib.ListN.{drop, length-set}
 use lib.Seq.{sets}
 use native.Mathlib.Nat.{le-antisymm}
 use Rattle.model.specs.Listing.{wordsOf}
-use Rattle.listing_text.proofs.read_words.Statement.{statement}
-use Rattle.listing_text.proofs.read_words.Tie as tie
+use Rattle.listing_text.proofs.read_from.Statement.{statement}
+use Rattle.listing_text.proofs.read_from.Tie as tie
 
 abbrev Inv-loop : tie.InvT-loop
-Inv-loop words₀ input n i₀ words i = (i ≤ n) × (words ≡ sets words₀ 0 (wordsOf i (drop 8 input))) × (length words ≡ length words₀)
+Inv-loop words₀ input from n i₀ words i = (i ≤ n) × (words ≡ sets words₀ 0 (wordsOf i (drop from input))) × (length words ≡ length words₀)
 
 abbrev μ-loop : tie.MeasureT-loop
-μ-loop words₀ input n i₀ words i = n - i
+μ-loop words₀ input from n i₀ words i = n - i
 
 loop-holds : tie.Need-loop-holds Inv-loop μ-loop
-loop-holds c = (omega arith, words-none _ (now (c .before .before .args .input)), refl)
+loop-holds c = (omega arith, words-none _ (drop (c .before .before .args .from) (now (c .before .before .args .input))), refl)
 
 mul-word-at : tie.Need-mul-word-at Inv-loop μ-loop
 mul-word-at c = search needs
@@ -46,16 +46,16 @@ loop-again : tie.Need-loop-again Inv-loop μ-loop
 loop-again c =
     let p = c .before .before in
     let q = p .before .before .before in
-    (omega (arith, c .before .loop-test .taken), words-more _ (now (q .args .input)) _ (p .loop .inv .1) (c .word-at .ensures), length-set (p .loop .words) _ _ ∙ p .loop .inv .2)
+    (omega (arith, c .before .loop-test .taken), words-more _ (now (q .args .input)) (q .args .from) _ (p .loop .inv .1) (c .word-at .ensures), length-set (p .loop .words) _ _ ∙ p .loop .inv .2)
 
 same-length : tie.Need-same-length Inv-loop μ-loop
 same-length c = c .before .loop .inv .2
 
 returns : tie.Need-returns Inv-loop μ-loop
-returns c = c .before .loop .inv .1 ∙ ap (λ (k : ℕ). sets (now (c .before .before .before .before .args .words)) 0 (wordsOf k (drop 8 (now (c .before .before .before .before .args .input))))) (le-antisymm (c .before .loop .inv .0) (c .loop-test .left))
+returns c = c .before .loop .inv .1 ∙ ap (λ (k : ℕ). sets (now (c .before .before .before .before .args .words)) 0 (wordsOf k (drop (c .before .before .before .before .args .from) (now (c .before .before .before .before .args .input))))) (le-antisymm (c .before .loop .inv .0) (c .loop-test .left))
 
-pub read-words-spec : {M : Type 1} → statement M
-read-words-spec =
+pub read-from-spec : {M : Type 1} → statement M
+read-from-spec =
     tie.close
     (tie.spec
     Inv-loop

@@ -1,0 +1,12 @@
+use Rattle.answer_text.proofs.LastLaws.{few-bytes, many-bytes}
+use Rattle.answer_text.proofs.is_more.Statement.{statement}
+use Rattle.answer_text.proofs.is_more.Tie as tie
+
+returns : tie.Need-returns
+returns c = few-bytes _ (c .before .args .records) (c .if1 .taken)
+
+returns-2 : tie.Need-returns-2
+returns-2 c = many-bytes _ (c .before .args .records) (c .if1 .left)
+
+pub is-more-spec : {M : Type 1} → statement M
+is-more-spec = tie.close (tie.spec returns returns-2)

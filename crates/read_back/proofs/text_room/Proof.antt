@@ -1,0 +1,11 @@
+use Prim.Native.Nat.{ℕ}
+use mathlib.Core.Path.{sym}
+use lib.ListN.{length-replicate}
+use Rattle.read_back.proofs.text_room.Statement.{statement}
+use Rattle.read_back.proofs.text_room.Tie as tie
+
+returns : tie.Need-returns
+returns c = sym (length-replicate {A = ℕ} 1441792 0)
+
+pub text-room-spec : {M : Type 1} → statement M
+text-room-spec = tie.close (tie.spec returns)
