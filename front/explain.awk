@@ -40,8 +40,8 @@ BEGIN {
     RULE[8] = "A body calls only gates of smaller number."
     RULE[10] = "A float is taken at its exact value; both parts of the fraction must be below 2^63."
     RULE[11] = "Numerators and denominators must stay below 2^63, also between the steps of a sum."
-    RULE[13] = "Only exact values are worked out: exp and ln never are, a sine or cosine only of those " \
-        "multiples of pi where it is 0, 1/2 or 1 (or minus these; not of an odd multiple of pi), a root only if it is a fraction."
+    RULE[13] = "Only exact values are worked out: never exp or ln; a sine, cosine or tangent only where document 01's " \
+        "table has its values; a root only if it is a fraction."
     RULE[14] = "The program listing has room for 8,192 words. `cowhirame tally` tells how many a run needs at most; " \
         "the library takes an output of any size (see examples/c)."
     RULE[15] = "A run is lent at least 256 trace words."
@@ -87,19 +87,22 @@ function tell_gate() {
 
 function tell_bad_statement(    number, inner) {
     number = statement_at(PLACE)
-    tell("place " PLACE ": " statement_name(number, -1))
-    tell("words " entry(PLACE, 5) ": " statement_text(number))
+    tell_entry(number)
     if (WORD[PLACE] == IF) {
         inner = WORD[PLACE + 3]
         if (inner >= WORD[MAIN] && inner < WORD[MAIN] + WORD[FURTHER]) {
             tell("An if has the faults of the statement that it holds:")
-            tell("place " statement_place(inner) ": words " entry(statement_place(inner), 5) ": " statement_text(inner))
+            tell_entry(inner)
             number = inner
         }
     }
     if (NUMBER == 4) tell_counts()
     if (NUMBER == 5 || NUMBER == 7) tell_arguments(number)
     if (NUMBER == 6) tell_expressions(number)
+}
+
+function tell_entry(number) {
+    tell("at " statement_name(number, -1) ", words " entry(statement_place(number), 5) ": " statement_text(number))
 }
 
 function tell_counts(    list, text) {
@@ -148,6 +151,7 @@ function tell_expression(    number) {
     number = number_at(PLACE)
     tell_users(number)
     tell("place " PLACE ": expression " number ", which is " expression_text(number))
+    if (FRAMES) tell("(p0, p1, .. are the parameters of the gate in whose body it stands)")
 }
 
 function tell_overlap(    scope) {

@@ -137,15 +137,15 @@ function expressions_of(number,    at, many, i) {
 
 # ---- arguments and expressions
 
-# `quantum register 0, element 1`; in a body `formal argument 1`.
-function argument_text(number, scope, sort,    at, register, index_) {
+# `quantum register 0 (size 3), element 1`; in a body `formal argument 1`.
+function argument_text(number, scope, sort,    at, register, element) {
     at = place_of(ARGUMENTS, number)
-    register = WORD[at]; index_ = WORD[at + 1]
+    register = WORD[at]; element = WORD[at + 1]
     if (scope > 0) return "formal argument " register
-    if (index_ == 0) return LIST[sort] " " register ", whole" \
-        (register < WORD[sort] ? ", of size " WORD[place_of(sort, register)] : "")
+    register = LIST[sort] " " register (register < WORD[sort] ? " (size " WORD[place_of(sort, register)] ")" : " (not there)")
+    if (element == 0) return register ", whole"
     # Beyond 2^53 awk cannot take 1 away.
-    return LIST[sort] " " register ", element " (index_ < 9007199254740992 ? index_ - 1 : index_ " - 1")
+    return register ", element " (element < 9007199254740992 ? element - 1 : element " - 1")
 }
 
 # An expression as it is written in OpenQASM, p0, p1, .. being the gate's parameters. Parentheses stand only where
@@ -181,12 +181,20 @@ function hexadecimal(n,    i, text) {
     return text
 }
 
+# 2 to a whole number; not every awk has the operator ^.
+function power_of_two(n,    power) {
+    power = 1
+    for (; n > 0; n--) power *= 2
+    for (; n < 0; n++) power /= 2
+    return power
+}
+
 # The value of an f32 by its bits.
 function f32_text(bits,    sign, exponent, fraction) {
     sign = bits >= 2147483648 ? "-" : ""
     exponent = int(bits / 8388608) % 256
     fraction = bits % 8388608
     if (exponent == 255) return fraction ? "NaN" : sign "infinity"
-    if (exponent == 0) return sign sprintf("%.9g", fraction * 2 ^ -149)
-    return sign sprintf("%.9g", (fraction + 8388608) * 2 ^ (exponent - 150))
+    if (exponent == 0) return sign sprintf("%.9g", fraction * power_of_two(-149))
+    return sign sprintf("%.9g", (fraction + 8388608) * power_of_two(exponent - 150))
 }

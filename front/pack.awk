@@ -13,10 +13,16 @@ function fault(token, words) {
     exit 2
 }
 
+# The number of some digits. Leading zeros go: to some awks they mean octal.
+function whole(digits) {
+    sub(/^0+/, "", digits)
+    return digits + 0
+}
+
 # Leaves the eight bytes of a number of at most twenty digits in BYTE; whether it is below 2^64.
 function divide(digits,    high, low, carried, b) {
-    high = length(digits) > 10 ? substr(digits, 1, length(digits) - 10) + 0 : 0
-    low = length(digits) > 10 ? substr(digits, length(digits) - 9) + 0 : digits + 0
+    high = length(digits) > 10 ? whole(substr(digits, 1, length(digits) - 10)) : 0
+    low = length(digits) > 10 ? whole(substr(digits, length(digits) - 9)) : whole(digits)
     for (b = 1; b <= 8; b++) {
         carried = (high % 256) * 10000000000 + low
         high = int(high / 256)
