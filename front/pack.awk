@@ -1,13 +1,15 @@
 # Words in decimal to escapes for printf: eight bytes a word, the lowest first, `\001\000..`.
 #
-#   signed=1    a word may have a minus; it is written in two's complement
-#   source=NAME what is read, for messages
+# With signed=1 a word may have a minus, and is written in two's complement.
+# A word that cannot be is told on standard error with its line, and the exit status is 2.
 #
 # awk counts in doubles, which are whole only up to 2^53. A word is therefore held in two parts of ten
 # digits each, and divided by 256 eight times.
 
 function fault(token, words) {
-    printf "%s, line %d: `%s` %s\n", source, FNR, substr(token, 1, 32), words | "cat >&2"
+    token = substr(token, 1, 32)
+    gsub(/[^!-~]/, "?", token)
+    printf "line %d: `%s` %s\n", NR, token, words | "cat >&2"
     close("cat >&2")
     failed = 1
     exit 2
