@@ -77,32 +77,35 @@ function tell_register(    list) {
     tell("place " PLACE ": " LIST[list] " " number_at(PLACE) ", of size " WORD[PLACE])
 }
 
-function tell_gate() {
+function tell_gate(    body) {
+    body = WORD[PLACE + 2]
     tell("place " PLACE ": gate " number_at(PLACE) ", words " entry(PLACE, 5) ": " counted(WORD[PLACE], "parameter") ", " \
-        counted(WORD[PLACE + 1], "argument") ", " (WORD[PLACE + 2] == 1 ? "body" : WORD[PLACE + 2] == 0 ? "opaque" : "third word " WORD[PLACE + 2]) \
+        counted(WORD[PLACE + 1], "argument") ", " (body == 1 ? "body" : body == 0 ? "opaque" : "third word " body) \
         ", " counted(WORD[PLACE + 4], "statement") " from statement " WORD[PLACE + 3] " on")
-    tell("There are " counted(WORD[MAIN], "main statement") " and " counted(WORD[FURTHER], "further one") \
-        ", so further statements are " WORD[MAIN] " to " WORD[MAIN] + WORD[FURTHER] - 1 ".")
+    if (WORD[FURTHER] > 0) tell("The further statements are " WORD[MAIN] " to " WORD[MAIN] + WORD[FURTHER] - 1 ".")
+    else tell("There are no further statements.")
 }
 
-function tell_bad_statement(    number, inner) {
+# An if has the faults of the statement that it holds, and then that one is in main too.
+function tell_bad_statement(    number, scope) {
     number = statement_at(PLACE)
-    tell_entry(number)
-    if (WORD[PLACE] == IF) {
-        inner = WORD[PLACE + 3]
-        if (inner >= WORD[MAIN] && inner < WORD[MAIN] + WORD[FURTHER]) {
-            tell("An if has the faults of the statement that it holds:")
-            tell_entry(inner)
-            number = inner
-        }
+    scope = number < WORD[MAIN] ? 0 : -1
+    tell_entry(number, scope)
+    if (WORD[PLACE] == IF && is_further(WORD[PLACE + 3])) {
+        number = WORD[PLACE + 3]
+        tell_entry(number, scope)
     }
     if (NUMBER == 4) tell_counts()
-    if (NUMBER == 5 || NUMBER == 7) tell_arguments(number)
+    if (NUMBER == 5 || NUMBER == 7) tell_arguments(number, scope)
     if (NUMBER == 6) tell_expressions(number)
 }
 
-function tell_entry(number) {
-    tell("at " statement_name(number, -1) ", words " entry(statement_place(number), 5) ": " statement_text(number))
+function is_further(number) {
+    return number >= WORD[MAIN] && number < WORD[MAIN] + WORD[FURTHER]
+}
+
+function tell_entry(number, scope) {
+    tell("at " statement_name(number, scope) ", words " entry(statement_place(number), 5) ": " statement_text(number))
 }
 
 function tell_counts(    list, text) {
@@ -110,8 +113,7 @@ function tell_counts(    list, text) {
     tell("The image has " text ".")
 }
 
-function tell_arguments(number,    many, i, scope, sort) {
-    scope = number >= WORD[MAIN] && owners(number) != ""
+function tell_arguments(number, scope,    many, i, sort) {
     many = arguments_of(number)
     for (i = 1; i <= many; i++) {
         sort = WORD[statement_place(number)] == MEASURE && i == 2 ? CLASSICAL : QUANTUM

@@ -42,10 +42,6 @@ function statement_at(place) {
     return int((place - FIRST[MAIN]) / 5)
 }
 
-function is_statement(place) {
-    return place >= FIRST[MAIN] && place < FIRST[ARGUMENTS]
-}
-
 function gate_word(gate, which) {
     return WORD[place_of(GATES, gate) + which]
 }
@@ -71,12 +67,13 @@ function statement_name(number, scope,    at) {
     return "statement " number at owners(number)
 }
 
-# The gates that have a statement in their bodies.
-function owners(number,    gate, first, text) {
+# The gates that have a statement in their bodies, which they may share; the first four.
+function owners(number,    gate, first, found, text) {
     for (gate = 0; gate < WORD[GATES]; gate++) {
         first = gate_word(gate, 3)
-        if (gate_word(gate, 2) == 1 && number >= first && number < first + gate_word(gate, 4))
-            text = text (text == "" ? " in the body of gate " : " and of gate ") gate
+        if (gate_word(gate, 2) != 1 || number < first || number >= first + gate_word(gate, 4)) continue
+        if (++found > 4) return text " and others"
+        text = text (found == 1 ? " in the body of gate " : ", ") gate
     }
     return text
 }
@@ -141,7 +138,7 @@ function expressions_of(number,    at, many, i) {
 function argument_text(number, scope, sort,    at, register, element) {
     at = place_of(ARGUMENTS, number)
     register = WORD[at]; element = WORD[at + 1]
-    if (scope > 0) return "formal argument " register
+    if (scope != 0) return "formal argument " register
     register = LIST[sort] " " register (register < WORD[sort] ? " (size " WORD[place_of(sort, register)] ")" : " (not there)")
     if (element == 0) return register ", whole"
     # Beyond 2^53 awk cannot take 1 away.
@@ -160,7 +157,7 @@ function formula(number, binding,    at, kind, a, b, text, own) {
     at = place_of(EXPRESSIONS, number)
     kind = WORD[at]; a = WORD[at + 1]; b = WORD[at + 2]
     if (kind == 0) return "pi"
-    if (kind == 1) return f32_text(a)
+    if (kind == 1) return binding && a >= 2147483648 ? "(" f32_text(a) ")" : f32_text(a)
     if (kind == 2) return a
     if (kind == 3) return "p" a
     if (kind > 9) return FUNCTION[kind - 8] "(" formula(a, 0) ")"
