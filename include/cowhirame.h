@@ -6,8 +6,8 @@
  *
  * A word is 64 bits. An image, an output and a trace are words one behind the other, lent by the caller: a pointer
  * to the first and how many there are. Each function takes any words and any lengths, answers in every case,
- * and keeps nothing: it allocates nothing, has no state, and may be called from several threads at once. Words
- * that are not told as written are left as they were.
+ * and keeps nothing: it allocates nothing, has no state, and may be called from several threads at once. It needs
+ * memcpy and memset, and nothing else of a C library. Words that are not told as written are left as they were.
  *
  * What a caller has to see to:
  *   - A pointer is 8-byte aligned and is not NULL, also where the length is 0. Then no word is touched, and the
