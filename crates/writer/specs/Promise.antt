@@ -71,12 +71,6 @@ marked marks end = flatMap (λ q. cond (getD marks q false) (q ∷ []) []) (rang
 abbrev pub after : Position → ℕ → Position
 after at n = record { records = at .records + 1; words = at .words + n; trace = at .trace }
 
--- the marked numbers were put behind two words, and counted
-pub record Collected (marks : List Bool) (end : ℕ) (out : List ℕ) (n : ℕ) (out′ : List ℕ) : Type 0 where
-  pub contents : out′ ≡ sets out 2 (marked marks end)
-  pub count : n ≡ length (marked marks end)
-  pub few : n ≤ end
-
 -- a register with each offset below its size
 unfoldable pub pairsOf : ℕ → ℕ → List ℕ
 pairsOf r size = flatMap pair (map (λ o. (r, o)) (range 0 size))
