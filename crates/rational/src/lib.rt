@@ -46,6 +46,12 @@ pub fn gcd(a: u64, b: u64) -> u64
 pub fn capped_mul(a: u64, b: u64) -> u64
     ensures { λ r. ⌜ r ≡ min (a * b) (2 ^ 63) ⌝ }
 {
+    // Short factors, as most are, need no division.
+    if a < 0x1_0000_0000 {
+        if b < 0x8000_0000 {
+            return a * b;
+        }
+    }
     if a == 0 {
         return 0;
     }

@@ -1,8 +1,10 @@
-//! measure [ROUNDS]: the times of the sequence unit beside the published linearizer's, as ratios.
+//! measure [ROUNDS]: the times of the sequence unit beside the published linearizer's, as ratios; check, tally, the
+//! listing program and the stack.
 //!
 //! In each round both run the same images in turn, the unit's check included; the published linearizer gets its
 //! program ready made, and a writer that does nothing but put the words into memory that is there. A ratio is of one
-//! round; the middle one of all rounds is printed with the least and the largest.
+//! round; the middle one of all rounds is printed with the least and the largest. Copying the words of the output
+//! once more is measured beside them: no writer can be faster.
 use num::Rational64;
 use openqasm::ast::{Program, Symbol};
 use openqasm::translate::{GateWriter, Linearize, ProgramVisitor, Value};
@@ -10,7 +12,11 @@ use oracle::generate::{self, Gate, Parts};
 use oracle::image::{self, Image};
 use oracle::unit::{cowhirame_check, cowhirame_run, cowhirame_tally};
 use std::convert::Infallible;
+use std::env;
 use std::hint::black_box;
+use std::io::Write;
+use std::process::{Command, Stdio};
+use std::thread;
 use std::time::Instant;
 
 const ALL: u64 = u64::MAX;
@@ -84,10 +90,11 @@ fn small(count: usize) -> Vec<Vec<u64>> {
         .collect()
 }
 
-/// The most gates, each calling the one below so many times.
+/// The most gates, each calling the one below so many times, over a U whose angles have 32 levels.
 fn tower(calls: u64) -> Vec<u64> {
     let mut parts = Parts { quantum: vec![1], arguments: vec![[0, 0]], expressions: vec![[0, 0, 0]], ..Parts::default() };
-    parts.further.push([1, 0, 0, 0, 0]);
+    parts.expressions.extend((0..31).map(|operand| [9, operand, 0]));
+    parts.further.push([1, 31, 31, 31, 0]);
     parts.gates.push(Gate { parameters: 0, arguments: 1, body: Some((0, 1)) });
     for level in 1..128 {
         let first = parts.further.len() as u64;
@@ -254,7 +261,8 @@ fn compare(name: &str, images: &[Vec<u64>], rounds: usize) {
         }
         records += ours;
     }
-    let (mut ours, mut theirs, mut ratios) = (Vec::new(), Vec::new(), Vec::new());
+    let (mut ours, mut theirs, mut copies, mut ratios) = (Vec::new(), Vec::new(), Vec::new(), Vec::new());
+    let mut copy = vec![0; units.iter().map(|unit| unit.output.len()).max().unwrap()];
     for _ in 0..rounds {
         let unit_time = seconds(|| {
             for (image, unit) in images.iter().zip(&mut units) {
@@ -266,14 +274,22 @@ fn compare(name: &str, images: &[Vec<u64>], rounds: usize) {
                 black_box(published(program, &mut output));
             }
         });
+        let copy_time = seconds(|| {
+            for unit in &units {
+                let words = unit.answer[4] as usize;
+                black_box(&mut copy)[..words].copy_from_slice(black_box(&unit.output[..words]));
+            }
+        });
+        copies.push(copy_time / records as f64 * 1e9);
         ours.push(unit_time / records as f64 * 1e9);
         theirs.push(published_time / records as f64 * 1e9);
         ratios.push(published_time / unit_time);
     }
-    let ([ours, ..], [theirs, ..], [ratio, least, most]) = (spread(ours), spread(theirs), spread(ratios));
+    let ([ours, ..], [theirs, ..], [copies, ..]) = (spread(ours), spread(theirs), spread(copies));
+    let [ratio, least, most] = spread(ratios);
     println!(
-        "{name:44} {:>8} records  unit {ours:8.1} ns a record  published {theirs:8.1}  ratio {ratio:6.2} ({least:.2} to {most:.2})",
-        records
+        "{name:42} {records:>6} records, ns each: unit {ours:7.1}, published {theirs:7.1}, a copy {copies:5.1}; \
+         ratio {ratio:5.2} ({least:.2} to {most:.2})"
     );
 }
 
@@ -309,8 +325,67 @@ fn check_and_tally(name: &str, image: &[u64], rounds: usize) {
     });
 }
 
+/// The listing program on an image, from its start to its end, in seconds.
+fn listed(program: &str, image: &[u64]) -> f64 {
+    let bytes: Vec<u8> = [ALL].iter().chain(image).flat_map(|word| word.to_le_bytes()).collect();
+    seconds(|| {
+        let mut child = Command::new(program).stdin(Stdio::piped()).stdout(Stdio::null()).spawn().expect(program);
+        child.stdin.take().unwrap().write_all(&bytes).expect("written");
+        assert!(child.wait().expect("ended").success());
+    })
+}
+
+/// What the listing of a full output takes beyond that of an empty one, beside the run alone.
+fn listing_beside_run(program: &str, rounds: usize) {
+    let image = broadcasts(&[584], [1, 2, 3, 0, 0], 1);
+    let empty = Parts::default().words();
+    let mut unit = Unit::new(&image);
+    let words = (unit.run(&image, ALL), unit.answer[4]).1;
+    let mut alone = Vec::new();
+    let mut text = Vec::new();
+    for _ in 0..rounds {
+        alone.push(seconds(|| {
+            black_box(unit.run(&image, ALL));
+        }));
+        text.push((listed(program, &image) - listed(program, &empty)).max(0.0));
+    }
+    let ([run, ..], [text, least, most]) = (spread(alone), spread(text));
+    println!(
+        "listing of {words} words: {:.0} us ({:.0} to {:.0}) beyond that of no words, the run alone {:.1} us",
+        text * 1e6,
+        least * 1e6,
+        most * 1e6,
+        run * 1e6
+    );
+}
+
+/// Runs an image on a thread with a stack of so many bytes.
+fn run_on_stack(bytes: usize) {
+    let image = tower(1);
+    let run = move || assert_eq!(Unit { output: vec![0; 100], trace: [0; 256], answer: [0; 6] }.run(&image, ALL), 2);
+    thread::Builder::new().stack_size(bytes).spawn(run).expect("a thread").join().expect("run");
+}
+
+/// The smallest stack, in KiB, on which 128 nested calls and 32 levels of an expression are run.
+fn stack() {
+    let (mut low, mut high) = (16, 1 << 14);
+    while high - low > 4 {
+        let middle = (low + high) / 2;
+        let program = env::current_exe().expect("this program");
+        let mut child = Command::new(program);
+        let status = child.args(["--stack", &middle.to_string()]).stderr(Stdio::null()).status().expect("a process");
+        (low, high) = if status.success() { (low, middle) } else { (middle, high) };
+    }
+    println!("stack for 128 nested calls over an expression of 32 levels: {high} KiB");
+}
+
 fn main() {
-    let rounds = std::env::args().nth(1).map_or(15, |word| word.parse().expect("a number of rounds"));
+    let words: Vec<String> = env::args().skip(1).collect();
+    if let [option, kib] = &words[..] {
+        assert_eq!(option, "--stack");
+        return run_on_stack(kib.parse::<usize>().expect("a number of KiB") << 10);
+    }
+    let rounds = words.first().map_or(15, |word| word.parse().expect("a number of rounds"));
     let u = [1, 2, 3, 0, 0];
     compare("(a) U on 4,096 qubits, 20 times", &[broadcasts(&[4096], u, 20)], rounds);
     compare("(a) U on 4,096 qubits, once", &[broadcasts(&[4096], u, 1)], rounds);
@@ -330,4 +405,9 @@ fn main() {
     for calls in [1, 2, 11] {
         check_and_tally(&format!("128 gates, {calls}-fold"), &tower(calls), rounds.min(5));
     }
+    match env::var("COWHIRAME_LISTING") {
+        Ok(program) => listing_beside_run(&program, rounds),
+        Err(_) => println!("COWHIRAME_LISTING does not name the listing program: it was not measured"),
+    }
+    stack();
 }
