@@ -1,10 +1,11 @@
 -- One round of each statement, from the qubits and bits that the code found.
-use Prim.Native.Nat.{ℕ}
-use mathlib.Core.Path.{_≡_, refl, ap, ap₂}
+use Prim.Native.Nat.{ℕ, _+_, _<_}
+use mathlib.Core.Path.{_≡_, refl, sym, ap, ap₂, subst}
 use borrow.Author.Tests.{eq-eqb, ne-eqb}
 use mathlib.Core.List.{List, [], _∷_}
+use lib.ListN.{length}
 use Rattle.value.specs.declared.Value.{Value}
-use Rattle.model.specs.Records.{Record}
+use Rattle.model.specs.Records.{Record, encode, kind as kindOf, fields}
 use Rattle.model.specs.Steps.{Step, write, Frame, qubitIn, bitIn, writeReset, writeMeasure, writeCX, writeU}
 use Rattle.model.specs.Image.{argumentAt}
 use Rattle.model.specs.Run.{play}
@@ -13,8 +14,9 @@ use Rattle.writer.specs.declared.Position.{Position}
 use Rattle.writer.specs.declared.LinearizeErrorKind.the-variants as kind
 use Rattle.writer.specs.declared.Linearized.{Linearized}
 use Rattle.writer.specs.declared.Linearized.the-variants as linearized
-use Rattle.writer.specs.Promise.{Open, Wrote}
-use Rattle.statement.specs.Frames.{standing, apartCX}
+use Rattle.writer.specs.Promise.{fullAt, Open, Wrote}
+use Rattle.writer.proofs.WriteLaws.{full-up}
+use Rattle.statement.specs.Frames.{standing, apartCX, overlapAtCX}
 
 module _ (image : List ℕ) (scope : ℕ) (angles : List Value) (formals : List ℕ) where
   abbrev frame : Frame
@@ -36,13 +38,23 @@ module _ (image : List ℕ) (scope : ℕ) (angles : List Value) (formals : List 
   unfolding writeU
   u-round theta phi lambda a i e = ap (λ (q : ℕ). write [] (Record.U theta phi lambda q) ∷ []) e
 
--- the two ways of a CX
+-- an answer by what is promised of it
+pub wrote-told : {ss : List Step} {out out′ : List ℕ} {at : Position} {r s : Linearized} → r ≡ s → Wrote ss out at s out′ → Wrote ss out at r out′
+wrote-told {ss} {out} {out′} {at} e w = subst (λ (z : Linearized). Wrote ss out at z out′) (sym e) w
+
+pub overlap-told : (image : List ℕ) (a b : ℕ) {at : Position} {m n : ℕ} → m ≡ argumentAt image a → n ≡ argumentAt image b → linearized.Refused (record { kind = kind.OverlappingRegs m n; at = at }) ≡ overlapAtCX image a b at
+overlap-told image a b e f = rw (e, f) refl
+
+-- the ways of a CX
 module _ (image : List ℕ) (a b : ℕ) {out : List ℕ} {p q : ℕ} {at : Position} where
-  pub cx-overlaps : {m n : ℕ} → Open out at → m ≡ argumentAt image a → n ≡ argumentAt image b → p ≡ q
-      → Wrote (apartCX image a b p q) out at (linearized.Refused (record { kind = kind.OverlappingRegs m n; at = at })) out
+  pub cx-overlaps : Open out at → p ≡ q → Wrote (apartCX image a b p q) out at (overlapAtCX image a b at) out
   unfolding apartCX play
-  cx-overlaps o e f d = rw (e, f, eq-eqb p q d) (record { plays = plays-stop _ (o .inside) refl; level = refl })
+  cx-overlaps o d = rw (eq-eqb p q d) (record { plays = plays-stop _ (o .inside) refl; level = refl })
 
   pub cx-apart : {p′ q′ : ℕ} {r : Linearized} {out′ : List ℕ} → p′ ≡ p → q′ ≡ q → ¬ (p′ ≡ q′) → Wrote (write [] (Record.CX p′ q′) ∷ []) out at r out′ → Wrote (apartCX image a b p q) out at r out′
   unfolding apartCX
   cx-apart e f n w = rw (← e, ← f, ne-eqb _ _ n) w
+
+  pub cx-full : {p′ q′ : ℕ} → p′ ≡ p → q′ ≡ q → ¬ (p′ ≡ q′) → Open out at → length out < at .words + 3 → Wrote (apartCX image a b p q) out at (fullAt at) out
+  unfolding encode kindOf fields
+  cx-full {p′} {q′} e f n o h = cx-apart e f n (full-up (Record.CX p′ q′) o h)

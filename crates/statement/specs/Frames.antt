@@ -20,7 +20,9 @@ use Rattle.image.specs.Layout.{Laid}
 use Rattle.image.specs.Firsts.{Firsts}
 use Rattle.statement.specs.declared.Argument.{Argument}
 use Rattle.writer.specs.declared.Position.{Position}
+use Rattle.writer.specs.declared.LinearizeErrorKind.the-variants as kind
 use Rattle.writer.specs.declared.Linearized.{Linearized}
+use Rattle.writer.specs.declared.Linearized.the-variants as linearized
 use Rattle.writer.specs.Promise.{Wrote}
 use Rattle.statement.specs.declared.Overlap.{Overlap}
 use Rattle.statement.specs.declared.Overlap.the-variants as overlapping
@@ -75,6 +77,10 @@ inRound x i = x .first + cond (eqb (x .size) 1) 0 i
 -- a CX of two qubits of arguments a and b, if they differ
 unfoldable pub apartCX : List ℕ → ℕ → ℕ → ℕ → ℕ → List Step
 apartCX image a b p q = cond (eqb p q) (refuse [] (Refusal.OverlappingRegs (argumentAt image a) (argumentAt image b)) ∷ []) (write [] (Record.CX p q) ∷ [])
+
+-- the refusal of one whose qubits do not differ
+abbrev pub overlapAtCX : List ℕ → ℕ → ℕ → Position → Linearized
+overlapAtCX image a b at = linearized.Refused (record { kind = kind.OverlappingRegs (argumentAt image a) (argumentAt image b); at = at })
 
 -- ---- expressions
 

@@ -5,7 +5,9 @@ use native.Mathlib.Numerals.{add-one}
 use native.Mathlib.Omega.{arith}
 use mathlib.Core.Path.{_≡_, refl, sym, ap, _∙_}
 use mathlib.Core.List.{List, [], _∷_, _++_, flatMap, append-assoc, append-nil}
-use borrow.Author.Tests.{lt-leb}
+use mathlib.Core.Bool.{Bool, true, false}
+use lib.Dec.{ltb}
+use borrow.Author.Tests.{lt-leb, ltb-true, ltb-false, lt-ltb, le-ltb}
 use lib.ListN.{length, set, take, drop, getD}
 use lib.Seq.{sets, sets-eq, take-suc, take-append-seam, length-take-le}
 use Rattle.model.specs.Lists.{range}
@@ -55,6 +57,17 @@ appended n p e h o = record { wrote = λ x d. written x n p (e ∙ ap length (sy
 
 pub not-appended : {ws out : List ℕ} {at : Position} → Open out at → length out < at .words + length ws → Appended ws out at (linearized.Refused (record { kind = kind.OutputFull; at = at })) out
 not-appended k h = record { wrote = λ x e. full-up x k (omega (arith, ap length e)) }
+
+-- the test for room, over the words left and over the position
+pub left-test : (w m n : ℕ) → w ≤ m → ltb (m - w) n ≡ ltb m (w + n)
+left-test w m n h = go (ltb m (w + n)) refl
+  where
+    go : (b : Bool) → ltb m (w + n) ≡ b → ltb (m - w) n ≡ ltb m (w + n)
+    go true e = let l = ltb-true m (w + n) e in lt-ltb (m - w) n (omega arith) ∙ sym e
+    go false e = let l = ltb-false m (w + n) e in le-ltb (m - w) n (omega arith) ∙ sym e
+
+pub three-put : (out : List ℕ) (p a b c : ℕ) → set (set (set out p a) (p + 1) b) (p + 2) c ≡ sets out p (a ∷ b ∷ c ∷ [])
+three-put out p a b c = let q : p + 2 ≡ suc (suc p) = omega arith in rw (q, add-one p) refl
 
 -- ---- lists joined
 

@@ -54,6 +54,14 @@ pub record Wrote (ss : List Step) (out : List ℕ) (at : Position) (r : Lineariz
   pub plays : Plays ss (placeAt out at) (placeAt out′ (positionOf r)) (answerOf r [])
   pub level : positionOf r .trace ≡ at .trace
 
+-- and none was refused
+abbrev pub WroteTo : List Step → List ℕ → Position → Position → List ℕ → Type 0
+WroteTo ss out at to out′ = Wrote ss out at (linearized.Done to) out′
+
+-- a record is longer than the words left
+abbrev pub fullAt : Position → Linearized
+fullAt at = linearized.Refused (record { kind = kind.OutputFull; at = at })
+
 -- some words were appended: whatever record they are, it was written
 pub record Appended (ws out : List ℕ) (at : Position) (r : Linearized) (out′ : List ℕ) : Type 0 where
   pub wrote : (x : Record) → encode x ≡ ws → Wrote (write [] x ∷ []) out at r out′
