@@ -1,5 +1,5 @@
 -- What the parts of the pass over the expressions show: an entry's level and reach tell of it what the definition says.
-use Prim.Native.Nat.{ℕ, zero, suc, _+_, _-_, _≤_, _<_, max}
+use Prim.Native.Nat.{ℕ, zero, suc, _+_, _-_, _≤_, _<_, max, zero-le}
 use native.Mathlib.Nat.{eq-or-lt-of-le}
 use native.Mathlib.Numerals.{add-one}
 use native.Mathlib.Omega.{arith}
@@ -8,7 +8,7 @@ use mathlib.Core.Bool.{Bool, true, false, _&&_, cond}
 use mathlib.Core.Logic.{_⊎_, inl, inr}
 use mathlib.Core.List.{List, [], _∷_}
 use lib.Dec.{T, leb, ltb, eqb, leb→le, le→leb}
-use lib.ListN.{length, getD, set, List·getD-eq-default}
+use lib.ListN.{length, getD, set, length-set, List·getD-eq-default}
 use lib.Seq.{getD-set-same, getD-set-other}
 use borrow.Author.Tests.{lt-ltb, le-ltb, le-leb, eq-eqb, ne-eqb, ltb-true, ltb-false}
 use Rattle.model.specs.Lists.{every}
@@ -279,13 +279,18 @@ module _ (image : List ℕ) (e : ℕ) where
 
 -- ---- the tables
 pub judged-none : (image levels reaches : List ℕ) → Judged image 0 levels reaches
-judged-none image levels reaches = record { right = λ e h. absurd (omega arith) }
+judged-none image levels reaches = record { levels-fit = zero-le; reaches-fit = zero-le; right = λ e h. absurd (omega arith) }
 
 -- one entry more
 pub judged-next : (image : List ℕ) (e level reach : ℕ) (levels reaches : List ℕ) → e < length levels → e < length reaches → Judged image e levels reaches
     → Tells level reach (λ v k. expressionOk image v (suc k) e) → Judged image (e + 1) (set levels e level) (set reaches e reach)
 unfolding expressionOk
-judged-next image e level reach levels reaches hl hr j t = record { right = λ i h v k hv hk. go i (eq-or-lt-of-le (omega arith)) v k hv hk }
+judged-next image e level reach levels reaches hl hr j t =
+    record {
+      levels-fit = omega (arith, length-set levels e level);
+      reaches-fit = omega (arith, length-set reaches e reach);
+      right = λ i h v k hv hk. go i (eq-or-lt-of-le (omega arith)) v k hv hk;
+    }
   where
     this : (v k : ℕ) → v ≤ 16 → k ≤ 32 → expressionOk image v k e ≡ accepts level reach v k
     this v zero hv hk = neither level reach v 0 false (λ z. z) (λ p q r. omega arith)

@@ -41,6 +41,9 @@ accepts level reach v k = leb 1 level && (leb level k && leb reach v)
 
 -- the tables tell of each of n expressions whether it is well formed to k levels with v variables
 pub record Judged (image : List ℕ) (n : ℕ) (levels reaches : List ℕ) : Type 0 where
+  -- each table has a word for each
+  pub levels-fit : n ≤ length levels
+  pub reaches-fit : n ≤ length reaches
   pub right : (e : ℕ) → e < n → (v k : ℕ) → v ≤ 16 → k ≤ 32 → expressionOk image v k e ≡ accepts (getD levels e 0) (getD reaches e 0) v k
 
 -- every gate entry is well formed

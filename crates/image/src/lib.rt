@@ -346,8 +346,8 @@ fn over(x: Judgement, y: Judgement) -> Judgement
 }
 
 // Operand a of expression e, from the tables: not well formed unless it has a smaller number.
-fn operand(levels: &[u64; 2728], reaches: &[u64; 2728], e: u64, a: u64) -> Judgement
-    requires { ⌜ e ≤ 2728 ⌝ }
+fn operand(levels: &[u64], reaches: &[u64], e: u64, a: u64) -> Judgement
+    requires { ⌜ (e ≤ length (now levels)) × (e ≤ length (now reaches)) ⌝ }
     ensures { λ r. ⌜ (r .level ≡ cond (ltb a e) (getD (now (levels .entry)) a 0) 0) × (r .reach ≡ cond (ltb a e) (getD (now (reaches .entry)) a 0) 0) ⌝ }
 {
     if a < e {
@@ -362,7 +362,7 @@ fn operand(levels: &[u64; 2728], reaches: &[u64; 2728], e: u64, a: u64) -> Judge
 }
 
 // Expression e, from the tables' entries of smaller numbers.
-fn judge(image: &[u64], l: Layout, levels: &[u64; 2728], reaches: &[u64; 2728], e: u64) -> Judgement
+fn judge(image: &[u64], l: Layout, levels: &[u64], reaches: &[u64], e: u64) -> Judgement
     requires { ⌜ Laid (now image) l × Judged (now image) e (now levels) (now reaches) × (e < l .expressions) ⌝ }
     ensures { λ r. ⌜ Tells (r .level) (r .reach) (λ v k. expressionOk (now (image .entry)) v (suc k) e) ⌝ }
 {
@@ -395,8 +395,8 @@ pub fn put(table: &mut [u64], i: usize, x: u64)
 }
 
 // Judges each expression once, in ascending order: an operand has a smaller number than its user.
-fn judge_expressions(image: &[u64], l: Layout, levels: &mut [u64; 2728], reaches: &mut [u64; 2728])
-    requires { ⌜ Laid (now image) l ⌝ }
+fn judge_expressions(image: &[u64], l: Layout, levels: &mut [u64], reaches: &mut [u64])
+    requires { ⌜ Laid (now image) l × (l .expressions ≤ length (now levels)) × (l .expressions ≤ length (now reaches)) ⌝ }
     ensures { λ r. ⌜ Judged (now (image .entry)) (l .expressions) (now (levels .exit)) (now (reaches .exit)) ⌝ }
 {
     let n = l.expressions;
@@ -411,14 +411,7 @@ fn judge_expressions(image: &[u64], l: Layout, levels: &mut [u64; 2728], reaches
 }
 
 // Whether expression e is well formed to 32 levels with v variables.
-fn expression_ok(
-    image: &[u64],
-    l: Layout,
-    levels: &[u64; 2728],
-    reaches: &[u64; 2728],
-    v: u64,
-    e: u64,
-) -> bool
+fn expression_ok(image: &[u64], l: Layout, levels: &[u64], reaches: &[u64], v: u64, e: u64) -> bool
     requires { ⌜ Laid (now image) l × Judged (now image) (l .expressions) (now levels) (now reaches) × (v ≤ 16) ⌝ }
     ensures { λ r. ⌜ r ≡ expressionOk (now (image .entry)) v 32 e ⌝ }
 {
@@ -436,8 +429,8 @@ fn expression_ok(
 fn parameters_ok(
     image: &[u64],
     l: Layout,
-    levels: &[u64; 2728],
-    reaches: &[u64; 2728],
+    levels: &[u64],
+    reaches: &[u64],
     v: u64,
     p: u64,
     n: u64,
@@ -631,8 +624,8 @@ fn calls_down(scope: u64, g: u64) -> bool
 fn angles_ok(
     image: &[u64],
     l: Layout,
-    levels: &[u64; 2728],
-    reaches: &[u64; 2728],
+    levels: &[u64],
+    reaches: &[u64],
     v: u64,
     theta: u64,
     phi: u64,
@@ -654,8 +647,8 @@ fn angles_ok(
 fn u_flaw(
     image: &[u64],
     l: Layout,
-    levels: &[u64; 2728],
-    reaches: &[u64; 2728],
+    levels: &[u64],
+    reaches: &[u64],
     scope: u64,
     theta: u64,
     phi: u64,
@@ -754,8 +747,8 @@ fn call_number(angles: bool, arguments: bool, sizes: bool) -> u64
 fn call_flaw(
     image: &[u64],
     l: Layout,
-    levels: &[u64; 2728],
-    reaches: &[u64; 2728],
+    levels: &[u64],
+    reaches: &[u64],
     scope: u64,
     s: u64,
     g: u64,
@@ -849,14 +842,7 @@ fn reset_flaw(image: &[u64], l: Layout, scope: u64, s: u64, q: u64) -> u64
 }
 
 // What is wrong with statement s, which an if may hold: an if itself is of no kind allowed there.
-fn plain_flaw(
-    image: &[u64],
-    l: Layout,
-    levels: &[u64; 2728],
-    reaches: &[u64; 2728],
-    scope: u64,
-    s: u64,
-) -> u64
+fn plain_flaw(image: &[u64], l: Layout, levels: &[u64], reaches: &[u64], scope: u64, s: u64) -> u64
     requires { ⌜ Ready (now image) l (now levels) (now reaches) scope × (s ≤ 8192) ⌝ }
     ensures { λ r. ⌜ r ≡ plainFlaw (now (image .entry)) (λ r v t. 4) scope s (statement (now (image .entry)) s) ⌝ }
 {
@@ -893,8 +879,8 @@ fn held(image: &[u64], l: Layout, t: u64) -> bool
 fn conditional_flaw(
     image: &[u64],
     l: Layout,
-    levels: &[u64; 2728],
-    reaches: &[u64; 2728],
+    levels: &[u64],
+    reaches: &[u64],
     scope: u64,
     s: u64,
     r: u64,
@@ -928,8 +914,8 @@ fn conditional_flaw(
 fn statement_flaw(
     image: &[u64],
     l: Layout,
-    levels: &[u64; 2728],
-    reaches: &[u64; 2728],
+    levels: &[u64],
+    reaches: &[u64],
     scope: u64,
     s: u64,
 ) -> u64
@@ -969,13 +955,7 @@ pub fn statements_of(image: &[u64], l: Layout, scope: u64) -> Span
 }
 
 // The first bad statement of a scope.
-fn scope_fault(
-    image: &[u64],
-    l: Layout,
-    levels: &[u64; 2728],
-    reaches: &[u64; 2728],
-    scope: u64,
-) -> Fault
+fn scope_fault(image: &[u64], l: Layout, levels: &[u64], reaches: &[u64], scope: u64) -> Fault
     requires { ⌜ Ready (now image) l (now levels) (now reaches) scope ⌝ }
     ensures { λ r. ⌜ verdictOfFault r ≡ firstBad (λ s. flaw (now (image .entry)) scope s) (statementAt (now (image .entry))) (scopeStatements (now (image .entry)) scope) ⌝ }
 {
@@ -998,7 +978,7 @@ fn scope_fault(
 }
 
 // The first bad statement: main's in order, then the bodies' by gate number.
-fn statements_fault(image: &[u64], l: Layout, levels: &[u64; 2728], reaches: &[u64; 2728]) -> Fault
+fn statements_fault(image: &[u64], l: Layout, levels: &[u64], reaches: &[u64]) -> Fault
     requires { ⌜ Laid (now image) l × Judged (now image) (l .expressions) (now levels) (now reaches) × Gated (now image) ⌝ }
     ensures { λ r. ⌜ verdictOfFault r ≡ statementEntries (now (image .entry)) ⌝ }
 {
@@ -1015,6 +995,39 @@ fn statements_fault(image: &[u64], l: Layout, levels: &[u64; 2728], reaches: &[u
         number: 0,
         place: 0,
     }
+}
+
+// The first bad statement, with tables for a few expressions.
+fn few_expressions_fault(image: &[u64], l: Layout) -> Fault
+    requires { ⌜ Laid (now image) l × Gated (now image) × (l .expressions ≤ 128) ⌝ }
+    ensures { λ r. ⌜ verdictOfFault r ≡ statementEntries (now (image .entry)) ⌝ }
+{
+    let mut levels = [0u64; 128];
+    let mut reaches = [0u64; 128];
+    judge_expressions(image, l, &mut levels, &mut reaches);
+    statements_fault(image, l, &levels, &reaches)
+}
+
+// The same with tables for as many expressions as an image may have.
+fn many_expressions_fault(image: &[u64], l: Layout) -> Fault
+    requires { ⌜ Laid (now image) l × Gated (now image) ⌝ }
+    ensures { λ r. ⌜ verdictOfFault r ≡ statementEntries (now (image .entry)) ⌝ }
+{
+    let mut levels = [0u64; 2728];
+    let mut reaches = [0u64; 2728];
+    judge_expressions(image, l, &mut levels, &mut reaches);
+    statements_fault(image, l, &levels, &reaches)
+}
+
+// The first bad statement, once the expressions are judged: a small program should not pay for clearing the long tables.
+fn judged_fault(image: &[u64], l: Layout) -> Fault
+    requires { ⌜ Laid (now image) l × Gated (now image) ⌝ }
+    ensures { λ r. ⌜ verdictOfFault r ≡ statementEntries (now (image .entry)) ⌝ }
+{
+    if l.expressions <= 128 {
+        return few_expressions_fault(image, l);
+    }
+    many_expressions_fault(image, l)
 }
 
 // ---- the check
@@ -1036,10 +1049,7 @@ fn first_fault(image: &[u64], l: Layout) -> Fault
     if gate.number != 0 {
         return gate;
     }
-    let mut levels = [0u64; 2728];
-    let mut reaches = [0u64; 2728];
-    judge_expressions(image, l, &mut levels, &mut reaches);
-    statements_fault(image, l, &levels, &reaches)
+    judged_fault(image, l)
 }
 
 // The answer with a fault's number.

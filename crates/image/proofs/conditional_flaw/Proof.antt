@@ -11,25 +11,25 @@ use borrow.Author.Needs.{needs}
 use Rattle.image.proofs.conditional_flaw.Statement.{statement}
 use Rattle.image.proofs.conditional_flaw.Tie as tie
 
-main : (c : tie.Else1) → eqb (c .before .before .args .scope) 0 ≡ true
+main : (c : tie.Else1) → eqb (c .before .before .before .before .args .scope) 0 ≡ true
 main c = eq-eqb _ _ (c .if1 .left)
 
-rest : (c : tie.Else2) → (let a = c .before .before .before .before .args in unused (now (a .image)) (a .s) 4 ≡ true)
+rest : (c : tie.Else2) → (let a = c .before .before .before .before .before .before .args in unused (now (a .image)) (a .s) 4 ≡ true)
 rest c = sym (c .before .unused-after .ensures) ∙ not-false _ (c .if2 .left)
 
-register : (c : tie.Else3) → (let a = c .before .before .before .before .before .before .args in ltb (a .r) (classicalRegisters (now (a .image))) ≡ true)
-register c = below (c .before .before .before .before .before .before .pre .0 .laid .classical-is) (c .if3 .left)
+register : (c : tie.Else3) → (let a = c .before .before .before .before .before .before .before .before .args in ltb (a .r) (classicalRegisters (now (a .image))) ≡ true)
+register c = below (c .before .before .before .before .before .before .before .before .pre .0 .laid .classical-is) (c .if3 .left)
 
-further : (c : tie.Else4) → (let a = c .before .before .before .before .before .before .before .before .args in leb (mainStatements (now (a .image))) (a .t) ≡ true)
-further c = from (c .before .before .before .before .before .before .before .before .pre .0 .laid .main-is) (c .if4 .left)
+further : (c : tie.Else4) → (let a = c .before .before .before .before .before .before .before .before .before .before .args in leb (mainStatements (now (a .image))) (a .t) ≡ true)
+further c = from (c .before .before .before .before .before .before .before .before .before .before .pre .0 .laid .main-is) (c .if4 .left)
 
-listed : (c : tie.Else5) → (let a = c .before .before .before .before .before .before .before .before .before .before .args in ltb (a .t) (allStatements (now (a .image))) ≡ true)
-listed c = below (c .before .before .before .before .before .before .before .before .before .before .pre .0 .laid .all-is) (c .if5 .left)
+listed : (c : tie.Else5) → (let a = c .before .before .before .before .before .before .before .before .before .before .before .before .args in ltb (a .t) (allStatements (now (a .image))) ≡ true)
+listed c = below (c .before .before .before .before .before .before .before .before .before .before .before .before .pre .0 .laid .all-is) (c .if5 .left)
 
 returns : tie.Need-returns
 unfolding conditionalOk
 returns c v =
-    let a = c .before .before .args in
+    let a = c .before .before .before .before .args in
     if-wrong (now (a .image)) (a .scope) (a .s) (a .r) v (a .t) (out _ (ne-eqb _ _ (c .if1 .taken)))
 
 unused-after-requires : tie.Need-unused-after-requires
@@ -38,28 +38,28 @@ unused-after-requires c κs = search needs
 returns-2 : tie.Need-returns-2
 unfolding conditionalOk
 returns-2 c v =
-    let a = c .before .before .before .before .args in
+    let a = c .before .before .before .before .before .before .args in
     if-wrong (now (a .image)) (a .scope) (a .s) (a .r) v (a .t) (then _ (main (c .before .before)) (out _ (sym (c .before .unused-after .ensures) ∙ not-true _ (c .if2 .taken))))
 
 returns-3 : tie.Need-returns-3
 unfolding conditionalOk
 returns-3 c v =
-    let a = c .before .before .before .before .before .before .args in
-    if-wrong (now (a .image)) (a .scope) (a .s) (a .r) v (a .t) (then _ (main (c .before .before .before .before)) (then _ (rest (c .before .before)) (out _ (beyond (c .before .before .before .before .before .before .pre .0 .laid .classical-is) (c .if3 .taken)))))
+    let a = c .before .before .before .before .before .before .before .before .args in
+    if-wrong (now (a .image)) (a .scope) (a .s) (a .r) v (a .t) (then _ (main (c .before .before .before .before)) (then _ (rest (c .before .before)) (out _ (beyond (c .before .before .before .before .before .before .before .before .pre .0 .laid .classical-is) (c .if3 .taken)))))
 
 returns-4 : tie.Need-returns-4
 unfolding conditionalOk
 returns-4 c v =
-    let a = c .before .before .before .before .before .before .before .before .args in
+    let a = c .before .before .before .before .before .before .before .before .before .before .args in
     if-wrong (now (a .image)) (a .scope) (a .s) (a .r) v (a .t)
-    (then _ (main (c .before .before .before .before .before .before)) (then _ (rest (c .before .before .before .before)) (then _ (register (c .before .before)) (out _ (short (c .before .before .before .before .before .before .before .before .pre .0 .laid .main-is) (c .if4 .taken))))))
+    (then _ (main (c .before .before .before .before .before .before)) (then _ (rest (c .before .before .before .before)) (then _ (register (c .before .before)) (out _ (short (c .before .before .before .before .before .before .before .before .before .before .pre .0 .laid .main-is) (c .if4 .taken))))))
 
 returns-5 : tie.Need-returns-5
 unfolding conditionalOk
 returns-5 c v =
-    let a = c .before .before .before .before .before .before .before .before .before .before .args in
+    let a = c .before .before .before .before .before .before .before .before .before .before .before .before .args in
     if-wrong (now (a .image)) (a .scope) (a .s) (a .r) v (a .t)
-    (then _ (main (c .before .before .before .before .before .before .before .before)) (then _ (rest (c .before .before .before .before .before .before)) (then _ (register (c .before .before .before .before)) (then _ (further (c .before .before)) (out _ (beyond (c .before .before .before .before .before .before .before .before .before .before .pre .0 .laid .all-is) (c .if5 .taken)))))))
+    (then _ (main (c .before .before .before .before .before .before .before .before)) (then _ (rest (c .before .before .before .before .before .before)) (then _ (register (c .before .before .before .before)) (then _ (further (c .before .before)) (out _ (beyond (c .before .before .before .before .before .before .before .before .before .before .before .before .pre .0 .laid .all-is) (c .if5 .taken)))))))
 
 held-requires : tie.Need-held-requires
 held-requires c κs = search needs
@@ -67,7 +67,7 @@ held-requires c κs = search needs
 returns-6 : tie.Need-returns-6
 unfolding conditionalOk
 returns-6 c v =
-    let a = c .before .before .before .before .before .before .before .before .before .before .before .before .args in
+    let a = c .before .before .before .before .before .before .before .before .before .before .before .before .before .before .args in
     if-wrong (now (a .image)) (a .scope) (a .s) (a .r) v (a .t)
     (then _ (main (c .before .before .before .before .before .before .before .before .before .before)) (then _ (rest (c .before .before .before .before .before .before .before .before)) (then _ (register (c .before .before .before .before .before .before)) (then _ (further (c .before .before .before .before)) (then _ (listed (c .before .before)) (out _ (sym (c .before .held .ensures) ∙ not-true _ (c .if6 .taken))))))))
 
@@ -77,7 +77,7 @@ plain-flaw-requires c κs = search needs
 returns-7 : tie.Need-returns-7
 unfolding conditionalOk
 returns-7 c v =
-    let a = c .before .before .before .before .before .before .before .before .before .before .before .before .before .args in
+    let a = c .before .before .before .before .before .before .before .before .before .before .before .before .before .before .before .args in
     if-right (now (a .image)) (a .scope) (a .s) (a .r) v (a .t)
     (then _ (main (c .before .before .before .before .before .before .before .before .before .before .before)) (then _ (rest (c .before .before .before .before .before .before .before .before .before)) (then _ (register (c .before .before .before .before .before .before .before)) (then _ (further (c .before .before .before .before .before)) (then _ (listed (c .before .before .before)) (then _ (sym (c .before .before .held .ensures) ∙ not-false _ (c .before .if6 .left)) whole))))))
     (c .plain-flaw .ensures)

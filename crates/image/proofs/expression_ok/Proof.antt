@@ -8,20 +8,20 @@ use Rattle.image.proofs.expression_ok.Tie as tie
 mul-if2 : tie.Need-mul-if2
 mul-if2 c = search needs
 
-element-copy-out-if2 : tie.Need-element-copy-out-if2
-element-copy-out-if2 c = search needs
+shared-slice-read-if2 : tie.Need-shared-slice-read-if2
+shared-slice-read-if2 c = search needs
 
 mul-if3 : tie.Need-mul-if3
 mul-if3 c = search needs
 
-element-copy-out-if3 : tie.Need-element-copy-out-if3
-element-copy-out-if3 c = search needs
+shared-slice-read-if3 : tie.Need-shared-slice-read-if3
+shared-slice-read-if3 c = search needs
 
 mul-result : tie.Need-mul-result
 mul-result c = search needs
 
-element-copy-out-result : tie.Need-element-copy-out-result
-element-copy-out-result c = search needs
+shared-slice-read-result : tie.Need-shared-slice-read-result
+shared-slice-read-result c = search needs
 
 returns : tie.Need-returns
 returns c =
@@ -51,11 +51,11 @@ expression-ok-spec =
     tie.close
     (tie.spec
     mul-if2
-    element-copy-out-if2
+    shared-slice-read-if2
     mul-if3
-    element-copy-out-if3
+    shared-slice-read-if3
     mul-result
-    element-copy-out-result
+    shared-slice-read-result
     returns
     returns-2
     returns-3

@@ -44,24 +44,21 @@ returns-3 c =
     ∙ fault-next (quantumPart image l) (orElse (classicalPart image l) w) (fault-none _ _ (c .before .before .before .before .before .before .before .before .before .register-fault .ensures) (c .before .before .before .before .before .before .before .if1 .left))
     ∙ in-turn image l (a .pre)
 
-judge-expressions-requires : tie.Need-judge-expressions-requires
-judge-expressions-requires c κs = search needs
-
-statements-fault-requires : tie.Need-statements-fault-requires
-statements-fault-requires c κs =
-    let a = c .before .before .before .before .before .before .before .before .before .before .before .before .before .before .before .before in
-    (a .pre, c .before .before .judge-expressions .ensures, gated (now (a .args .image)) (fault-none _ _ (c .before .before .before .before .before .before .before .gate-fault .ensures) (c .before .before .before .before .before .if3 .left)))
+judged-fault-requires : tie.Need-judged-fault-requires
+judged-fault-requires c κs =
+    let a = c .before .before .before .before .before .before .before .before .before .before .before in
+    (a .pre, gated (now (a .args .image)) (fault-none _ _ (c .before .before .gate-fault .ensures) (c .if3 .left)))
 
 returns-4 : tie.Need-returns-4
 returns-4 c =
-    let a = c .before .before .before .before .before .before .before .before .before .before .before .before .before .before .before .before .before in
+    let a = c .before .before .before .before .before .before .before .before .before .before .before .before in
     let image = now (a .args .image) in
     let l = a .args .l in
     let w = orElse (gateEntries image) (statementEntries image) in
-    c .statements-fault .ensures
-    ∙ fault-next (gateEntries image) (statementEntries image) (fault-none _ _ (c .before .before .before .before .before .before .before .before .gate-fault .ensures) (c .before .before .before .before .before .before .if3 .left))
-    ∙ fault-next (classicalPart image l) w (fault-none _ _ (c .before .before .before .before .before .before .before .before .before .before .before .register-fault2 .ensures) (c .before .before .before .before .before .before .before .before .before .if2 .left))
-    ∙ fault-next (quantumPart image l) (orElse (classicalPart image l) w) (fault-none _ _ (c .before .before .before .before .before .before .before .before .before .before .before .before .before .before .before .register-fault .ensures) (c .before .before .before .before .before .before .before .before .before .before .before .before .before .if1 .left))
+    c .judged-fault .ensures
+    ∙ fault-next (gateEntries image) (statementEntries image) (fault-none _ _ (c .before .before .before .gate-fault .ensures) (c .before .if3 .left))
+    ∙ fault-next (classicalPart image l) w (fault-none _ _ (c .before .before .before .before .before .before .register-fault2 .ensures) (c .before .before .before .before .if2 .left))
+    ∙ fault-next (quantumPart image l) (orElse (classicalPart image l) w) (fault-none _ _ (c .before .before .before .before .before .before .before .before .before .before .register-fault .ensures) (c .before .before .before .before .before .before .before .before .if1 .left))
     ∙ in-turn image l (a .pre)
 
 pub first-fault-spec : {M : Type 1} → statement M
@@ -75,6 +72,5 @@ first-fault-spec =
     returns-2
     gate-fault-requires
     returns-3
-    judge-expressions-requires
-    statements-fault-requires
+    judged-fault-requires
     returns-4)

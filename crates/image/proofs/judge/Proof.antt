@@ -29,7 +29,7 @@ leaf-requires c κs = search needs
 returns : tie.Need-returns
 returns c =
     let w = c .before .before in
-    let s = w .before .before .before .before .before in
+    let s = w .before .before .before .before .before .before .before in
     judged-leaf (now (s .args .image)) (s .args .e) _ _ _ _
     (w .before .before .before .expression-at .ensures) (w .before .before .word .ensures) (w .before .word2 .ensures) (w .word3 .ensures) (omega arith)
     _ _ (c .before .if1 .taken) (c .leaf .ensures)
@@ -46,7 +46,7 @@ over-requires c κs = search needs
 returns-2 : tie.Need-returns-2
 returns-2 c =
     let w = c .before .before .before .before .before in
-    let s = w .before .before .before .before .before in
+    let s = w .before .before .before .before .before .before .before in
     judged-binary (now (s .args .image)) (s .args .e) _ _ _ _
     (w .before .before .before .expression-at .ensures) (w .before .before .word .ensures) (w .before .word2 .ensures) (w .word3 .ensures) (omega arith)
     (now (s .args .levels)) (now (s .args .reaches)) (s .pre .1)
@@ -63,7 +63,7 @@ over-requires-2 c κs = search needs
 returns-3 : tie.Need-returns-3
 returns-3 c =
     let w = c .before .before .before .before .before .before in
-    let s = w .before .before .before .before .before in
+    let s = w .before .before .before .before .before .before .before in
     judged-unary (now (s .args .image)) (s .args .e) _ _ _ _
     (w .before .before .before .expression-at .ensures) (w .before .before .word .ensures) (w .before .word2 .ensures) (w .word3 .ensures) (omega arith)
     (now (s .args .levels)) (now (s .args .reaches)) (s .pre .1)
@@ -74,7 +74,7 @@ returns-3 c =
 returns-4 : tie.Need-returns-4
 returns-4 c =
     let w = c .before .before .before .before in
-    let s = w .before .before .before .before .before in
+    let s = w .before .before .before .before .before .before .before in
     judged-unused (now (s .args .image)) (s .args .e) _ _ _ _
     (w .before .before .before .expression-at .ensures) (w .before .before .word .ensures) (w .before .word2 .ensures) (w .word3 .ensures) (omega arith)
     (c .before .before .if2 .left) (c .before .if3 .taken) (c .if4 .left)
@@ -82,7 +82,7 @@ returns-4 c =
 returns-5 : tie.Need-returns-5
 returns-5 c =
     let w = c .before .before .before in
-    let s = w .before .before .before .before .before in
+    let s = w .before .before .before .before .before .before .before in
     judged-unknown (now (s .args .image)) (s .args .e) _ _ _ _
     (w .before .before .before .expression-at .ensures) (w .before .before .word .ensures) (w .before .word2 .ensures) (w .word3 .ensures) (omega arith)
     (c .if3 .left)

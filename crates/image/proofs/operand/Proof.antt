@@ -7,14 +7,14 @@ use Rattle.image.proofs.operand.Tie as tie
 mul-t8 : tie.Need-mul-t8
 mul-t8 c = search needs
 
-element-copy-out-t11 : tie.Need-element-copy-out-t11
-element-copy-out-t11 c = search needs
+shared-slice-read-t10 : tie.Need-shared-slice-read-t10
+shared-slice-read-t10 c = search needs
 
-mul-t12 : tie.Need-mul-t12
-mul-t12 c = search needs
+mul-t11 : tie.Need-mul-t11
+mul-t11 c = search needs
 
-element-copy-out-t15 : tie.Need-element-copy-out-t15
-element-copy-out-t15 c = search needs
+shared-slice-read-t13 : tie.Need-shared-slice-read-t13
+shared-slice-read-t13 c = search needs
 
 returns : tie.Need-returns
 returns c = (rw (lt-ltb _ _ (c .before .before .if1 .taken)) refl, rw (lt-ltb _ _ (c .before .before .if1 .taken)) refl)
@@ -24,4 +24,4 @@ returns-2 c = (rw (le-ltb _ _ (c .if1 .left)) refl, rw (le-ltb _ _ (c .if1 .left
 
 pub operand-spec : {M : Type 1} → statement M
 operand-spec =
-    tie.close (tie.spec mul-t8 element-copy-out-t11 mul-t12 element-copy-out-t15 returns returns-2)
+    tie.close (tie.spec mul-t8 shared-slice-read-t10 mul-t11 shared-slice-read-t13 returns returns-2)

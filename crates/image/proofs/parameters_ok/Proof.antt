@@ -41,7 +41,7 @@ loop-again : tie.Need-loop-again Inv-loop μ-loop
 loop-again c =
     let x = c .before in
     let l = x .before .before .before .before in
-    let s = l .before .before in
+    let s = l .before .before .before .before in
     let a = s .args in
     let judged = parameter-judged (now (a .image)) (a .v) (a .p + l .loop .i) _ _ _ (x .before .before .parameter-at .ensures) (x .before .word .ensures) (x .expression-ok .ensures) in
     (search needs, all-next (parameterOk (now (a .image)) (a .v)) (a .p) (l .loop .i) (l .loop .inv .1) (judged ∙ c .if1 .taken))
@@ -50,7 +50,7 @@ returns : tie.Need-returns Inv-loop μ-loop
 returns c =
     let x = c .before in
     let l = x .before .before .before .before in
-    let s = l .before .before in
+    let s = l .before .before .before .before in
     let a = s .args in
     let judged = parameter-judged (now (a .image)) (a .v) (a .p + l .loop .i) _ _ _ (x .before .before .parameter-at .ensures) (x .before .word .ensures) (x .expression-ok .ensures) in
     all-fails (parameterOk (now (a .image)) (a .v)) (a .p) (l .loop .i) (a .n) (x .before .before .before .loop-test .taken) (judged ∙ c .if1 .left)
@@ -58,7 +58,7 @@ returns c =
 returns-2 : tie.Need-returns-2 Inv-loop μ-loop
 returns-2 c =
     let l = c .before .loop in
-    let same : l .i ≡ c .before .before .before .args .n = omega arith in
+    let same : l .i ≡ c .before .before .before .before .before .args .n = omega arith in
     sym (rw same at (l .inv .1))
 
 pub parameters-ok-spec : {M : Type 1} → statement M

@@ -23,7 +23,7 @@ add-end c = search needs
 
 loop-holds : tie.Need-loop-holds Inv-loop μ-loop
 loop-holds c =
-    let a = c .before .before .before .args in
+    let a = c .before .before .before .before .before .args in
     (omega arith, from-start (flaw (now (a .image)) (a .scope)) (statementAt (now (a .image))) (scopeVerdict (now (a .image)) (a .scope)) _ _ _ _ (c .before .statements-of .ensures .statements-are) refl refl)
 
 statement-flaw-requires : tie.Need-statement-flaw-requires Inv-loop μ-loop
@@ -34,7 +34,7 @@ statement-at-requires c κs = search needs
 
 returns : tie.Need-returns Inv-loop μ-loop
 returns c =
-    let a = c .before .before .before .before .before .before .before .before .args in
+    let a = c .before .before .before .before .before .before .before .before .before .before .args in
     from-here (flaw (now (a .image)) (a .scope)) (statementAt (now (a .image))) (scopeVerdict (now (a .image)) (a .scope)) _ _ _ _
     (c .before .before .before .before .loop .inv .1) (c .before .before .before .loop-test .taken) (c .before .before .statement-flaw .ensures) (c .before .if1 .taken) (c .statement-at .ensures)
 
@@ -46,7 +46,7 @@ loop-less c = search needs
 
 loop-again : tie.Need-loop-again Inv-loop μ-loop
 loop-again c =
-    let a = c .before .before .before .before .before .before .before .args in (
+    let a = c .before .before .before .before .before .before .before .before .before .args in (
       omega arith,
       from-next (flaw (now (a .image)) (a .scope)) (statementAt (now (a .image))) (scopeVerdict (now (a .image)) (a .scope)) _ _ _
           (c .before .before .before .loop .inv .1) (c .before .before .loop-test .taken) (c .before .statement-flaw .ensures) (c .if1 .left),
@@ -54,7 +54,7 @@ loop-again c =
 
 returns-2 : tie.Need-returns-2 Inv-loop μ-loop
 returns-2 c =
-    let a = c .before .before .before .before .before .args in
+    let a = c .before .before .before .before .before .before .before .args in
     from-end (flaw (now (a .image)) (a .scope)) (statementAt (now (a .image))) (scopeVerdict (now (a .image)) (a .scope)) _ _ (c .before .loop .inv .1) (c .loop-test .left)
 
 pub scope-fault-spec : {M : Type 1} → statement M

@@ -29,7 +29,7 @@ conditional-flaw-requires c κs = search needs
 
 returns : tie.Need-returns
 returns c =
-    let a = c .before .before .before .before .before .before .before .args in
+    let a = c .before .before .before .before .before .before .before .before .before .args in
     flaw-if (now (a .image)) (a .scope) (a .s) _ _ _ _ _
     (words-are (now (a .image)) (a .s) _ _ _ _ _ _ (c .before .before .before .before .before .statement-at .ensures) (c .before .before .before .before .word .ensures) (c .before .before .word2 .ensures) refl (c .before .word3 .ensures) refl)
     (c .before .before .before .if1 .taken) (c .conditional-flaw .ensures _)
@@ -39,7 +39,7 @@ plain-flaw-requires c κs = search needs
 
 returns-2 : tie.Need-returns-2
 returns-2 c =
-    let a = c .before .before .before .before .before .args in
+    let a = c .before .before .before .before .before .before .before .args in
     flaw-plain (now (a .image)) (a .scope) (a .s) _ _ _ _ _
     (words-are (now (a .image)) (a .s) _ _ _ _ _ _ (c .before .before .before .statement-at .ensures) (c .before .before .word .ensures) refl refl refl refl)
     (c .before .if1 .left) (c .plain-flaw .ensures)

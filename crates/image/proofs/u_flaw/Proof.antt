@@ -14,41 +14,41 @@ use borrow.Author.Needs.{needs}
 use Rattle.image.proofs.u_flaw.Statement.{statement}
 use Rattle.image.proofs.u_flaw.Tie as tie
 
-form : (c : tie.Else4) → (let a = c .before .before .before .before .before .before .args in let n = expressions (now (a .image)) in every (ltb (a .theta) n ∷ ltb (a .phi) n ∷ ltb (a .lambda) n ∷ ltb (a .q) (arguments (now (a .image))) ∷ [])) ≡ true
+form : (c : tie.Else4) → (let a = c .before .before .before .before .before .before .before .before .args in let n = expressions (now (a .image)) in every (ltb (a .theta) n ∷ ltb (a .phi) n ∷ ltb (a .lambda) n ∷ ltb (a .q) (arguments (now (a .image))) ∷ [])) ≡ true
 form c =
-    let e = c .before .before .before .before .before .before .pre .laid in
+    let e = c .before .before .before .before .before .before .before .before .pre .laid in
     then _ (below (e .expressions-is) (c .before .before .before .before .if1 .left))
     (then _ (below (e .expressions-is) (c .before .before .before .if2 .left))
     (then _ (below (e .expressions-is) (c .before .before .if3 .left)) (then _ (below (e .arguments-is) (c .if4 .left)) whole)))
 
 returns : tie.Need-returns
 unfolding plainFlaw
-returns c s = fails _ (out _ (beyond (c .before .before .pre .laid .expressions-is) (c .if1 .taken)))
+returns c s = fails _ (out _ (beyond (c .before .before .before .before .pre .laid .expressions-is) (c .if1 .taken)))
 
 returns-2 : tie.Need-returns-2
 unfolding plainFlaw
 returns-2 c s =
-    let e = c .before .before .before .pre .laid .expressions-is in
+    let e = c .before .before .before .before .before .pre .laid .expressions-is in
     fails _ (then _ (below e (c .before .if1 .left)) (out _ (beyond e (c .if2 .taken))))
 
 returns-3 : tie.Need-returns-3
 unfolding plainFlaw
 returns-3 c s =
-    let e = c .before .before .before .before .pre .laid .expressions-is in
+    let e = c .before .before .before .before .before .before .pre .laid .expressions-is in
     fails _ (then _ (below e (c .before .before .if1 .left)) (then _ (below e (c .before .if2 .left)) (out _ (beyond e (c .if3 .taken)))))
 
 returns-4 : tie.Need-returns-4
 unfolding plainFlaw
 returns-4 c s =
-    let e = c .before .before .before .before .before .before .pre .laid .expressions-is in
-    fails _ (then _ (below e (c .before .before .before .before .if1 .left)) (then _ (below e (c .before .before .before .if2 .left)) (then _ (below e (c .before .before .if3 .left)) (out _ (beyond (c .before .before .before .before .before .before .pre .laid .arguments-is) (c .if4 .taken))))))
+    let e = c .before .before .before .before .before .before .before .before .pre .laid .expressions-is in
+    fails _ (then _ (below e (c .before .before .before .before .if1 .left)) (then _ (below e (c .before .before .before .if2 .left)) (then _ (below e (c .before .before .if3 .left)) (out _ (beyond (c .before .before .before .before .before .before .before .before .pre .laid .arguments-is) (c .if4 .taken))))))
 
 variables-of-requires : tie.Need-variables-of-requires
 variables-of-requires c κs = search needs
 
 angles-ok-requires : tie.Need-angles-ok-requires
 angles-ok-requires c κs =
-    let a = c .before .before .before .before .before .before .before in
+    let a = c .before .before .before .before .before .before .before .before .before in
     let few = variables-few (now (a .args .image)) (a .pre .gated) (a .args .scope) _ (a .pre .laid .gates-is) (a .pre .within) in
     (a .pre .laid, a .pre .judged, omega (arith, c .variables-of .ensures))
 
