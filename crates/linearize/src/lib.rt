@@ -551,7 +551,7 @@ fn visit_program(
     Linearized::Done(now)
 }
 
-// The main statements, with a table for the values of at most 64 expressions.
+// The main statements, with a table for the values of at most 128 expressions.
 fn visit_few_expressions(
     image: &[u64],
     l: Layout,
@@ -562,10 +562,10 @@ fn visit_few_expressions(
     trace: &mut [u64],
     at: Position,
 ) -> Linearized
-    requires { ⌜ Tabled (now image) l (now qubits) (now bits) × Open (now out) at × (256 ≤ length (now trace)) × (at .trace ≡ 0) × (l .expressions ≤ 64) ⌝ }
+    requires { ⌜ Tabled (now image) l (now qubits) (now bits) × Open (now out) at × (256 ≤ length (now trace)) × (at .trace ≡ 0) × (l .expressions ≤ 128) ⌝ }
     ensures { λ r. ⌜ Ran (visitBody (now (image .entry)) (opening (now (image .entry)) left) mainFrame) (now (out .entry)) at (now (trace .entry)) r (now (out .exit)) (now (trace .exit)) ⌝ }
 {
-    let mut table = [0u64; 448];
+    let mut table = [0u64; 896];
     visit_program(image, l, qubits, bits, &mut table, left, out, trace, at)
 }
 
@@ -601,7 +601,7 @@ fn visit_tabled(
     requires { ⌜ Tabled (now image) l (now qubits) (now bits) × Open (now out) at × (256 ≤ length (now trace)) × (at .trace ≡ 0) ⌝ }
     ensures { λ r. ⌜ Ran (visitBody (now (image .entry)) (opening (now (image .entry)) left) mainFrame) (now (out .entry)) at (now (trace .entry)) r (now (out .exit)) (now (trace .exit)) ⌝ }
 {
-    if l.expressions <= 64 {
+    if l.expressions <= 128 {
         return visit_few_expressions(image, l, qubits, bits, left, out, trace, at);
     }
     visit_many_expressions(image, l, qubits, bits, left, out, trace, at)

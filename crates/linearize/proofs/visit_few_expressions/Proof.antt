@@ -9,7 +9,7 @@ slice-aggregate-visit-program : tie.Need-slice-aggregate-visit-program
 slice-aggregate-visit-program c = search needs
 
 visit-program-requires : tie.Need-visit-program-requires
-visit-program-requires c κs = (c .before .before .before .before .before .before .before .before .pre .0, fixed-none (now (c .before .before .before .before .before .before .before .before .args .image)) 448 (omega (arith, c .before .before .before .before .before .before .before .before .pre .4, c .before .before .before .before .before .before .before .before .pre .0 .laid .expressions-is)), c .before .before .before .before .before .before .before .before .pre .1, c .before .before .before .before .before .before .before .before .pre .2, c .before .before .before .before .before .before .before .before .pre .3)
+visit-program-requires c κs = (c .before .before .before .before .before .before .before .before .pre .0, fixed-none (now (c .before .before .before .before .before .before .before .before .args .image)) 896 (omega (arith, c .before .before .before .before .before .before .before .before .pre .4, c .before .before .before .before .before .before .before .before .pre .0 .laid .expressions-is)), c .before .before .before .before .before .before .before .before .pre .1, c .before .before .before .before .before .before .before .before .pre .2, c .before .before .before .before .before .before .before .before .pre .3)
 
 same-length : tie.Need-same-length
 same-length c = search needs
