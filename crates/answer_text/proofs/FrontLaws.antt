@@ -11,7 +11,7 @@ use lib.Seq.{length-take-le}
 use Rattle.model.specs.Lists.{sum}
 use Rattle.model.specs.Reader.{Next, next, end, wrong, recordLength, nextAt, found, recordsFrom, recordsIn}
 use Rattle.reader.specs.Answer.{wordsOf}
-use Rattle.writer.proofs.WriteLaws.{flat-append}
+use Rattle.model.proofs.ListLaws.{flat-append}
 use Rattle.listing_text.specs.Put.{Put, PutMost}
 use Rattle.listing_text.specs.WordText.{recordLine}
 use Rattle.listing_text.proofs.PutLaws.{put-none, put-same, put-then, put-length}

@@ -1,10 +1,9 @@
 -- The sixteen angles that some words hold.
 use Prim.Native.Nat.{ℕ, zero, suc, _+_, _*_, _<_}
-use native.Mathlib.Nat.{add-zero, add-suc, suc-add}
 use native.Mathlib.Omega.{arith}
 use mathlib.Core.Path.{_≡_, refl, sym, ap, _∙_}
 use mathlib.Core.Bool.{Bool, true, false}
-use mathlib.Core.List.{List, map}
+use mathlib.Core.List.{List}
 use lib.Dec.{eqb}
 use borrow.Author.Tests.{eqb-true, eqb-false}
 use lib.ListN.{length, getD, set, length-set, length-map, replicate}
@@ -13,22 +12,17 @@ use Rattle.value.specs.declared.Value.{Value}
 use Rattle.value.specs.Value.{Sound}
 use Rattle.model.specs.Lists.{range}
 use Rattle.model.specs.Evaluate.{zeroValue}
+use Rattle.model.proofs.ListLaws.{entry-of-map}
 use Rattle.model.proofs.Lengths.{length-range}
+use Rattle.model.proofs.AnglesSound.{zero-sound}
 use Rattle.writer.specs.Promise.{SoundAngles}
 use Rattle.expression.specs.Table.{valueAt, putValue, anglesIn}
 use Rattle.expression.proofs.TableLaws.{value-same, value-other}
-use Rattle.expression.proofs.ParameterLaws.{zero-sound}
-
-nth : (f : ℕ → Value) (a n i : ℕ) (d : Value) → i < n → getD (map f (range a n)) i d ≡ f (a + i)
-unfolding range
-nth f a zero i d h = absurd (omega arith)
-nth f a (suc n) zero d h = ap f (sym (add-zero a))
-nth f a (suc n) (suc i) d h = nth f (suc a) n i d (omega arith) ∙ ap f (suc-add a i ∙ sym (add-suc a i))
 
 module _ (words : List ℕ) where
   pub angle-at : (i : ℕ) (d : Value) → i < 16 → getD (anglesIn words) i d ≡ valueAt words (6 * i)
   unfolding anglesIn
-  angle-at i d h = nth (λ (k : ℕ). valueAt words (6 * k)) 0 16 i d h ∙ ap (λ (k : ℕ). valueAt words (6 * k)) (omega arith)
+  angle-at i d h = entry-of-map (λ (k : ℕ). valueAt words (6 * k)) 0 16 i d h ∙ ap (λ (k : ℕ). valueAt words (6 * k)) (omega arith)
 
   pub sixteen : length (anglesIn words) ≡ 16
   unfolding anglesIn

@@ -19,7 +19,8 @@ use Rattle.model.specs.Check.{entryOk, expressionOk}
 use Rattle.model.specs.Evaluate.{unary, binary, valueOf, evaluate}
 use Rattle.model.proofs.All.{test}
 use Rattle.model.proofs.EvaluateLaws.{operand, node}
-use Rattle.expression.specs.Operands.{Formed}
+use Rattle.image.proofs.ExpressionLaws.{entry-is}
+use Rattle.expression.specs.Operands.{Formed, NoValue}
 use Rattle.expression.specs.Table.{Constant}
 
 module _ (image : List ℕ) (v : ℕ) (op : ℕ → Bool) (p a b : ℕ) where
@@ -68,8 +69,7 @@ module _ (image : List ℕ) (e : ℕ) (f : Formed image e) where
 -- an entry as its words were read
 module _ (image : List ℕ) (values : List Value) (e : ℕ) (f : Formed image e) (p kind a b : ℕ) (ep : p ≡ expressionAt image e) (ek : kind ≡ word image p) (ea : a ≡ word image (p + 1)) (eb : b ≡ word image (p + 2)) where
   read : expression image e ≡ expressionOf kind a b
-  unfolding expression
-  read = sym (rw (ek, ea, eb, ep) refl)
+  read = entry-is image e p kind a b ep ek ea eb
 
   pub entry : Kinds image (f .variables) (operand image (f .variables) values 32 e) (expressionAt image e) a b kind
   entry = kinds image (f .variables) (operand image (f .variables) values 32 e) (expressionAt image e) a b kind (subst (λ (x : Expr). T (entryOk image (f .variables) (operand image (f .variables) values 32 e) (expressionAt image e) x)) read (node image (f .variables) values 32 e (f .formed) .0))
@@ -86,8 +86,11 @@ module _ (image : List ℕ) (values : List Value) (e : ℕ) (f : Formed image e)
 abbrev pub Refused : Evaluation → Type 0
 Refused r = OneOf (1 ∷ 2 ∷ 3 ∷ 4 ∷ []) (tagOf the-type r)
 
+pub no-value : (r : Evaluation) → Refused r → NoValue r
+no-value r k x e = absurd (⊎-elim (λ e. omega arith) (λ h. ⊎-elim (λ e. omega arith) (λ i. ⊎-elim (λ e. omega arith) (λ e. omega arith) i) h) (subst Refused e k))
+
 stays : (r : Evaluation) (f : Value → Evaluation) → Refused r → r ≡ andThen r f
-stays (evaluation.Value x) f k = absurd (⊎-elim (λ e. omega arith) (λ h. ⊎-elim (λ e. omega arith) (λ i. ⊎-elim (λ e. omega arith) (λ e. omega arith) i) h) k)
+stays (evaluation.Value x) f k = absurd (no-value _ k x refl)
 stays evaluation.DivideByZero f k = refl
 stays evaluation.Overflow f k = refl
 stays (evaluation.ApproximateFail x) f k = refl
@@ -119,6 +122,12 @@ module _ (values : List Value) (op : ℕ → Evaluation) (a b : ℕ) where
   unop (suc (suc (suc (suc (suc (suc zero)))))) l = (Sqrt, refl)
   unop (suc (suc (suc (suc (suc (suc (suc n))))))) l = absurd (omega arith)
 
+  unop-of : (kind : ℕ) → 9 ≤ kind → kind < 16 → ((f : Unop) × (expressionOf kind a b ≡ Unary f a))
+  unop-of kind h l =
+      let o = unop (kind - 9) (omega arith) in
+      let same : 9 + (kind - 9) ≡ kind = omega arith in
+      (o .0, sym (ap (λ (n : ℕ). expressionOf n a b) same) ∙ o .1)
+
   -- "The left operand's refusal wins."
   pub left-refuses : (kind : ℕ) (r : Evaluation) → 4 ≤ kind → kind < 16 → op a ≡ r → Refused r → r ≡ valueOf values op (expressionOf kind a b)
   unfolding valueOf
@@ -126,12 +135,7 @@ module _ (values : List Value) (op : ℕ → Evaluation) (a b : ℕ) where
     where
       go : (s : Bool) → ltb kind 9 ≡ s → r ≡ valueOf values op (expressionOf kind a b)
       go true s = let o = binop kind h (ltb-true kind 9 s) in sym (rw (o .1, e) (sym (stays r _ k)))
-      go false s =
-          let m = ltb-false kind 9 s in
-          let o = unop (kind - 9) (omega arith) in
-          let same : 9 + (kind - 9) ≡ kind = omega arith in
-          let is : expressionOf kind a b ≡ Unary (o .0) a = sym (ap (λ (n : ℕ). expressionOf n a b) same) ∙ o .1 in
-          sym (rw (is, e) (sym (stays r _ k)))
+      go false s = let o = unop-of kind (ltb-false kind 9 s) l in sym (rw (o .1, e) (sym (stays r _ k)))
 
   pub right-refuses : (kind : ℕ) (x : Value) (r : Evaluation) → 4 ≤ kind → kind < 9 → op a ≡ evaluation.Value x → op b ≡ r → Refused r → r ≡ valueOf values op (expressionOf kind a b)
   unfolding valueOf
@@ -158,9 +162,8 @@ module _ (image : List ℕ) (e : ℕ) (f : Formed image e) (p kind a b : ℕ) (e
   pub constant-one : 9 ≤ kind → kind < 16 → Constant image a → Constant image e
   unfolding valueOf
   constant-one h l c xs ys =
-      let o = unop xs (evaluate image xs 32) a b (kind - 9) (omega arith) in
-      let is : expressionOf kind a b ≡ Unary (o .0) a = sym (ap (λ (n : ℕ). expressionOf n a b) (let same : 9 + (kind - 9) ≡ kind = omega arith in same)) ∙ o .1 in
-      alike xs ys (ap (valueOf xs (evaluate image xs 32)) is ∙ ap (λ (r : Evaluation). andThen r (unary (o .0))) (c xs ys) ∙ sym (ap (valueOf ys (evaluate image ys 32)) is))
+      let o = unop-of xs (evaluate image xs 32) a b kind h l in
+      alike xs ys (ap (valueOf xs (evaluate image xs 32)) (o .1) ∙ ap (λ (r : Evaluation). andThen r (unary (o .0))) (c xs ys) ∙ sym (ap (valueOf ys (evaluate image ys 32)) (o .1)))
 
   pub constant-two : 4 ≤ kind → kind < 9 → Constant image a → Constant image b → Constant image e
   unfolding valueOf

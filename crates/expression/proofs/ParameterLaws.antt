@@ -21,7 +21,6 @@ use Rattle.value.specs.declared.Evaluation.the-variants as evaluation
 use Rattle.value.specs.Value.{Sound}
 use Rattle.value.specs.Promise.{EvaluatesTo}
 use Rattle.value.proofs.Evaluation.{the-type}
-use Rattle.value.proofs.Soundness.{zero-lowest}
 use Rattle.model.specs.Lists.{range}
 use Rattle.model.specs.Image.{expressionAt}
 use Rattle.model.specs.Evaluate.{evaluate, zeroValue}
@@ -32,10 +31,6 @@ use Rattle.writer.specs.declared.LinearizeErrorKind.the-variants as kind
 use Rattle.writer.specs.declared.Linearized.the-variants as linearized
 use Rattle.writer.specs.Promise.{SoundAngles}
 use Rattle.expression.specs.Operands.{NoValue, Refuses, Given}
-use Rattle.expression.proofs.EntryLaws.{Refused}
-
-pub zero-sound : Sound zeroValue
-zero-sound = record { rational-part = zero-lowest; pi-part = zero-lowest }
 
 -- sixteen angles, one of them put in anew
 put-sound : (found : List Value) (i : ℕ) (x : Value) → i < 16 → SoundAngles found → Sound x → SoundAngles (set found i x)
@@ -44,10 +39,6 @@ put-sound found i x l s h = record { full = length-set found i x ∙ s .full; ea
     go : (j : ℕ) → j < 16 → (b : Bool) → eqb j i ≡ b → Sound (getD (set found i x) j zeroValue)
     go j m true e = rw (eqb-true j i e, getD-set-same found i x zeroValue (omega (arith, s .full))) h
     go j m false e = rw (getD-set-other found i j x zeroValue (eqb-false j i e)) (s .each j m)
-
--- an evaluation whose tag is no value's
-pub no-value : (r : Evaluation) → Refused r → NoValue r
-no-value r k x e = absurd (⊎-elim (λ e. omega arith) (λ h. ⊎-elim (λ e. omega arith) (λ i. ⊎-elim (λ e. omega arith) (λ e. omega arith) i) h) (subst Refused e k))
 
 -- ---- what is told of each refusal
 

@@ -12,7 +12,7 @@ use Rattle.rational.specs.declared.Rational64.{Rational64}
 use Rattle.value.specs.declared.Value.{Value}
 use Rattle.value.specs.declared.Evaluation.{Evaluation}
 use Rattle.value.specs.declared.Evaluation.the-variants as evaluation
-use Rattle.value.specs.Value.{Sound}
+use Rattle.value.specs.Value.{Sound, value}
 use Rattle.value.specs.Promise.{EvaluatesTo}
 use Rattle.model.specs.Image.{expressions}
 use Rattle.model.specs.Evaluate.{evaluate}
@@ -85,11 +85,8 @@ module _ (t : List ℕ) (p : ℕ) (x : Rational64) where
 
 -- ---- six words
 
-abbrev angle : Rational64 → Rational64 → Value
-angle a b = record { a = a; b = b }
-
-pub value-read : (t : List ℕ) (p : ℕ) (a b : Rational64) → a ≡ partAt t p → b ≡ partAt t (p + 3) → angle a b ≡ valueAt t p
-value-read t p a b e f = ap₂ angle e f
+pub value-read : (t : List ℕ) (p : ℕ) (a b : Rational64) → a ≡ partAt t p → b ≡ partAt t (p + 3) → value a b ≡ valueAt t p
+value-read t p a b e f = ap₂ value e f
 
 pub value-put : (t t1 t2 : List ℕ) (p : ℕ) (x : Value) → t1 ≡ putPart t p (x .a) → t2 ≡ putPart t1 (p + 3) (x .b) → t2 ≡ putValue t p x
 value-put t t1 t2 p x e f = f ∙ ap (λ (u : List ℕ). putPart u (p + 3) (x .b)) e
@@ -101,21 +98,21 @@ module _ (t : List ℕ) (p : ℕ) (x : Value) where
   pub value-same : p + 5 < length t → Sound x → valueAt (putValue t p x) p ≡ x
   value-same h s =
       let t1 = putPart t p (x .a) in
-      ap₂ angle
+      ap₂ value
       (part-before t1 (p + 3) (x .b) p (omega arith) ∙ part-same t p (x .a) (omega arith) (s .rational-part .positive))
       (part-same t1 (p + 3) (x .b) (omega (arith, part-length t p (x .a))) (s .pi-part .positive))
 
   value-before : (q : ℕ) → q + 5 < p → valueAt (putValue t p x) q ≡ valueAt t q
   value-before q h =
       let t1 = putPart t p (x .a) in
-      ap₂ angle
+      ap₂ value
       (part-before t1 (p + 3) (x .b) q (omega arith) ∙ part-before t p (x .a) q (omega arith))
       (part-before t1 (p + 3) (x .b) (q + 3) (omega arith) ∙ part-before t p (x .a) (q + 3) (omega arith))
 
   value-behind : (q : ℕ) → p + 5 < q → valueAt (putValue t p x) q ≡ valueAt t q
   value-behind q h =
       let t1 = putPart t p (x .a) in
-      ap₂ angle
+      ap₂ value
       (part-behind t1 (p + 3) (x .b) q (omega arith) ∙ part-behind t p (x .a) q (omega arith))
       (part-behind t1 (p + 3) (x .b) (q + 3) (omega arith) ∙ part-behind t p (x .a) (q + 3) (omega arith))
 
@@ -134,7 +131,7 @@ module _ (t : List ℕ) (p : ℕ) (x : Value) where
 -- a word beside an angle is put in anew
 value-set : (t : List ℕ) (k v p : ℕ) → ¬ (p ≡ k) → ¬ (p + 1 ≡ k) → ¬ (p + 2 ≡ k) → ¬ (p + 3 ≡ k) → ¬ (p + 4 ≡ k) → ¬ (p + 5 ≡ k) → valueAt (set t k v) p ≡ valueAt t p
 value-set t k v p a b c d e f =
-    ap₂ angle
+    ap₂ value
     (same-fraction _ _ _ _ _ _ (ap (λ (z : ℕ). eqb z 1) (getD-set-other t k p v 0 a)) (getD-set-other t k (p + 1) v 0 b) (getD-set-other t k (p + 2) v 0 c))
     (same-fraction _ _ _ _ _ _ (ap (λ (z : ℕ). eqb z 1) (getD-set-other t k (p + 3) v 0 d)) (getD-set-other t k (p + 3 + 1) v 0 (λ q. e (omega arith))) (getD-set-other t k (p + 3 + 2) v 0 (λ q. f (omega arith))))
 

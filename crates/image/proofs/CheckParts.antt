@@ -17,10 +17,7 @@ use Rattle.image.specs.Answer.{verdictOfFault}
 use Rattle.image.specs.Layout.{Laid, Gated, registerFlaw}
 use Rattle.image.proofs.NumberLaws.{Known, check-known}
 
--- no fault, or one
-pub fault-none : (f : Fault) (v : Verdict) → verdictOfFault f ≡ v → f .number ≡ 0 → v ≡ fine
-fault-none f v e z = sym e ∙ rw (eq-eqb (f .number) 0 z) refl
-
+-- a fault, or none
 pub fault-first : (f : Fault) (v w : Verdict) → verdictOfFault f ≡ v → ¬ (f .number ≡ 0) → verdictOfFault f ≡ orElse v w
 fault-first f v w e z = e ∙ stands v (sym e ∙ rw (ne-eqb (f .number) 0 z) refl)
   where

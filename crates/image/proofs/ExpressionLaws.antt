@@ -17,6 +17,12 @@ use Rattle.model.specs.Check.{entryOk, expressionOk}
 use Rattle.model.proofs.All.{All, nil, cons, and-T, T-and}
 use Rattle.image.specs.Layout.{accepts, Judged}
 use Rattle.image.specs.Judging.{leafFits, wordsOk, Tells}
+use Rattle.image.proofs.Tests.{and-true, and-false}
+
+-- an entry by its three words
+pub entry-is : (image : List ℕ) (e at kind a b : ℕ) → at ≡ expressionAt image e → kind ≡ word image at → a ≡ word image (at + 1) → b ≡ word image (at + 2) → expression image e ≡ expressionOf kind a b
+unfolding expression
+entry-is image e at kind a b at-is kind-is a-is b-is = rw (kind-is, a-is, b-is, at-is) refl
 
 -- ---- what a level and a reach accept
 
@@ -82,14 +88,6 @@ module _ (x p y q : ℕ) where
       }
 
 -- ---- an entry without operands
-and-one : (b : Bool) → (b && true) ≡ b
-and-one true = refl
-and-one false = refl
-
-and-none : (b : Bool) → (b && false) ≡ false
-and-none true = refl
-and-none false = refl
-
 and-same : (b : Bool) → (b && b) ≡ b
 and-same true = refl
 and-same false = refl
@@ -108,10 +106,10 @@ variable-fits v kind a e h = ltb-true a v (rw e at h)
 
 leaf-words : (kind a b v : ℕ) → wordsOk kind a b v (λ i. false) ≡ (leafFits v kind a && eqb b 0)
 unfolding entryOk every expressionOf
-leaf-words zero a b v = rw (and-one (eqb b 0))
-leaf-words (suc zero) a b v = rw (and-one (eqb b 0))
+leaf-words zero a b v = rw (and-true (eqb b 0))
+leaf-words (suc zero) a b v = rw (and-true (eqb b 0))
 leaf-words (suc (suc zero)) a b v = refl
-leaf-words (suc (suc (suc zero))) a b v = rw (and-one (eqb b 0))
+leaf-words (suc (suc (suc zero))) a b v = rw (and-true (eqb b 0))
 leaf-words (suc (suc (suc (suc j)))) a b v =
     each (λ (x : Expr). entryOk (suc (suc (suc (suc j))) ∷ a ∷ b ∷ []) v (λ i. false) 0 x ≡ false) Expr.Unknown refl
     (cons refl (cons refl (cons refl (cons refl (cons refl (cons refl (cons refl (cons refl (cons refl (cons refl (cons refl (cons refl nil))))))))))))
@@ -120,7 +118,7 @@ leaf-words (suc (suc (suc (suc j)))) a b v =
 module _ (kind a b : ℕ) where
   -- its third word is not 0
   pub leaf-second : (b ≡ 0 → ⊥) → Tells 0 0 (λ v k. wordsOk kind a b v (λ i. false))
-  leaf-second h = record { right = λ v k hv hk. leaf-words kind a b v ∙ rw (ne-eqb b 0 h) (and-none (leafFits v kind a)) }
+  leaf-second h = record { right = λ v k hv hk. leaf-words kind a b v ∙ rw (ne-eqb b 0 h) (and-false (leafFits v kind a)) }
 
   -- its second word may not stand there
   pub leaf-unfit : leafFits 16 kind a ≡ false → Tells 0 0 (λ v k. wordsOk kind a b v (λ i. false))
@@ -154,7 +152,7 @@ module _ (kind a b : ℕ) where
       record {
         right = λ v k hv hk.
             leaf-words kind a b v
-            ∙ rw (e, eq-eqb b 0 z, and-one (ltb a v), le-leb 1 (suc k) (omega arith), add-one a) refl;
+            ∙ rw (e, eq-eqb b 0 z, and-true (ltb a v), le-leb 1 (suc k) (omega arith), add-one a) refl;
       }
 
 -- ---- an entry by its kind
@@ -217,14 +215,13 @@ module _ (image : List ℕ) (e : ℕ) where
 
     module _ (at : ℕ) (at-is : at ≡ expressionAt image e) (kind-is : kind ≡ word image at) (a-is : a ≡ word image (at + 1)) (b-is : b ≡ word image (at + 2)) (inside : e < expressions image) where
       its-words : expression image e ≡ expressionOf kind a b
-      unfolding expression
-      its-words = rw (kind-is, a-is, b-is, at-is) refl
+      its-words = entry-is image e at kind a b at-is kind-is a-is b-is
 
       by-words : (v k : ℕ) → expressionOk image v (suc k) e ≡ wordsOk kind a b v (operandOk v k)
       unfolding expressionOk every
       by-words v k =
           rw (lt-ltb e (expressions image) inside)
-          (and-one _
+          (and-true _
           ∙ entry-words (expressionAt image e) v (operandOk v k) (ap (λ (p : ℕ). word image (p + 1)) (sym at-is) ∙ sym a-is) (ap (λ (p : ℕ). word image (p + 2)) (sym at-is) ∙ sym b-is) (expression image e)
           ∙ ap (entryOk (kind ∷ a ∷ b ∷ []) v (operandOk v k) 0) its-words)
 
@@ -238,7 +235,7 @@ module _ (image : List ℕ) (e : ℕ) where
       unfolding every
       judged-unused l h z =
           record {
-            right = λ v k hv hk. by-words v k ∙ unary-kind a b v (operandOk v k) kind l h ∙ rw (ne-eqb b 0 z) (and-none (operandOk v k a));
+            right = λ v k hv hk. by-words v k ∙ unary-kind a b v (operandOk v k) kind l h ∙ rw (ne-eqb b 0 z) (and-false (operandOk v k a));
           }
 
       -- over operands that the tables tell of
@@ -254,7 +251,7 @@ module _ (image : List ℕ) (e : ℕ) where
         operand-told i v k hv hk = go (ltb i e) refl
           where
             go : (t : Bool) → ltb i e ≡ t → (t && (expressionOk image v k i && true)) ≡ accepts (cond t (getD levels i 0) 0) (cond t (getD reaches i 0) 0) v k
-            go true t = and-one _ ∙ told .right i (ltb-true i e t) v k hv (omega arith)
+            go true t = and-true _ ∙ told .right i (ltb-true i e t) v k hv (omega arith)
             go false t = refl
 
         pub judged-binary : (x p y q level reach : ℕ) → 4 ≤ kind → kind < 9 → x ≡ leveled a → p ≡ reached a → y ≡ leveled b → q ≡ reached b
@@ -264,7 +261,7 @@ module _ (image : List ℕ) (e : ℕ) where
             record {
               right = λ v k hv hk.
                   by-words v k ∙ binary-kind a b v (operandOk v k) kind l h
-                  ∙ rw (and-one (operandOk v k b), operand-told a v k hv hk, operand-told b v k hv hk, ← x-is, ← p-is, ← y-is, ← q-is) (t .right v k hv hk);
+                  ∙ rw (and-true (operandOk v k b), operand-told a v k hv hk, operand-told b v k hv hk, ← x-is, ← p-is, ← y-is, ← q-is) (t .right v k hv hk);
             }
 
         pub judged-unary : (x p level reach : ℕ) → 9 ≤ kind → kind < 16 → b ≡ 0 → x ≡ leveled a → p ≡ reached a
@@ -274,7 +271,7 @@ module _ (image : List ℕ) (e : ℕ) where
             record {
               right = λ v k hv hk.
                   by-words v k ∙ unary-kind a b v (operandOk v k) kind l h
-                  ∙ rw (eq-eqb b 0 z, and-one (operandOk v k a), operand-told a v k hv hk, ← x-is, ← p-is) (sym (and-same (accepts x p v k)) ∙ t .right v k hv hk);
+                  ∙ rw (eq-eqb b 0 z, and-true (operandOk v k a), operand-told a v k hv hk, ← x-is, ← p-is) (sym (and-same (accepts x p v k)) ∙ t .right v k hv hk);
             }
 
 -- ---- the tables

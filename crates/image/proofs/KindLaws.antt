@@ -1,13 +1,14 @@
 -- What a statement is by its kind, and what is wrong with it then.
 use Prim.Native.Nat.{ℕ, zero, suc, _+_, _≤_, _<_}
 use native.Mathlib.Omega.{arith}
-use mathlib.Core.Path.{_≡_, refl, sym, _∙_}
+use mathlib.Core.Path.{_≡_, refl, sym, subst, _∙_}
 use mathlib.Core.Bool.{Bool, true, false, not, _&&_}
 use mathlib.Core.List.{List}
 use lib.Dec.{ltb, eqb}
 use borrow.Author.Tests.{lt-ltb, le-ltb, ne-eqb}
 use Rattle.model.specs.Image.{Statement, U, CX, Gate, Barrier, Measure, Reset, Conditional, statementOf, word, statementAt, statement}
 use Rattle.model.specs.Check.{plainFlaw, inConditional, conditionalOk, conditionalFlaw, flaw}
+use Rattle.model.proofs.Facts.{PlainFacts, Facts, no-if}
 
 -- what is wrong with an if where none may stand
 abbrev pub noIf : ℕ → ℕ → ℕ → ℕ
@@ -47,6 +48,22 @@ module _ (image : List ℕ) where
   pub words-are : (s p k a b c d : ℕ) → p ≡ statementAt image s → k ≡ word image p → a ≡ word image (p + 1) → b ≡ word image (p + 2) → c ≡ word image (p + 3) → d ≡ word image (p + 4) → statement image s ≡ statementOf k a b c d
   unfolding statement
   words-are s p k a b c d ep ek ea eb ec ed = rw (ek, ea, eb, ec, ed, ep) refl
+
+  -- an if, and a statement that is none, by its first word
+  module _ (scope s at kind : ℕ) (at-is : at ≡ statementAt image s) (kind-is : kind ≡ word image at) where
+    stands : statement image s ≡ statementOf kind (word image (at + 1)) (word image (at + 2)) (word image (at + 3)) (word image (at + 4))
+    stands = words-are s at kind (word image (at + 1)) (word image (at + 2)) (word image (at + 3)) (word image (at + 4)) at-is kind-is refl refl refl refl
+
+    pub if-at : (t : ℕ) → kind ≡ 7 → t ≡ word image (at + 3) → statement image s ≡ Conditional (word image (at + 1)) (word image (at + 2)) t
+    if-at t e et = rw et (stands ∙ if-is kind (word image (at + 1)) (word image (at + 2)) (word image (at + 3)) (word image (at + 4)) e)
+
+    pub if-facts-at : (t : ℕ) → kind ≡ 7 → t ≡ word image (at + 3) → Facts image scope (statement image s) → Facts image scope (Conditional (word image (at + 1)) (word image (at + 2)) t)
+    if-facts-at t e et f = subst (Facts image scope) (if-at t e et) f
+
+    pub plain-facts-at : ¬ (kind ≡ 7) → Facts image scope (statement image s) → PlainFacts image scope (statement image s)
+    plain-facts-at h f =
+        subst (PlainFacts image scope) (sym stands)
+        (no-if image scope kind (word image (at + 1)) (word image (at + 2)) (word image (at + 3)) (word image (at + 4)) h (subst (Facts image scope) stands f))
 
   -- no if is looked into
   pub plain-is : (scope s : ℕ) {r : ℕ} {x y : Statement} → statement image s ≡ x → x ≡ y → r ≡ plainFlaw image noIf scope s y → r ≡ plainFlaw image noIf scope s (statement image s)

@@ -5,7 +5,7 @@ use mathlib.Core.Path.{_≡_, refl, sym, ap, _∙_}
 use mathlib.Core.Bool.{Bool, true, false, cond}
 use mathlib.Core.List.{List, [], _∷_, _++_, map, flatMap}
 use lib.Dec.{eqb, leb→le}
-use borrow.Author.Tests.{eq-eqb, ne-eqb}
+use borrow.Author.Tests.{ne-eqb}
 use Rattle.model.specs.Lists.{range}
 use Rattle.model.specs.Image.{word, gates, allStatements, gateAt, bodyStart, bodyLength, statementAt, scopeStatements}
 use Rattle.model.specs.Check.{Verdict, fine, bad, firstBad, orElse, gateOk, flaw, everyStatement, statementEntries}
@@ -15,6 +15,7 @@ use Rattle.image.specs.declared.Layout.{Layout}
 use Rattle.image.specs.declared.Fault.{Fault}
 use Rattle.image.specs.Answer.{verdictOfFault}
 use Rattle.image.specs.Layout.{Laid, Gated, Holds}
+use Rattle.image.proofs.AnswerLaws.{fault-none}
 
 -- ---- the statements of a scope
 pub holds-main : (image : List ℕ) (l : Layout) (scope : ℕ) → Laid image l → scope ≡ 0 → Holds image l scope (record { first = 0; count = l .main })
@@ -42,9 +43,6 @@ holds-body image l (suc g) p a b laid known h z ep ea eb =
 -- ---- a fault as a verdict
 pub fault-is : (k p : ℕ) → ¬ (k ≡ 0) → cond (eqb k 0) fine (bad k p) ≡ bad k p
 fault-is k p n = rw (ne-eqb k 0 n) refl
-
-pub fault-none : (f : Fault) → f .number ≡ 0 → verdictOfFault f ≡ fine
-fault-none f e = rw (eq-eqb (f .number) 0 e) refl
 
 -- ---- the first bad statement of a scope, from s on
 module _ (number place : ℕ → ℕ) (v : Verdict) where
@@ -117,7 +115,7 @@ module _ (image : List ℕ) where
 
   pub scopes-next : (i n : ℕ) (f : Fault) → Scopes i n → i ≤ n → verdictOfFault f ≡ scopeVerdict i → f .number ≡ 0 → Scopes (i + 1) n
   scopes-next i n f h j e z =
-      sym (step i (n + 1) (omega arith) ∙ ap (λ (v : Verdict). orElse v (scopesFrom (i + 1) (n + 1))) (sym e ∙ fault-none f z)) ∙ h
+      sym (step i (n + 1) (omega arith) ∙ ap (λ (v : Verdict). orElse v (scopesFrom (i + 1) (n + 1))) (fault-none f (scopeVerdict i) e z)) ∙ h
 
   pub scopes-here : (i n : ℕ) (f : Fault) → Scopes i n → i ≤ n → verdictOfFault f ≡ scopeVerdict i → ¬ (f .number ≡ 0) → verdictOfFault f ≡ statementEntries image
   scopes-here i n f h j e z =

@@ -14,6 +14,7 @@ use Rattle.model.specs.Image.{Statement, U, CX, Gate, Barrier, Measure, Reset, 
 use Rattle.model.specs.Records.{Record}
 use Rattle.model.specs.Steps.{Frame, Step, write, enter, inRounds, qubitIn, pushFrame, openGate, writeOpaque, visitGate, visitPlain, visitStatement, visitBody, opening}
 use Rattle.model.proofs.All.{test, all-All}
+use Rattle.model.proofs.Accepted as accepted
 use Rattle.model.proofs.Accepted.{Accepted}
 use Rattle.model.proofs.Facts.{PlainFacts, Facts, run-facts}
 use Rattle.model.proofs.StepsSound.{Declared, all-below}
@@ -144,5 +145,4 @@ module _ (image : List ℕ) (g left : ℕ) (angles : List Value) (q : List ℕ) 
 
 -- a gate has at most 16 arguments
 pub few-arguments : {image : List ℕ} {l : Layout} {qs bs : List ℕ} {g : ℕ} {formals : List ℕ} → Stands image l qs bs (suc g) formals → g < l .gates → gateArguments image g ≤ 16
-unfolding gateOk
-few-arguments {image} {g = g} st h = leb→le (gateArguments image g) 16 (test 1 _ (st .accepted .gateEntry g (omega (arith, h, st .laid .gates-is))))
+few-arguments {image} {g = g} st h = accepted.few-arguments (st .accepted) g (omega (arith, h, st .laid .gates-is))

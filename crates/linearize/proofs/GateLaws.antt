@@ -11,6 +11,7 @@ use Rattle.model.specs.Image.{Gate, word, statement, statementAt, parameterAt, 
 use Rattle.model.specs.Check.{expressionOk, downward, gateOk}
 use Rattle.model.specs.Steps.{Frame, refuse, Refusal, have, lack, given, parameterValues, withValues, visitPlain}
 use Rattle.model.proofs.All.{test, all-All, All-all, All-of}
+use Rattle.model.proofs.Accepted.{few-parameters, few-arguments}
 use Rattle.model.proofs.Facts.{PlainFacts}
 use Rattle.model.proofs.StepsSound.{FrameOk}
 use Rattle.image.specs.declared.Layout.{Layout}
@@ -19,6 +20,7 @@ use Rattle.linearize.specs.declared.Call.{Call}
 use Rattle.statement.specs.Frames.{standing, namedAt, Listed, Stands}
 use Rattle.linearize.specs.Running.{nested, plainSteps, callOf, Calls, callSteps}
 use Rattle.statement.proofs.GivenLaws.{listed-values}
+use Rattle.linearize.proofs.StatementLaws.{few-variables}
 
 -- the words of consecutive parameters
 parameters-from : (image : List ℕ) (p k n : ℕ) → map (λ i. word image (parameterAt image p + i)) (range k n) ≡ map (parameter image) (range (p + k) n)
@@ -35,12 +37,6 @@ named-is image p n = parameters-from image p 0 n ∙ ap (λ (m : ℕ). map (para
 -- ---- what the check says
 
 module _ {image : List ℕ} {l : Layout} {qs bs : List ℕ} {scope : ℕ} {formals : List ℕ} (st : Stands image l qs bs scope formals) where
-  -- a body has at most 16 variables
-  few-variables : (scope : ℕ) (t q : List ℕ) → FrameOk image (st .accepted) scope t q → variables image scope ≤ 16
-  unfolding variables gateOk
-  few-variables zero t q f = omega arith
-  few-variables (suc g) t q f = leb→le (gateParameters image g) 16 (test 0 _ (st .accepted .gateEntry g (f .0)))
-
   below : (g : ℕ) → g < gates image → (scope : ℕ) → T (downward image scope g) → g < nested scope
   unfolding downward
   below g h zero d = omega (arith, st .accepted .fewGates)
@@ -65,16 +61,14 @@ module _ {image : List ℕ} {l : Layout} {qs bs : List ℕ} {scope : ℕ} {forma
 
       module _ {call : Call} (e : call ≡ callOf image s) where
         pub calls : Calls image l scope s call
-        unfolding gateOk
         calls =
-            let ok = st .accepted .gateEntry gate (call-facts .0) in
             subst (Calls image l scope s) (sym e) (record {
               told = refl;
               known = known-gate .0;
               downward = below gate (call-facts .0) scope (call-facts .3);
-              few = leb→le (gateParameters image gate) 16 (test 0 _ ok);
+              few = few-parameters (st .accepted) gate (call-facts .0);
               arguments-fit = record {
-                few = leb→le (gateArguments image gate) 16 (test 1 _ ok);
+                few = few-arguments (st .accepted) gate (call-facts .0);
                 listed = omega (arith, call-facts .2, st .laid .arguments-is);
                 each = call-facts .5;
                 match = call-facts .6;
@@ -82,10 +76,9 @@ module _ {image : List ℕ} {l : Layout} {qs bs : List ℕ} {scope : ℕ} {forma
             })
 
         pub named-listed : Listed image (variables image scope) (call .named) (call .parameters)
-        unfolding gateOk
         named-listed =
             subst (λ (c : Call). Listed image (variables image scope) (c .named) (c .parameters)) (sym e) (record {
-              few = (leb→le (gateParameters image gate) 16 (test 0 _ (st .accepted .gateEntry gate (call-facts .0))), few-variables scope [] _ (st .ready));
+              few = (few-parameters (st .accepted) gate (call-facts .0), few-variables image (st .accepted) scope _ (st .ready));
               near = omega (arith, call-facts .1, st .laid .whole, st .laid .short);
               each = subst (λ (es : List ℕ). T (all (expressionOk image (variables image scope) 32) es)) (sym (named-is image (word image (at + 2)) (gateParameters image gate)))
                   (All-all _ (All-of (parameter image) (all-All _ _ (call-facts .4))));

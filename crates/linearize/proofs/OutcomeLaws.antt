@@ -114,11 +114,6 @@ module _ (image : List ℕ) (depth : ℕ) (out trace : List ℕ) where
       go fine n = absurd (n refl)
       go (bad k p) n = refl
 
--- an accepted image's contents add up
-pub contents-right : (image : List ℕ) → check image ≡ fine → contentsOk image ≡ false → ⊥
-unfolding check
-contents-right image ok wrong = let e : bad 1 0 ≡ fine = rw wrong at ok in let z : _≡_ {A = ℕ} 0 1 = cc in omega arith
-
 -- an answer other than Accepted
 bad-is-not-fine : {n p : ℕ} → ¬ (bad n p ≡ fine)
 bad-is-not-fine e = let z : _≡_ {A = ℕ} 0 1 = cc in omega arith

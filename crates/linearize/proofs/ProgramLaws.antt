@@ -24,7 +24,7 @@ use Rattle.image.specs.Firsts.{Firsts}
 use Rattle.writer.specs.declared.Linearized.{Linearized}
 use Rattle.writer.specs.declared.Linearized.the-variants as linearized
 use Rattle.statement.proofs.LoopLaws.{wrote-open}
-use Rattle.image.proofs.KindLaws.{if-is, words-are}
+use Rattle.image.proofs.KindLaws.{if-at, plain-facts-at}
 use Rattle.statement.specs.Frames.{standing, formalsOf, Stands}
 use Rattle.expression.specs.Table.{Fixed}
 use Rattle.expression.proofs.AngleLaws.{zeros-sound}
@@ -37,16 +37,13 @@ use Rattle.statement.proofs.ArgumentLaws.{few-classical, count-sum}
 
 module _ (image : List ℕ) (s : ℕ) where
   is-if : word image (statementAt image s) ≡ 7 → statement image s ≡ Conditional (word image (statementAt image s + 1)) (word image (statementAt image s + 2)) (word image (statementAt image s + 3))
-  is-if e = words-are image s (statementAt image s) _ _ _ _ _ refl refl refl refl refl refl ∙ if-is _ _ _ _ (word image (statementAt image s + 4)) e
+  is-if e = if-at image 0 s (statementAt image s) (word image (statementAt image s)) refl refl (word image (statementAt image s + 3)) e refl
 
   pub if-facts : word image (statementAt image s) ≡ 7 → Facts image 0 (statement image s) → Facts image 0 (Conditional (word image (statementAt image s + 1)) (word image (statementAt image s + 2)) (word image (statementAt image s + 3)))
   if-facts e f = subst (Facts image 0) (is-if e) f
 
   pub plain-in-main : ¬ (word image (statementAt image s) ≡ 7) → Facts image 0 (statement image s) → PlainFacts image 0 (statement image s)
-  plain-in-main h f =
-      let p = statementAt image s in
-      let e = words-are image s p (word image p) (word image (p + 1)) (word image (p + 2)) (word image (p + 3)) (word image (p + 4)) refl refl refl refl refl refl in
-      subst (PlainFacts image 0) (sym e) (no-if image 0 (word image p) (word image (p + 1)) (word image (p + 2)) (word image (p + 3)) (word image (p + 4)) h (subst (Facts image 0) e f))
+  plain-in-main h f = plain-facts-at image 0 s (statementAt image s) (word image (statementAt image s)) refl refl h f
 
   -- a conditional's steps: its start, what it holds, its end
   module _ {l : Layout} {qs bs formals : List ℕ} (st : Stands image l qs bs 0 formals) (e : word image (statementAt image s) ≡ 7) (f : Facts image 0 (statement image s))

@@ -14,7 +14,7 @@ use Rattle.model.specs.Check.{gateOk, expressionOk, argumentOk, classicalArgume
 use Rattle.model.specs.Records.{Record}
 use Rattle.model.specs.Steps.{write, inRounds, withValues, qubitIn, argumentQubits, writeU, writeCX, writeMeasure, writeReset, visitPlain}
 use Rattle.model.proofs.All.{test}
-use Rattle.model.proofs.Accepted.{Accepted}
+use Rattle.model.proofs.Accepted.{Accepted, few-parameters}
 use Rattle.model.proofs.StepsSound.{FrameOk}
 use Rattle.model.proofs.Facts.{PlainFacts, no-kind}
 use Rattle.image.specs.declared.Layout.{Layout}
@@ -73,10 +73,11 @@ cut-is g qubits {m} {n} {out} {out′} {at} {r} e w = subst (λ (k : ℕ). Wrote
 
 -- ---- angles of a U
 
-few-variables : (image : List ℕ) (acc : Accepted image) (scope : ℕ) (qs : List ℕ) → FrameOk image acc scope [] qs → variables image scope ≤ 16
-unfolding variables gateOk
+-- a body has at most 16 variables
+pub few-variables : (image : List ℕ) (acc : Accepted image) (scope : ℕ) (qs : List ℕ) → FrameOk image acc scope [] qs → variables image scope ≤ 16
+unfolding variables
 few-variables image acc zero qs f = omega arith
-few-variables image acc (suc g) qs f = leb→le (gateParameters image g) 16 (test 0 _ (acc .gateEntry g (f .0)))
+few-variables image acc (suc g) qs f = few-parameters acc g (f .0)
 
 three : (image : List ℕ) (p : ℕ) → namedAt image (p + 1) 3 ≡ word image (p + 1) ∷ word image (p + 2) ∷ word image (p + 3) ∷ []
 unfolding range

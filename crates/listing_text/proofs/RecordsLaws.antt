@@ -8,7 +8,7 @@ use Rattle.model.specs.Records.{Record, encode}
 use Rattle.model.specs.Reader.{nextAt, recordsIn}
 use Rattle.model.proofs.ReadBack.{next-record, reads-back}
 use Rattle.reader.specs.Answer.{wordsOf}
-use Rattle.writer.proofs.WriteLaws.{flat-append}
+use Rattle.model.proofs.ListLaws.{flat-append}
 use Rattle.listing_text.specs.WordText.{recordLine, Recorded}
 use Rattle.listing_text.specs.Put.{Put, PutMost}
 use Rattle.listing_text.proofs.PutLaws.{put-none, put-same, put-then, put-length}

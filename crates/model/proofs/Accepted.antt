@@ -8,7 +8,7 @@ use lib.Dec.{T, leb, ltb, eqb, leb→le, ltb→lt, eqb→eq}
 use lib.ListN.{getD}
 use Rattle.model.specs.Lists.{range, sum}
 use Rattle.model.proofs.All.{All, nil, cons, and-T, test, of-All, flat-All, range-All}
-use Rattle.model.specs.Image.{gates, quantumRegisters, classicalRegisters, quantumSize, classicalSize, qubits, bits, firstQubit, firstBit, scopeStatements, quantumRegisterAt, classicalRegisterAt}
+use Rattle.model.specs.Image.{gates, gateParameters, gateArguments, quantumRegisters, classicalRegisters, quantumSize, classicalSize, qubits, bits, firstQubit, firstBit, scopeStatements, quantumRegisterAt, classicalRegisterAt}
 use Rattle.model.specs.Check.{Verdict, fine, bad, orElse, firstOf, firstBad, contentsOk, quantumRegisterFlaw, classicalRegisterFlaw, gateOk, gateFlaw, flaw, everyStatement, registers, gateEntries, statementEntries, check}
 
 -- tests that give a number each: where none is given the i-th passes
@@ -77,3 +77,18 @@ accepts w e =
           of-All _ _
           (range-All 0 (suc (gates w)) scope (flat-All (λ scope. map (λ s. (scope, s)) (scopeStatements w scope)) _ (none-bad _ _ _ (c .1))) (omega arith) (omega arith));
     }
+
+-- its contents add up
+pub contents-right : (image : List ℕ) → check image ≡ fine → contentsOk image ≡ false → ⊥
+unfolding check
+contents-right image ok wrong = let e : bad 1 0 ≡ fine = rw wrong at ok in let z : _≡_ {A = ℕ} 0 1 = cc in omega arith
+
+-- a gate has at most 16 parameters, and at most 16 arguments
+module _ {image : List ℕ} (a : Accepted image) (g : ℕ) (h : g < gates image) where
+  pub few-parameters : gateParameters image g ≤ 16
+  unfolding gateOk
+  few-parameters = leb→le (gateParameters image g) 16 (test 0 _ (a .gateEntry g h))
+
+  pub few-arguments : gateArguments image g ≤ 16
+  unfolding gateOk
+  few-arguments = leb→le (gateArguments image g) 16 (test 1 _ (a .gateEntry g h))

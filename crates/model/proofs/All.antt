@@ -23,11 +23,6 @@ pub T-and : (a b : Bool) → T a → T b → T (a && b)
 T-and true b s t = t
 T-and false b s t = absurd s
 
-pub every-All : (l : List Bool) → T (every l) → All T l
-unfolding every
-every-All [] t = nil
-every-All (b ∷ l) t = let s = and-T b (every l) t in cons (s .0) (every-All l (s .1))
-
 pub All-every : {l : List Bool} → All T l → T (every l)
 unfolding every
 All-every nil = tt

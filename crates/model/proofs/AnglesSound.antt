@@ -23,7 +23,7 @@ use Rattle.model.proofs.Depth.{depth-rule}
 
 -- ---- expressions
 
-zero-sound : Sound zeroValue
+pub zero-sound : Sound zeroValue
 zero-sound = record { rational-part = zero-lowest; pi-part = zero-lowest }
 
 -- an entry that a list lacks is 0

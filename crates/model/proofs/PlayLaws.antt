@@ -15,6 +15,7 @@ use Rattle.model.specs.Records.{Record, encode}
 use Rattle.model.specs.Steps.{Refusal, Step, write, enter, refuse, inRounds}
 use Rattle.model.specs.Run.{Answer, done, refused, full, rejected, shortTrace, Played, stop, after, play, output, laidOver}
 use Rattle.model.specs.Playing.{Place, room, Plays, Going}
+use Rattle.model.proofs.ReadBack.{words-enough}
 
 -- stores after stores
 pub sets-append : (out : List ℕ) (i : ℕ) (ws vs : List ℕ) → sets (sets out i ws) (i + length ws) vs ≡ sets out i (ws ++ vs)
@@ -35,12 +36,6 @@ output-fits n (write t r ∷ ss) = go (leb (length (encode r)) n) refl (output-f
         → length (output (cond b (after r (play (n - length (encode r)) ss)) (stop (full t)))) ≤ n
     go true e h = simp length-append (omega (arith, leb-true (length (encode r)) n e))
     go false e h = zero-le
-
--- a record has a word at least
-a-word-each : (rs : List Record) → length rs ≤ length (flatMap encode rs)
-unfolding flatMap encode
-a-word-each [] = zero-le
-a-word-each (r ∷ rs) = simp length-append (omega (arith, a-word-each rs))
 
 -- ---- where steps come to from a place, and the answer
 
@@ -125,7 +120,7 @@ module _ {ss : List Step} {p q : Place} {a : Answer} where
         answers = ap (λ x. x .1) e;
         fits = h;
         same = ap length o ∙ simp length-sets;
-        fewer = omega (arith, w, n, a-word-each (play (room p) ss .written));
+        fewer = omega (arith, w, n, words-enough (play (room p) ss .written));
       }
 
 -- steps that stop at once
@@ -178,30 +173,13 @@ module _ {ss rest : List Step} {from now : Place} (g : Going ss rest from now) w
   pub going-stopped : {part : List Step} (more : List Step) {to : Place} {a : Answer} → rest ≡ part ++ more → Plays part now to a → ¬ (a ≡ done) → Plays ss from to a
   going-stopped more e h n = going-rest (rw e (plays-stopped more h n))
 
-  -- a step of the rest is played: a record is written, or a body entered
-  pub going-write : (t : List ℕ) (r : Record) {more : List Step} {to : Place} → rest ≡ write t r ∷ more → now .words + length (encode r) ≤ length (now .out)
-      → to .out ≡ sets (now .out) (now .words) (encode r) → to .words ≡ now .words + length (encode r) → to .records ≡ now .records + 1 → Going ss more from to
-  going-write t r e h o w n = going-part e (plays-write t r h o w n)
-
-  pub going-enter : (t : List ℕ) (h : ℕ) {more : List Step} → rest ≡ enter t h ∷ more → Going ss more from now
-  unfolding play
-  going-enter t h e = going-part e (plays-enter t h (plays-stop [] (g .played .fits) refl))
-
-  -- the rest stops at once: there is none, it is refused, or its record is too long
+  -- the rest stops at once
   pub going-stop : {a : Answer} → play (room now) rest ≡ stop a → Plays ss from now a
   going-stop e = going-rest (plays-stop rest (g .played .fits) e)
 
   pub going-done : rest ≡ [] → Plays ss from now done
   unfolding play
   going-done e = going-stop (rw e)
-
-  pub going-refuse : (t : List ℕ) (x : Refusal) (more : List Step) → rest ≡ refuse t x ∷ more → Plays ss from now (refused t x)
-  unfolding play
-  going-refuse t x more e = going-stop (rw e)
-
-  pub going-full : (t : List ℕ) (r : Record) (more : List Step) → rest ≡ write t r ∷ more → length (now .out) < now .words + length (encode r) → Plays ss from now (full t)
-  unfolding play
-  going-full t r more e h = going-stop (rw (e, lt-leb (length (encode r)) (room now) (omega arith)))
 
 -- ---- rounds: those from i on are round i and those from i + 1 on
 

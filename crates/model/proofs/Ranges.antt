@@ -7,15 +7,12 @@ use mathlib.Core.Path.{_≡_, refl, sym, ap, _∙_}
 use mathlib.Core.Bool.{Bool, true, false, _&&_}
 use mathlib.Core.List.{_∷_, map}
 use borrow.Author.Tests.{eq-eqb, ne-eqb}
+use Rattle.rational.proofs.Soundness.{both-true}
 use Rattle.model.specs.Lists.{range, sum, largest, all}
 use Rattle.model.specs.Check.{fine, bad, firstBad}
 
 -- ---- a test at each of the numbers from a on
 module _ (p : ℕ → Bool) where
-  and-true : (a b : Bool) → (a && b) ≡ true → (a ≡ true) × (b ≡ true)
-  and-true true b e = (refl, e)
-  and-true false b e = absurd (let z : _≡_ {A = ℕ} 0 1 = cc in omega arith)
-
   pub all-start : (a : ℕ) → all p (range a 0) ≡ true
   unfolding all range
   all-start a = refl
@@ -24,7 +21,7 @@ module _ (p : ℕ → Bool) where
   unfolding all range
   all-snoc a zero e h = rw (sym (ap p (add-zero a)) ∙ h) refl
   all-snoc a (suc n) e h =
-      let s = and-true (p a) (all p (range (suc a) n)) e in
+      let s = both-true (p a) (all p (range (suc a) n)) e in
       rw (s .0) (all-snoc (suc a) n (s .1) (ap p (suc-add a n ∙ sym (add-suc a n)) ∙ h))
 
   pub all-next : (a i : ℕ) → all p (range a i) ≡ true → p (a + i) ≡ true → all p (range a (i + 1)) ≡ true

@@ -12,6 +12,7 @@ use native.Mathlib.Nat.{add-zero}
 use Rattle.reader.specs.declared.NextRecord.the-variants as answer
 use Rattle.reader.specs.Answer.{answerOf, wordsOf}
 use Rattle.model.specs.Reader.{next, end, wrong, recordLength, nextAt}
+use Rattle.model.proofs.ListLaws.{four-up}
 
 pub short : (n left : ℕ) → left < n → 0 ≡ cond (leb n left) n 0
 short n left h = sym (rw (lt-leb n left h) refl)
@@ -35,9 +36,6 @@ module _ (ws : List ℕ) where
       either : (b : Bool) → _≡_ {A = ℕ} (cond b 0 0) 0
       either true = refl
       either false = refl
-
-four-up : (n : ℕ) → ¬ (n ≡ 0) → ¬ (n ≡ 1) → ¬ (n ≡ 2) → ¬ (n ≡ 3) → 4 ≤ n
-four-up n a b c d = omega arith
 
 pub nine-up : (n : ℕ) → ¬ (n ≡ 0) → ¬ (n ≡ 1) → ¬ (n ≡ 2) → ¬ (n ≡ 3) → ¬ (n ≡ 4) → ¬ (n ≡ 5) → ¬ (n ≡ 6) → ¬ (n ≡ 7) → ¬ (n ≡ 8) → 9 ≤ n
 nine-up n a b c d e f g h i = last n (four-up n a b c d) e f g h i

@@ -1,13 +1,13 @@
 -- The arguments of a call in a round.
 use Prim.Native.Nat.{ℕ, zero, suc, _+_, _≤_, _<_}
-use native.Mathlib.Nat.{add-zero}
 use native.Mathlib.Numerals.{add-one}
 use native.Mathlib.Omega.{arith}
 use mathlib.Core.Path.{_≡_, refl, sym, ap, ap₂, subst, _∙_}
 use mathlib.Core.Bool.{_||_}
-use mathlib.Core.List.{List, [], _∷_, _++_, map}
+use mathlib.Core.List.{List, [], _∷_, _++_, map, map-append}
 use lib.Dec.{T, eqb}
 use lib.ListN.{length, getD, set, take, length-set}
+use lib.Seq.{take-suc-set}
 use Rattle.value.specs.declared.Value.{Value}
 use Rattle.model.specs.Lists.{range, largest}
 use Rattle.model.specs.Image.{argumentSize, argumentAt, rounds}
@@ -15,7 +15,7 @@ use Rattle.model.specs.Check.{argumentOk, matching}
 use Rattle.model.specs.Records.{Record}
 use Rattle.model.specs.Steps.{write, Refusal, qubitIn, distinctly, writeOpaque}
 use Rattle.model.specs.Run.{refused}
-use Rattle.model.proofs.ListLaws.{getD-take}
+use Rattle.model.proofs.ListLaws.{getD-take, entry-of-map, range-snoc}
 use Rattle.model.proofs.All.{all-All, of-All, range-All}
 use Rattle.model.proofs.StepsSound.{matched}
 use Rattle.image.specs.declared.Layout.{Layout}
@@ -30,26 +30,8 @@ use Rattle.statement.specs.Frames.{standing, Stands, Inside, Overlaps, C
 use Rattle.statement.proofs.ArgumentLaws.{few-rounds}
 use Rattle.statement.proofs.GivenLaws.{refuses}
 
--- a word more at the front
-take-set : (l : List ℕ) (j x : ℕ) → j < length l → take (suc j) (set l j x) ≡ take j l ++ x ∷ []
-take-set [] j x h = absurd (omega arith)
-take-set (y ∷ l) zero x h = refl
-take-set (y ∷ l) (suc j) x h = ap (λ (k : List ℕ). y ∷ k) (take-set l j x (omega arith))
-
-map-snoc : (f : ℕ → ℕ) (a n : ℕ) → map f (range a (suc n)) ≡ map f (range a n) ++ f (a + n) ∷ []
-unfolding range
-map-snoc f a zero = ap (λ (k : ℕ). f k ∷ []) (sym (add-zero a))
-map-snoc f a (suc n) =
-    let e : suc a + n ≡ a + suc n = omega arith in
-    ap (λ (k : List ℕ). f a ∷ k) (map-snoc f (suc a) n ∙ ap (λ (m : ℕ). map f (range (suc a) n) ++ f m ∷ []) e)
-
-entry-of-map : (f : ℕ → ℕ) (a n j : ℕ) → j < n → getD (map f (range a n)) j 0 ≡ f (a + j)
-unfolding range
-entry-of-map f a zero j h = absurd (omega arith)
-entry-of-map f a (suc n) zero h = ap f (sym (add-zero a))
-entry-of-map f a (suc n) (suc j) h =
-    let e : suc a + j ≡ a + suc j = omega arith in
-    entry-of-map f (suc a) n j (omega arith) ∙ ap f e
+map-snoc : (f : ℕ → ℕ) (a n : ℕ) → map f (range a (n + 1)) ≡ map f (range a n) ++ f (a + n) ∷ []
+map-snoc f a n = ap (map f) (range-snoc a n) ∙ map-append f (range a n) ((a + n) ∷ [])
 
 module _ (image : List ℕ) (scope : ℕ) (formals : List ℕ) (a i : ℕ) where
   pub qubits-none : {q : List ℕ} → length q ≡ 16 → QubitsAre image scope formals a 0 i q
@@ -60,7 +42,7 @@ module _ (image : List ℕ) (scope : ℕ) (formals : List ℕ) (a i : ℕ) where
   qubits-more {j} {x} {q} h k e =
       record {
         full = length-set q j x ∙ k .full;
-        front = rw (add-one j) (take-set q j x (omega (arith, k .full)) ∙ ap₂ (λ (s : List ℕ) (y : ℕ). s ++ y ∷ []) (k .front) e ∙ sym (map-snoc (qubitIn image (standing image scope [] formals) i) a j));
+        front = ap (λ (n : ℕ). take n (set q j x)) (add-one j) ∙ take-suc-set q j x (omega (arith, k .full)) ∙ ap₂ (λ (s : List ℕ) (y : ℕ). s ++ y ∷ []) (k .front) e ∙ sym (map-snoc (qubitIn image (standing image scope [] formals) i) a j);
       }
 
   pub qubits-all : {j n : ℕ} {q : List ℕ} → j ≤ n → n ≤ j → QubitsAre image scope formals a j i q → QubitsAre image scope formals a n i q
@@ -70,7 +52,7 @@ module _ (image : List ℕ) (scope : ℕ) (formals : List ℕ) (a i : ℕ) where
 
   -- so each is the qubit of its argument
   pub qubit-of : {n : ℕ} {q : List ℕ} → QubitsAre image scope formals a n i q → (j : ℕ) → j < n → qubitIn image (standing image scope [] formals) i (a + j) ≡ getD q j 0
-  qubit-of {n} {q} k j h = sym (entry-of-map _ a n j h) ∙ ap (λ (l : List ℕ). getD l j 0) (sym (k .front)) ∙ getD-take n j q 0 h
+  qubit-of {n} {q} k j h = sym (entry-of-map _ a n j 0 h) ∙ ap (λ (l : List ℕ). getD l j 0) (sym (k .front)) ∙ getD-take n j q 0 h
 
 module _ {image : List ℕ} {l : Layout} {scope a n : ℕ} (c : Called image l scope a n) {j : ℕ} (h : j < n) where
   pub argument-listed : a + j < l .arguments

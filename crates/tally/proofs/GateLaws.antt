@@ -2,13 +2,12 @@
 use Prim.Native.Nat.{ℕ, zero, suc, _+_, _*_, _≤_, _<_}
 use mathlib.Core.Path.{_≡_, refl}
 use mathlib.Core.List.{List}
-use lib.Dec.{leb→le}
 use lib.ListN.{getD}
 use borrow.Author.Tests.{eq-eqb, ne-eqb}
 use Rattle.model.specs.Image.{word, gates, gateAt}
-use Rattle.model.specs.Check.{fine, gateOk, check}
+use Rattle.model.specs.Check.{fine, check}
 use Rattle.model.specs.Tally.{openGateTally, gateTally, openingTally}
-use Rattle.model.proofs.All.{test}
+use Rattle.model.proofs.Accepted as accepted
 use Rattle.model.proofs.Accepted.{accepts}
 use Rattle.tally.specs.Weights.{weightOf, entryOf, cut, opening, body, Tabled}
 use Rattle.tally.proofs.Cuts.{rounds-of-body}
@@ -32,9 +31,7 @@ module _ (image : List ℕ) (j g at k : ℕ) (at-is : at ≡ gateAt image g) whe
 -- what acceptance says of a gate's counts
 module _ (image : List ℕ) (ok : check image ≡ fine) (g at : ℕ) (h : g < gates image) (at-is : at ≡ gateAt image g) where
   pub few-parameters : (p : ℕ) → p ≡ word image at → p ≤ 16
-  unfolding gateOk
-  few-parameters p e = rw (e, at-is) (leb→le _ 16 (test 0 _ (accepts image ok .gateEntry g h)))
+  few-parameters p e = rw (e, at-is) (accepted.few-parameters (accepts image ok) g h)
 
   pub few-arguments : (q : ℕ) → q ≡ word image (at + 1) → q ≤ 16
-  unfolding gateOk
-  few-arguments q e = rw (e, at-is) (leb→le _ 16 (test 1 _ (accepts image ok .gateEntry g h)))
+  few-arguments q e = rw (e, at-is) (accepted.few-arguments (accepts image ok) g h)

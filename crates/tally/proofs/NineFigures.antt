@@ -85,10 +85,6 @@ module _ (image : List ℕ) (depth n m : ℕ) (nine : List ℕ) (ok : check imag
       let e : largest (map cut (figures image (n + 1))) ≡ m = sym (most-is ∙ ap largest nine-are) in
       rw (ok, same, passing (figures image (n + 1)) (omega arith)) refl
 
-pub contents-right : (image : List ℕ) → check image ≡ fine → contentsOk image ≡ false → ⊥
-unfolding check
-contents-right image ok wrong = let e : bad 1 0 ≡ fine = rw wrong at ok in let z : _≡_ {A = ℕ} 0 1 = cc in omega arith
-
 -- an image that is refused
 pub not-accepted : (v : CheckAnswer) (a : TallyAnswer) → OneOf (1 ∷ 2 ∷ 3 ∷ 4 ∷ 5 ∷ 6 ∷ 7 ∷ 8 ∷ []) (tagOf the-type v) → refusedAs (verdictOf v) ≡ ifAccepted (verdictOf v) a
 unfolding ifAccepted

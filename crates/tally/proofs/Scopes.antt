@@ -13,30 +13,16 @@ use Rattle.model.specs.Tally.{plainTally, conditionalTally, statementTally, bod
 use Rattle.model.proofs.Accepted.{accepts}
 use Rattle.model.proofs.Facts.{PlainFacts, Facts, run-facts, no-if}
 use Rattle.image.specs.declared.Layout.{Layout}
-use Rattle.image.proofs.KindLaws.{words-are, if-is}
+use Rattle.image.proofs.KindLaws.{if-at}
 use Rattle.tally.specs.Weights.{weightOf, entryOf, cut, opening, Ready}
 use Rattle.tally.proofs.StatementKinds.{plain-any}
 
 module _ (image : List ℕ) where
   -- ---- one statement
   module _ (scope s at kind : ℕ) (at-is : at ≡ statementAt image s) (kind-is : kind ≡ word image at) where
-    stands : statement image s ≡ statementOf kind (word image (at + 1)) (word image (at + 2)) (word image (at + 3)) (word image (at + 4))
-    stands = words-are image s at kind (word image (at + 1)) (word image (at + 2)) (word image (at + 3)) (word image (at + 4)) at-is kind-is refl refl refl refl
-
-    is-if : (t : ℕ) → kind ≡ 7 → t ≡ word image (at + 3) → statement image s ≡ Conditional (word image (at + 1)) (word image (at + 2)) t
-    is-if t e et = rw et (stands ∙ if-is kind (word image (at + 1)) (word image (at + 2)) (word image (at + 3)) (word image (at + 4)) e)
-
-    pub if-facts : (t : ℕ) → kind ≡ 7 → t ≡ word image (at + 3) → Facts image scope (statement image s) → Facts image scope (Conditional (word image (at + 1)) (word image (at + 2)) t)
-    if-facts t e et f = subst (Facts image scope) (is-if t e et) f
-
     pub if-comes : (j n t r : ℕ) → kind ≡ 7 → t ≡ word image (at + 3) → r ≡ cut (conditionalTally image (weightOf j) (entryOf j) (opening image j n) scope t) → r ≡ cut (statementTally image (weightOf j) (entryOf j) (opening image j n) scope s)
     unfolding statementTally plainTally
-    if-comes j n t r e et er = rw (is-if t e et) er
-
-    pub plain-facts-of : ¬ (kind ≡ 7) → Facts image scope (statement image s) → PlainFacts image scope (statement image s)
-    plain-facts-of h f =
-        subst (PlainFacts image scope) (sym stands)
-        (no-if image scope kind (word image (at + 1)) (word image (at + 2)) (word image (at + 3)) (word image (at + 4)) h (subst (Facts image scope) stands f))
+    if-comes j n t r e et er = rw (if-at image scope s at kind at-is kind-is t e et) er
 
   pub plain-comes : (scope s j n r : ℕ) → PlainFacts image scope (statement image s) → r ≡ cut (plainTally image (weightOf j) (entryOf j) (λ t. 0) (opening image j n) scope (statement image s)) → r ≡ cut (statementTally image (weightOf j) (entryOf j) (opening image j n) scope s)
   unfolding statementTally

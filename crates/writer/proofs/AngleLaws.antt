@@ -9,22 +9,15 @@ use lib.ListN.{length, set, take, getD, replicate, length-append}
 use lib.Seq.{sets, take-suc, length-take-le}
 use Rattle.rational.specs.declared.Rational64.{Rational64}
 use Rattle.rational.specs.Rational.{LowestTerms}
+use Rattle.rational.proofs.Soundness.{nonzero}
 use Rattle.value.specs.declared.Value.{Value}
 use Rattle.value.specs.Value.{Sound}
 use Rattle.model.specs.Evaluate.{zeroValue}
 use Rattle.model.specs.Records.{Record, encode, kind, fields, fractionWords, angleWords}
-use Rattle.model.proofs.ListLaws.{within}
+use Rattle.model.proofs.ListLaws.{within, flat-append}
 use Rattle.model.proofs.Lengths.{length-words}
 use Rattle.writer.specs.Promise.{SoundAngles}
-use Rattle.writer.proofs.WriteLaws.{put-more, flat-append, front}
-
--- zero has no sign
-pub nonzero : {x : Rational64} → LowestTerms x → x .negative ≡ true → 0 < x .numer
-nonzero {x} h e = go (x .numer) (h .zero-unsigned)
-  where
-    go : (n : ℕ) → (n ≡ 0 → x .negative ≡ false) → 0 < n
-    go zero k = absurd (let f = k refl in let z : _≡_ {A = ℕ} 0 1 = cc in omega arith)
-    go (suc n) k = omega arith
+use Rattle.writer.proofs.WriteLaws.{put-more, front}
 
 pub complement : {x : Rational64} → LowestTerms x → x .negative ≡ true → 2 ^ 64 - 1 - x .numer + 1 ≡ cond (x .negative) (2 ^ 64 - x .numer) (x .numer)
 complement {x} h e = rw e (omega (arith, nonzero h e, h .numer-fits))

@@ -14,6 +14,7 @@ use Rattle.model.specs.Lists.{range}
 use Rattle.model.specs.Records.{Record, encode}
 use Rattle.model.specs.Steps.{write}
 use Rattle.model.specs.Run.{full, play}
+use Rattle.model.proofs.ListLaws.{range-snoc, flat-snoc}
 use Rattle.model.proofs.PlayLaws.{sets-append, plays-write, plays-stop}
 use Rattle.writer.specs.Promise.{after, Open, Wrote, Appended, placeAt}
 use Rattle.writer.specs.declared.Position.{Position}
@@ -71,22 +72,9 @@ three-put out p a b c = let q : p + 2 ≡ suc (suc p) = omega arith in rw (q, ad
 
 -- ---- lists joined
 
-pub flat-append : {A B : Type 0} (g : A → List B) (l m : List A) → flatMap g (l ++ m) ≡ flatMap g l ++ flatMap g m
-unfolding flatMap
-flat-append g [] m = refl
-flat-append g (x ∷ l) m = rw (flat-append g l m, append-assoc (g x) (flatMap g l) (flatMap g m)) refl
-
-range-snoc : (a n : ℕ) → range a (suc n) ≡ range a n ++ (a + n) ∷ []
-unfolding range
-range-snoc a zero = rw (add-zero a) refl
-range-snoc a (suc n) =
-    let e : suc a + n ≡ a + suc n = omega arith in
-    rw (sym e, range-snoc (suc a) n) refl
-
 -- the numbers below n, and n
 pub range-more : (n : ℕ) → range 0 (n + 1) ≡ range 0 n ++ n ∷ []
-range-more n = rw (add-one n, range-snoc 0 n, zero-add n) refl
+range-more n = rw (range-snoc 0 n, zero-add n) refl
 
 pub flat-more : {B : Type 0} (g : ℕ → List B) (n : ℕ) → flatMap g (range 0 (n + 1)) ≡ flatMap g (range 0 n) ++ g n
-unfolding flatMap
-flat-more g n = rw (range-more n, flat-append g (range 0 n) (n ∷ []), append-nil (g n)) refl
+flat-more g n = rw (flat-snoc g 0 n, zero-add n) refl

@@ -7,9 +7,9 @@ use borrow.Author.Needs.{needs}
 use Rattle.model.specs.Image.{word}
 use Rattle.expression.specs.Operands.{Formed}
 use Rattle.expression.specs.Table.{anglesIn, Fixed}
-use Rattle.expression.proofs.EntryLaws.{inside}
+use Rattle.expression.proofs.EntryLaws.{inside, no-value}
 use Rattle.expression.proofs.AngleLaws.{angles-put}
-use Rattle.expression.proofs.ParameterLaws.{Front, front-none, front-next, front-done, front-refuses, no-value}
+use Rattle.expression.proofs.ParameterLaws.{Front, front-none, front-next, front-done, front-refuses}
 use Rattle.expression.proofs.parameters.Statement.{statement}
 use Rattle.expression.proofs.parameters.Tie as tie
 

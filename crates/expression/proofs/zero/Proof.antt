@@ -1,5 +1,5 @@
 use mathlib.Core.Path.{refl}
-use Rattle.expression.proofs.ParameterLaws.{zero-sound}
+use Rattle.model.proofs.AnglesSound.{zero-sound}
 use Rattle.expression.proofs.zero.Statement.{statement}
 use Rattle.expression.proofs.zero.Tie as tie
 

@@ -1,6 +1,7 @@
 use mathlib.Core.Path.{_∙_}
 use Rattle.model.specs.Check.{orElse, gateEntries, statementEntries}
-use Rattle.image.proofs.CheckParts.{fault-none, fault-first, fault-next, quantumPart, classicalPart, in-turn, gated}
+use Rattle.image.proofs.AnswerLaws.{fault-none}
+use Rattle.image.proofs.CheckParts.{fault-first, fault-next, quantumPart, classicalPart, in-turn, gated}
 use denote.Ref.{now}
 use borrow.Author.Needs.{needs}
 use Rattle.image.proofs.first_fault.Statement.{statement}

@@ -3,7 +3,8 @@ use mathlib.Core.Path.{ap, subst}
 use borrow.Author.Needs.{needs}
 use denote.Ref.{now}
 use Rattle.linearize.proofs.RanLaws.{ran-lengths}
-use Rattle.linearize.proofs.OutcomeLaws.{accepted-run, contents-right}
+use Rattle.model.proofs.Accepted.{contents-right}
+use Rattle.linearize.proofs.OutcomeLaws.{accepted-run}
 use Rattle.model.proofs.Accepted.{accepts}
 use Rattle.image.specs.Layout.{ReadAs}
 use Prim.Native.Nat.{zero-le}

@@ -2,7 +2,7 @@ use mathlib.Core.Path.{subst}
 use denote.Ref.{now}
 use borrow.Author.Needs.{needs}
 use Rattle.image.specs.Layout.{ReadAs}
-use Rattle.tally.proofs.NineFigures.{contents-right}
+use Rattle.model.proofs.Accepted.{contents-right}
 use Rattle.tally.proofs.accepted_tally.Statement.{statement}
 use Rattle.tally.proofs.accepted_tally.Tie as tie
 

@@ -1,6 +1,7 @@
 use native.Mathlib.Omega.{arith}
 use borrow.Author.Needs.{needs}
-use Rattle.writer.proofs.AngleLaws.{nonzero, complement}
+use Rattle.rational.proofs.Soundness.{nonzero}
+use Rattle.writer.proofs.AngleLaws.{complement}
 use Rattle.writer.proofs.signed.Statement.{statement}
 use Rattle.writer.proofs.signed.Tie as tie
 
