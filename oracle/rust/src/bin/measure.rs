@@ -337,7 +337,7 @@ fn listed(program: &str, image: &[u64]) -> f64 {
 
 /// What the listing of a full output takes beyond that of an empty one, beside the run alone.
 fn listing_beside_run(program: &str, rounds: usize) {
-    let image = broadcasts(&[584], [1, 2, 3, 0, 0], 1);
+    let image = broadcasts(&[511], [1, 2, 3, 0, 0], 1);
     let empty = Parts::default().words();
     let mut unit = Unit::new(&image);
     let words = (unit.run(&image, ALL), unit.answer[4]).1;
