@@ -6,7 +6,7 @@ use mathlib.Core.Path.{_≡_, refl, ap}
 use mathlib.Core.List.{List, [], _∷_, _++_, map, flatMap, append-assoc}
 use lib.ListN.{length, getD, drop, length-append, drop-of-length-le}
 use lib.Seq.{drop-cons}
-use Rattle.model.specs.Listing.{decimal, line}
+use Rattle.model.specs.Listing.{decimal}
 use Rattle.listing_text.specs.Put.{Room}
 use Rattle.listing_text.proofs.TextLaws.{spaced, line-spaced}
 use Rattle.listing_text.proofs.DigitLaws.{decimal-short}

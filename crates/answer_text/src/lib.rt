@@ -27,6 +27,13 @@ fn put_numbers(text: &mut [u8], numbers: &[u64]) -> usize
     listing_text::put(text, end, b'\n')
 }
 
+// Room for a line of numbers.
+pub fn text_room() -> [u8; 256]
+    ensures { λ r. ⌜ 256 ≡ length r ⌝ }
+{
+    [0; 256]
+}
+
 // ---- the check
 
 // The check's line for the image that the input is.

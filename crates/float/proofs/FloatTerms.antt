@@ -3,7 +3,6 @@ use mathlib.Core.Path.{_≡_, refl, sym, ap, _∙_}
 use mathlib.Core.Bool.{Bool, _&&_}
 use Prim.Native.Nat.{ℕ, zero, suc, _*_, _/_, _%_, _^_, _<_}
 use native.Mathlib.Nat.{mul-one, one-mul}
-use native.Mathlib.Omega.{arith}
 use lib.Dec.{T, ltb, leb, eqb, eqb→eq}
 use lib.IntN.{ℤ, pos, negsuc}
 use lib.Ieee.{Float, nan, inf, fin, Format, binary32, up, down, fits, prec, low, emax}
@@ -17,9 +16,6 @@ use Rattle.rational.proofs.GcdLaws.{lowest-is}
 use Rattle.rational.proofs.Soundness.{tested, both-true, zero-unsigned-of}
 use Rattle.float.specs.Float.{approximateFloat}
 use Rattle.float.proofs.PowersOfTwo.{gcd-one, odd-power}
-
-two-up : (x : ℕ) → 0 < x → x * 2 ≡ 1 → ⊥
-two-up x p e = omega arith
 
 flat : (e : ℤ) → up e * down e ≡ 1 → down e ≡ 1
 flat (pos k) h = refl

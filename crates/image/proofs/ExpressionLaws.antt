@@ -4,7 +4,7 @@ use native.Mathlib.Nat.{eq-or-lt-of-le}
 use native.Mathlib.Numerals.{add-one}
 use native.Mathlib.Omega.{arith}
 use mathlib.Core.Path.{_≡_, refl, sym, ap, subst, _∙_}
-use mathlib.Core.Bool.{Bool, true, false, _&&_, cond}
+use mathlib.Core.Bool.{Bool, true, false, _&&_, cond, and-true, and-false, and-self}
 use mathlib.Core.Logic.{_⊎_, inl, inr}
 use mathlib.Core.List.{List, [], _∷_}
 use lib.Dec.{T, leb, ltb, eqb, leb→le, le→leb}
@@ -17,7 +17,6 @@ use Rattle.model.specs.Check.{entryOk, expressionOk}
 use Rattle.model.proofs.All.{All, nil, cons, and-T, T-and}
 use Rattle.image.specs.Layout.{accepts, Judged}
 use Rattle.image.specs.Judging.{leafFits, wordsOk, Tells}
-use Rattle.image.proofs.Tests.{and-true, and-false}
 
 -- an entry by its three words
 pub entry-is : (image : List ℕ) (e at kind a b : ℕ) → at ≡ expressionAt image e → kind ≡ word image at → a ≡ word image (at + 1) → b ≡ word image (at + 2) → expression image e ≡ expressionOf kind a b
@@ -88,10 +87,6 @@ module _ (x p y q : ℕ) where
       }
 
 -- ---- an entry without operands
-and-same : (b : Bool) → (b && b) ≡ b
-and-same true = refl
-and-same false = refl
-
 -- what holds of each entry of a list, and past its end
 each : {A : Type 0} (P : A → Type 0) (d : A) → P d → {l : List A} → All P l → (i : ℕ) → P (getD l i d)
 each P d h nil i = h
@@ -271,7 +266,7 @@ module _ (image : List ℕ) (e : ℕ) where
             record {
               right = λ v k hv hk.
                   by-words v k ∙ unary-kind a b v (operandOk v k) kind l h
-                  ∙ rw (eq-eqb b 0 z, and-true (operandOk v k a), operand-told a v k hv hk, ← x-is, ← p-is) (sym (and-same (accepts x p v k)) ∙ t .right v k hv hk);
+                  ∙ rw (eq-eqb b 0 z, and-true (operandOk v k a), operand-told a v k hv hk, ← x-is, ← p-is) (sym (and-self (accepts x p v k)) ∙ t .right v k hv hk);
             }
 
 -- ---- the tables

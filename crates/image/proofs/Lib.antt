@@ -12,4 +12,3 @@ pub mod RunLaws
 pub mod ScopeLaws
 pub mod SizeLaws
 pub mod TestLaws
-pub mod Tests

@@ -3,7 +3,7 @@ use Prim.Native.Nat.{ℕ, _≤_}
 use native.Mathlib.Omega.{arith}
 use mathlib.Core.Path.{_≡_, subst}
 use mathlib.Core.Bool.{Bool, true, false, cond}
-use mathlib.Core.Logic.{_⊎_, ⊎-elim}
+use mathlib.Core.Logic.{⊎-elim}
 use mathlib.Core.List.{List, [], _∷_}
 use Rattle.model.specs.Image.{Statement, U, CX, Gate, Barrier, Measure, Reset, Conditional, Unknown, statement}
 use Rattle.model.specs.Check.{bad, firstOf, contentsOk, quantumRegisterFlaw, classicalRegisterFlaw, gateFlaw, plainFlaw, conditionalOk, conditionalFlaw, flaw, check}

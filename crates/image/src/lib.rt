@@ -5,7 +5,7 @@ ghost use mathlib.Core.List.{[], _∷_, map, List};
 ghost use lib.Dec.{ltb, leb, eqb};
 ghost use lib.ListN.{length, getD, set};
 ghost use Prim.Native.Nat.{ℕ, _+_, _-_, _*_, _<_, _≤_, min, suc, max};
-ghost use Rattle.model.specs.Lists.{range, largest, every, all, sum};
+ghost use Rattle.model.specs.Lists.{range, every, all, sum};
 ghost use Rattle.model.specs.Image.{U, CX, Gate, Barrier, Measure, Reset, word, statement, gateAt, statementAt, argumentAt, parameterAt, expressionAt, parameter, variables, argumentSize, classicalArgumentSize, rounds, scopeStatements};
 ghost use Rattle.model.specs.Check.{firstBad, gateOk, expressionOk, argumentOk, classicalArgumentOk, unused, downward, matching, conditionalFlaw, plainFlaw, flaw, registers, gateEntries, statementEntries, check, firstOf, inConditional, orElse};
 ghost use Rattle.image.specs.Answer.{verdictOf, verdictOfFault, numberIn, placeIn};

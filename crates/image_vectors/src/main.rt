@@ -2,15 +2,6 @@
 // A line: the number and the place that the check is to answer, 0 0 for an accepted image, then the words.
 use libc::STDIN_FILENO;
 use vector_text::Words;
-ghost use mathlib.Core.Path.{_≡_};
-ghost use lib.ListN.{length};
-
-// Room for the whole input.
-fn room() -> [u8; 307200]
-    ensures { λ r. ⌜ 307200 ≡ length r ⌝ }
-{
-    [0; 307200]
-}
 
 fn say_counts(images: u64, agree: u64) {
     vector_text::say_counts(images, b" images, ", agree);
@@ -65,7 +56,7 @@ fn replay(input: &[u8]) {
 }
 
 fn main() {
-    let mut input = room();
+    let mut input = vector_text::room();
     let n = io::read_full(STDIN_FILENO, &mut input);
     if vector_text::all_read() {
         replay(&input[..n]);

@@ -5,15 +5,13 @@ use native.Mathlib.Omega.{arith}
 use mathlib.Core.Path.{_≡_, refl, sym, ap, subst, fun-ext, _∙_}
 use mathlib.Core.List.{List, [], _∷_, _++_, map, flatMap}
 use borrow.Author.Tests.{ne-eqb, eq-eqb}
-use lib.Dec.{leb→le}
-use Rattle.model.specs.Check.{gateOk}
 use lib.ListN.{take, length-take}
 use Rattle.value.specs.declared.Value.{Value}
 use Rattle.model.specs.Lists.{range}
 use Rattle.model.specs.Image.{Statement, U, CX, Gate, Barrier, Measure, Reset, Conditional, Unknown, statement, statementAt, gates, gateParameters, gateArguments, gateBody, variables, rounds, scopeStatements}
 use Rattle.model.specs.Records.{Record}
 use Rattle.model.specs.Steps.{Frame, Step, write, enter, inRounds, qubitIn, pushFrame, openGate, writeOpaque, visitGate, visitPlain, visitStatement, visitBody, opening}
-use Rattle.model.proofs.All.{test, all-All}
+use Rattle.model.proofs.All.{all-All}
 use Rattle.model.proofs.Accepted as accepted
 use Rattle.model.proofs.Accepted.{Accepted}
 use Rattle.model.proofs.Facts.{PlainFacts, Facts, run-facts}

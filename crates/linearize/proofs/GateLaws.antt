@@ -4,16 +4,15 @@ use native.Mathlib.Nat.{add-zero}
 use native.Mathlib.Omega.{arith}
 use mathlib.Core.Path.{_≡_, refl, sym, ap, ap₂, subst, _∙_}
 use mathlib.Core.List.{List, [], _∷_, map}
-use lib.Dec.{T, ltb→lt, leb→le}
+use lib.Dec.{T, ltb→lt}
 use Rattle.value.specs.declared.Value.{Value}
 use Rattle.model.specs.Lists.{range, all}
-use Rattle.model.specs.Image.{Gate, word, statement, statementAt, parameterAt, parameter, parameters, gates, gateParameters, gateArguments, variables}
-use Rattle.model.specs.Check.{expressionOk, downward, gateOk}
+use Rattle.model.specs.Image.{Gate, word, statement, statementAt, parameterAt, parameter, parameters, gates, gateParameters, variables}
+use Rattle.model.specs.Check.{expressionOk, downward}
 use Rattle.model.specs.Steps.{Frame, refuse, Refusal, have, lack, given, parameterValues, withValues, visitPlain}
-use Rattle.model.proofs.All.{test, all-All, All-all, All-of}
+use Rattle.model.proofs.All.{all-All, All-all, All-of}
 use Rattle.model.proofs.Accepted.{few-parameters, few-arguments}
 use Rattle.model.proofs.Facts.{PlainFacts}
-use Rattle.model.proofs.StepsSound.{FrameOk}
 use Rattle.image.specs.declared.Layout.{Layout}
 use Rattle.image.proofs.KindLaws.{gate-is, words-are}
 use Rattle.linearize.specs.declared.Call.{Call}

@@ -3,7 +3,7 @@ use Prim.Native.Nat.{ℕ, _+_, _≤_, _<_}
 use native.Mathlib.Nat.{zero-add}
 use native.Mathlib.Omega.{arith}
 use mathlib.Core.Path.{_≡_, refl, sym, ap, ap₂, subst, _∙_}
-use mathlib.Core.Bool.{false, cond}
+use mathlib.Core.Bool.{cond}
 use mathlib.Core.List.{List, [], _∷_, _++_, map, flatMap, List·Memᴰ}
 use borrow.Author.Tests.{le-ltb, lt-ltb}
 use lib.Dec.{T, eqb}
@@ -11,7 +11,7 @@ use lib.ListN.{length, take, drop}
 use lib.Seq.{sets-eq, take-append-seam}
 use Rattle.model.specs.Lists.{range, sum}
 use Rattle.model.specs.Image.{mainStatements}
-use Rattle.model.specs.Check.{Verdict, fine, bad, check, contentsOk}
+use Rattle.model.specs.Check.{Verdict, fine, bad, check}
 use Rattle.model.specs.Steps.{steps}
 use Rattle.model.specs.Run.{Answer, done, full, traceOf, Played, rejected, accepted, play, runs, output, Outcome, laidOver, outcomeOf, linearize}
 use Rattle.model.specs.Tally.{recordFigure, wordBound}

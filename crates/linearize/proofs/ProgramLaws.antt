@@ -14,7 +14,7 @@ use Rattle.model.specs.Records.{Record}
 use Rattle.model.specs.Steps.{Step, write, inRounds, visitPlain, visitConditional, visitStatement, visitBody, opening, mainFrame, headRecord, steps}
 use Rattle.model.specs.Evaluate.{zeroValue}
 use Rattle.model.proofs.All.{nil, cons, All-getD}
-use Rattle.model.proofs.Facts.{PlainFacts, Facts, no-if, run-facts}
+use Rattle.model.proofs.Facts.{PlainFacts, Facts, run-facts}
 use Rattle.model.specs.Run.{play}
 use Rattle.model.proofs.PlayLaws.{plays-stop}
 use Rattle.model.proofs.Accepted.{Accepted}

@@ -5,15 +5,14 @@ use mathlib.Core.Path.{_≡_, refl, sym, ap, subst, _∙_}
 use mathlib.Core.Bool.{Bool, true, false}
 use mathlib.Core.List.{List, [], _∷_, flatMap}
 use borrow.Author.Tests.{eqb-false}
-use lib.Dec.{T, eqb, leb→le, eqb→eq}
+use lib.Dec.{T, eqb, eqb→eq}
 use lib.ListN.{take}
 use Rattle.value.specs.declared.Value.{Value}
 use Rattle.model.specs.Lists.{range, largest, all, rising}
-use Rattle.model.specs.Image.{Statement, U, CX, Barrier, Measure, Reset, statementOf, word, statement, statementAt, gateAt, parameterAt, gateParameters, variables, rounds, argumentSize, classicalArgumentSize}
-use Rattle.model.specs.Check.{gateOk, expressionOk, argumentOk, classicalArgumentOk, matching}
+use Rattle.model.specs.Image.{Statement, U, CX, Barrier, Measure, Reset, statementOf, word, statement, statementAt, gateAt, parameterAt, variables, rounds, argumentSize, classicalArgumentSize}
+use Rattle.model.specs.Check.{expressionOk, argumentOk, classicalArgumentOk, matching}
 use Rattle.model.specs.Records.{Record}
 use Rattle.model.specs.Steps.{write, inRounds, withValues, qubitIn, argumentQubits, writeU, writeCX, writeMeasure, writeReset, visitPlain}
-use Rattle.model.proofs.All.{test}
 use Rattle.model.proofs.Accepted.{Accepted, few-parameters}
 use Rattle.model.proofs.StepsSound.{FrameOk}
 use Rattle.model.proofs.Facts.{PlainFacts, no-kind}

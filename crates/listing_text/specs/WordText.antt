@@ -1,5 +1,5 @@
 -- A record's line from its words, and the end from an answer and its trace.
-use Prim.Native.Nat.{ℕ, suc, _+_, _-_, _/_, _%_, _^_}
+use Prim.Native.Nat.{ℕ, suc, _-_, _/_, _%_, _^_}
 use mathlib.Core.Bool.{Bool, false, _&&_, cond}
 use mathlib.Core.Path.{_≡_}
 use mathlib.Core.List.{List, [], _∷_, _++_, flatMap}

@@ -4,7 +4,7 @@ use native.Mathlib.Omega.{arith}
 use mathlib.Core.Path.{_≡_, refl, sym, subst}
 use mathlib.Core.Bool.{Bool, true, false, _&&_, cond}
 use mathlib.Core.List.{List, [], _∷_, map}
-use lib.Dec.{T, leb, ltb, eqb, leb→le, ltb→lt, eqb→eq}
+use lib.Dec.{T, ltb, eqb, leb→le, ltb→lt, eqb→eq}
 use lib.ListN.{getD}
 use Rattle.model.specs.Lists.{range, sum}
 use Rattle.model.proofs.All.{All, nil, cons, and-T, test, of-All, flat-All, range-All}

@@ -9,7 +9,6 @@ use mathlib.Core.Option.{Option, none, some}
 use lib.Dec.{T, eqb}
 use lib.ListN.{length, length-append, length-map}
 use Rattle.value.specs.declared.Value.{Value}
-use Rattle.value.specs.declared.Evaluation.the-variants as evaluation
 use Rattle.model.specs.Lists.{range, sum}
 use Rattle.model.specs.Image.{Statement, Gate, Conditional, statement, parameter, gateParameters, gateArguments, gateBody, firstBit, classicalSize, mainStatements, scopeStatements}
 use Rattle.model.specs.Records.{Record, kind, angleWords, fields, encode}

@@ -6,13 +6,13 @@ use native.Mathlib.Omega.{arith}
 use mathlib.Core.Path.{_≡_, refl, sym, ap, _∙_}
 use mathlib.Core.Bool.{Bool, true, false, cond}
 use mathlib.Core.List.{List, [], _∷_, _++_, flatMap, append-assoc}
-use borrow.Author.Tests.{leb-true, le-leb, lt-leb}
+use borrow.Author.Tests.{leb-true, le-leb}
 use lib.Dec.{leb}
 use lib.ListN.{length, set, length-append}
 use lib.Seq.{sets, sets-eq, length-sets}
 use Rattle.model.specs.Lists.{range}
 use Rattle.model.specs.Records.{Record, encode}
-use Rattle.model.specs.Steps.{Refusal, Step, write, enter, refuse, inRounds}
+use Rattle.model.specs.Steps.{Step, write, enter, refuse, inRounds}
 use Rattle.model.specs.Run.{Answer, done, refused, full, rejected, shortTrace, Played, stop, after, play, output, laidOver}
 use Rattle.model.specs.Playing.{Place, room, Plays, Going}
 use Rattle.model.proofs.ReadBack.{words-enough}

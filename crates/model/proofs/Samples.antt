@@ -1,7 +1,6 @@
 -- Answers of the reference program (oracle/sample.py 100 2026), which the definitions give too: antt computes them.
 use mathlib.Core.Path.{_≡_, refl}
 use mathlib.Core.List.{List, [], _∷_, map}
-use Prim.Native.Nat.{ℕ}
 use Rattle.model.proofs.Sampled.{Sample, sample, computed, answered}
 use Rattle.model.proofs.Compute.{everything}
 

@@ -4,15 +4,6 @@ mod outcome;
 
 use libc::STDIN_FILENO;
 use line::Parsed;
-ghost use mathlib.Core.Path.{_≡_};
-ghost use lib.ListN.{length};
-
-// Room for the whole input.
-fn room() -> [u8; 262144]
-    ensures { λ r. ⌜ 262144 ≡ length r ⌝ }
-{
-    [0; 262144]
-}
 
 fn say_counts(vectors: u64, agree: u64) {
     vector_text::say_counts(vectors, b" vectors, ", agree);
@@ -56,7 +47,7 @@ fn replay(input: &[u8]) {
 }
 
 fn main() {
-    let mut input = room();
+    let mut input = vector_text::room();
     let n = io::read_full(STDIN_FILENO, &mut input);
     if vector_text::all_read() {
         replay(&input[..n]);

@@ -6,7 +6,7 @@ use value::Evaluation;
 use value::Value;
 ghost use mathlib.Core.Path.{_≡_};
 ghost use mathlib.Core.Bool.{true};
-ghost use Prim.Native.Nat.{_<_, _^_};
+ghost use Prim.Native.Nat.{_<_};
 ghost use Rattle.rational.specs.Rational.{LowestTerms};
 ghost use Rattle.value.specs.Value.{Sound};
 

@@ -2,10 +2,10 @@
 ghost use mathlib.Core.Path.{_≡_};
 ghost use mathlib.Core.Bool.{_&&_, Bool·beq};
 ghost use lib.Dec.{ltb, eqb};
-ghost use Prim.Native.Nat.{ℕ, _+_, _-_, _*_, _/_, _%_, _<_, _≤_, _^_, min};
+ghost use Prim.Native.Nat.{_+_, _-_, _*_, _/_, _%_, _<_, _≤_, _^_, min};
 ghost use Rattle.rational.specs.Gcd.{gcd};
 ghost use Rattle.rational.specs.Root.{root};
-ghost use Rattle.rational.specs.Rational.{LowestTerms, ratio, reduced, checked, unlike, sumMagnitude, sumSign, commonDenominator, allInRange, sum, opposite, difference, product, reciprocal, quotient, power, wholeRoot, rootRatio, rationalRoot, fraction, same, both};
+ghost use Rattle.rational.specs.Rational.{LowestTerms, reduced, checked, unlike, sumMagnitude, sumSign, commonDenominator, allInRange, sum, opposite, difference, product, reciprocal, quotient, power, wholeRoot, rootRatio, rationalRoot, fraction, same, both};
 ghost use Rattle.rational.specs.Promise.{SoundChecked, ChecksTo};
 
 pub struct Rational64 {

@@ -106,15 +106,12 @@ fits-left ws at n e = go (leb (recordLength (drop at ws)) (length ws - at)) refl
     go false t d = omega arith
 
 -- ---- the part that is handed back
+back : (a k : ℕ) → a + k - a ≡ k
+back a k = omega arith
+
 pub part-is : (ws : List ℕ) (at n : ℕ) → at < length ws → n ≡ cond (leb (recordLength (drop at ws)) (length ws - at)) (recordLength (drop at ws)) 0 → take (at + n - at) (drop at ws) ≡ wordsOf (nextAt ws at)
 part-is ws at zero h e = ap (λ (k : ℕ). take k (drop at ws)) (back at 0) ∙ ap wordsOf (none ws at 0 h e refl)
-  where
-    back : (a k : ℕ) → a + k - a ≡ k
-    back a k = omega arith
 part-is ws at (suc n) h e = ap (λ (k : ℕ). take k (drop at ws)) (back at (suc n)) ∙ ap wordsOf (found ws at (suc n) h e (λ z. omega arith) .0)
-  where
-    back : (a k : ℕ) → a + k - a ≡ k
-    back a k = omega arith
 
 pub no-part : (ws : List ℕ) (at : ℕ) → ¬ (at < length ws) → [] ≡ wordsOf (nextAt ws at)
 no-part ws at h = go (eqb at (length ws)) refl

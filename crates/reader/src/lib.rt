@@ -1,9 +1,9 @@
 // The next record of some words, as a part of the caller's own slice.
 ghost use mathlib.Core.Path.{_≡_};
-ghost use mathlib.Core.Bool.{true, false, cond, _&&_};
-ghost use lib.Dec.{ltb, leb};
-ghost use lib.ListN.{length, getD, take, drop};
-ghost use Prim.Native.Nat.{ℕ, _+_, _-_, _*_, _/_, _<_, _≤_};
+ghost use mathlib.Core.Bool.{cond};
+ghost use lib.Dec.{leb};
+ghost use lib.ListN.{length, getD, drop};
+ghost use Prim.Native.Nat.{_+_, _-_, _*_, _/_, _<_};
 ghost use Rattle.model.specs.Reader.{recordLength, nextAt};
 ghost use Rattle.reader.specs.Answer.{answerOf, wordsOf};
 

@@ -10,18 +10,6 @@ use writer::Position;
 ghost use mathlib.Core.Path.{_≡_};
 ghost use lib.ListN.{length};
 
-// Of the sums: a prime below 2^32, and a factor below 2^17.
-const PRIME: u64 = 4294967291;
-
-const FACTOR: u64 = 65599;
-
-// Room for the whole input.
-fn room() -> [u8; 524288]
-    ensures { λ r. ⌜ 524288 ≡ length r ⌝ }
-{
-    [0; 524288]
-}
-
 // Room for the longest output that a line lends.
 fn output_room() -> [u64; 81920]
     ensures { λ r. ⌜ 81920 ≡ length r ⌝ }
@@ -69,18 +57,13 @@ fn untouched(words: &[u64], from: usize) -> bool {
 
 // ---- sums
 
-// A sum with half a word more. Both are cut first, so that nothing can wrap.
-fn mixed(sum: u64, half: u64) -> u64 {
-    (sum % PRIME * FACTOR + half % 0x1_0000_0000) % PRIME
-}
-
 // A sum with more words, the low half of each first.
 fn summed(sum: u64, words: &[u64]) -> u64 {
     let mut s = sum;
     let mut i = 0;
     while i < words.len() {
-        let low = mixed(s, words[i] % 0x1_0000_0000);
-        s = mixed(low, words[i] / 0x1_0000_0000);
+        let low = vector_text::mixed(s, words[i] % 0x1_0000_0000);
+        s = vector_text::mixed(low, words[i] / 0x1_0000_0000);
         i += 1;
     }
     s
@@ -293,7 +276,7 @@ fn replay(input: &[u8]) {
 }
 
 fn main() {
-    let mut input = room();
+    let mut input = vector_text::room();
     let n = io::read_full(STDIN_FILENO, &mut input);
     if vector_text::all_read() {
         replay(&input[..n]);

@@ -9,7 +9,7 @@ use lib.Dec.{T, eqb, ltb→lt, leb→le}
 use lib.ListN.{getD, take}
 use Rattle.model.specs.Lists.{range, sum, largest}
 use Rattle.model.specs.Image.{word, argumentAt, quantumRegisters, classicalRegisters, quantumSize, classicalSize, argumentRegister, argumentIndex, argumentSize, classicalArgumentSize, gateArguments, firstQubit, firstBit, rounds}
-use Rattle.model.specs.Check.{argumentOk, classicalArgumentOk, gateOk, matching}
+use Rattle.model.specs.Check.{argumentOk, classicalArgumentOk, matching}
 use Rattle.model.specs.Steps.{resolveQreg, qubitIn, bitIn}
 use Rattle.model.proofs.ListLaws.{getD-take}
 use Rattle.model.proofs.All.{test, all-All, head-All, tail-All}

@@ -9,7 +9,7 @@ use denote.Enum.Declared.{tagOf}
 use lib.Dec.{ltb, leb}
 use borrow.Author.Tests.{ltb-true, ltb-false, le-leb, lt-leb}
 use Rattle.model.specs.Lists.{range, largest, all}
-use Rattle.model.specs.Check.{fine, bad, check, contentsOk}
+use Rattle.model.specs.Check.{fine, check}
 use Rattle.model.specs.Tally.{weightTally, recordFigure, entryFigure, wordBound, figures, TallyAnswer, tallied, refused, ifAccepted, tally}
 use Rattle.model.proofs.Accepted.{Accepted, accepts}
 use Rattle.model.proofs.Deep.{deep-figures}

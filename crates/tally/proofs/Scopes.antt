@@ -1,17 +1,17 @@
 -- What is known of a scope's statements, and what they come to.
 use Prim.Native.Nat.{ℕ, zero, suc, _+_, _-_, _*_, _≤_, _<_}
 use native.Mathlib.Omega.{arith}
-use mathlib.Core.Path.{_≡_, refl, sym, ap, subst, _∙_}
+use mathlib.Core.Path.{_≡_, ap, _∙_}
 use mathlib.Core.Bool.{Bool, false, cond}
 use mathlib.Core.List.{List, map}
 use lib.Dec.{eqb}
 use borrow.Author.Tests.{ne-eqb}
 use Rattle.model.specs.Lists.{range, sum}
-use Rattle.model.specs.Image.{Conditional, statement, statementOf, word, gates, mainStatements, statementAt, quantumRegisters, qubits, bits, firstQubit, firstBit, scopeStatements}
+use Rattle.model.specs.Image.{statement, word, gates, mainStatements, statementAt, quantumRegisters, qubits, bits, firstQubit, firstBit, scopeStatements}
 use Rattle.model.specs.Check.{fine, check}
 use Rattle.model.specs.Tally.{plainTally, conditionalTally, statementTally, bodyTally, weightTally}
 use Rattle.model.proofs.Accepted.{accepts}
-use Rattle.model.proofs.Facts.{PlainFacts, Facts, run-facts, no-if}
+use Rattle.model.proofs.Facts.{PlainFacts, Facts, run-facts}
 use Rattle.image.specs.declared.Layout.{Layout}
 use Rattle.image.proofs.KindLaws.{if-at}
 use Rattle.tally.specs.Weights.{weightOf, entryOf, cut, opening, Ready}

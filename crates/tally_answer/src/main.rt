@@ -11,18 +11,11 @@ fn input_room() -> [u8; 65552]
     [0; 65552]
 }
 
-// Room for a line of numbers.
-fn text_room() -> [u8; 256]
-    ensures { λ r. ⌜ 256 ≡ length r ⌝ }
-{
-    [0; 256]
-}
-
 fn main() {
     let mut input = input_room();
     let n = io::read_full(STDIN_FILENO, &mut input);
     standard_input::read_rest();
-    let mut text = text_room();
+    let mut text = answer_text::text_room();
     let end = answer_text::tally_answer(&input[..n], &mut text);
     io::write_all(STDOUT_FILENO, &text[..end]);
 }

@@ -4,15 +4,6 @@ use libc::STDIN_FILENO;
 use tally::Figures;
 use tally::Tallied;
 use vector_text::Words;
-ghost use mathlib.Core.Path.{_≡_};
-ghost use lib.ListN.{length};
-
-// Room for the whole input.
-fn room() -> [u8; 307200]
-    ensures { λ r. ⌜ 307200 ≡ length r ⌝ }
-{
-    [0; 307200]
-}
 
 fn say_counts(tallies: u64, agree: u64) {
     vector_text::say_counts(tallies, b" tallies, ", agree);
@@ -103,7 +94,7 @@ fn replay(input: &[u8]) {
 }
 
 fn main() {
-    let mut input = room();
+    let mut input = vector_text::room();
     let n = io::read_full(STDIN_FILENO, &mut input);
     if vector_text::all_read() {
         replay(&input[..n]);

@@ -3,11 +3,11 @@ use rational::Checked;
 use rational::Rational64;
 ghost use mathlib.Core.Path.{_≡_};
 ghost use mathlib.Core.Bool.{false, _||_};
-ghost use Prim.Native.Nat.{ℕ, _<_};
+ghost use Prim.Native.Nat.{_<_};
 ghost use Rattle.rational.specs.Rational.{LowestTerms, ratio, same};
 ghost use Rattle.rational.specs.Promise.{SoundChecked, ChecksTo};
 ghost use Rattle.rational.specs.declared.Checked.the-variants.{Some};
-ghost use Rattle.value.specs.Value.{Sound, zero, one, two, half, rational, given, parts, andThen, pi, halfPi, integer, intoFloat, fromFloat, valueSum, valueDifference, piSquared, valueProduct, negation, approximateQuotient, commonRatio, valueQuotient, extractRoot, inverted, rooted, valuePower, squareRoot, sineTable, turn, sine, cosine, tangent, exponential, logarithm};
+ghost use Rattle.value.specs.Value.{Sound, zero, one, two, rational, given, parts, andThen, pi, halfPi, integer, intoFloat, fromFloat, valueSum, valueDifference, piSquared, valueProduct, negation, approximateQuotient, commonRatio, valueQuotient, extractRoot, inverted, rooted, valuePower, squareRoot, sineTable, turn, sine, cosine, tangent, exponential, logarithm};
 ghost use Rattle.value.specs.Promise.{SoundEvaluation, EvaluatesTo};
 
 pub struct Value {

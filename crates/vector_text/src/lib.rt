@@ -190,7 +190,26 @@ pub fn read_line(text: &[u8], leading: &mut [u64], words: &mut [u64]) -> Words
     read_words(text, at, words)
 }
 
+// ---- sums
+
+// A prime below 2^32, and a factor below 2^17.
+const PRIME: u64 = 4294967291;
+
+const FACTOR: u64 = 65599;
+
+// A sum with half a word more. Both are cut first, so that nothing can wrap.
+pub fn mixed(sum: u64, half: u64) -> u64 {
+    (sum % PRIME * FACTOR + half % 0x1_0000_0000) % PRIME
+}
+
 // ---- standard input and output
+
+// Room for the whole input.
+pub fn room() -> [u8; 524288]
+    ensures { λ r. ⌜ 524288 ≡ length r ⌝ }
+{
+    [0; 524288]
+}
 
 // Whether all of standard input has been read; if not, says so.
 pub fn all_read() -> bool {

@@ -6,18 +6,6 @@ ghost use mathlib.Core.Path.{_≡_};
 ghost use Prim.Native.Nat.{_+_, _*_, _≤_};
 ghost use lib.ListN.{length};
 
-// Of the checksums: a prime below 2^32, and a factor below 2^17.
-const PRIME: u64 = 4294967291;
-
-const FACTOR: u64 = 65599;
-
-// Room for the whole input.
-fn room() -> [u8; 524288]
-    ensures { λ r. ⌜ 524288 ≡ length r ⌝ }
-{
-    [0; 524288]
-}
-
 // Room for the bytes of a depth and 8,200 words.
 fn byte_room() -> [u8; 65608]
     ensures { λ r. ⌜ 65608 ≡ length r ⌝ }
@@ -64,9 +52,9 @@ fn put_image(bytes: &mut [u8], image: &[u64])
 
 // ---- a line
 
-// A checksum with a byte more. The sum is cut first, so that nothing can wrap.
+// A checksum with a byte more.
 fn mixed(sum: u64, byte: u8) -> u64 {
-    (sum % PRIME * FACTOR + byte as u64) % PRIME
+    vector_text::mixed(sum, byte as u64)
 }
 
 fn checksum(text: &[u8]) -> u64 {
@@ -144,7 +132,7 @@ fn replay(input: &[u8]) {
 }
 
 fn main() {
-    let mut input = room();
+    let mut input = vector_text::room();
     let n = io::read_full(STDIN_FILENO, &mut input);
     if vector_text::all_read() {
         replay(&input[..n]);

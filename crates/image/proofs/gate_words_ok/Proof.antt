@@ -1,4 +1,4 @@
-use Rattle.image.proofs.Tests.{and-true}
+use mathlib.Core.Bool.{and-true}
 use mathlib.Core.Path.{_∙_, refl, sym}
 use borrow.Author.Tests.{eq-eqb, le-leb, lt-leb, ne-eqb}
 use Rattle.model.specs.Lists.{every}

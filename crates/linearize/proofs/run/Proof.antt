@@ -1,5 +1,4 @@
 use native.Mathlib.Omega.{arith}
-use Prim.Native.Nat.{_-_}
 use mathlib.Core.Path.{sym, ap, _∙_}
 use borrow.Author.Needs.{needs}
 use Rattle.linearize.proofs.OutcomeLaws.{short-trace, not-accepted, not-fine}

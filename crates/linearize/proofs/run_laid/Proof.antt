@@ -1,4 +1,3 @@
-use Prim.Native.Nat.{_-_}
 use mathlib.Core.Path.{refl, _∙_}
 use borrow.Author.Needs.{needs}
 use Rattle.linearize.proofs.RanLaws.{wrote-ran, wrote-then, wrote-stops, ran-lengths, ran-steps}

@@ -1,5 +1,4 @@
 use native.Mathlib.Omega.{arith}
-use Prim.Native.Nat.{_-_}
 use mathlib.Core.Path.{refl}
 use borrow.Author.Needs.{needs}
 use Rattle.linearize.proofs.RanLaws.{wrote-then, wrote-stops, ran-steps}

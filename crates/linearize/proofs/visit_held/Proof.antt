@@ -1,4 +1,3 @@
-use Prim.Native.Nat.{_-_}
 use borrow.Author.Needs.{needs}
 use Rattle.linearize.proofs.RanLaws.{ran-then, ran-stops}
 use Rattle.linearize.proofs.CycleLaws.{ran-open}

@@ -1,4 +1,3 @@
-use Prim.Native.Nat.{_-_}
 use Rattle.listing_text.proofs.InputLaws.{cut-below, cut-above}
 use Rattle.listing_text.proofs.cut.Statement.{statement}
 use Rattle.listing_text.proofs.cut.Tie as tie

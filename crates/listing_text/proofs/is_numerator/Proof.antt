@@ -1,4 +1,3 @@
-use Prim.Native.Nat.{_-_}
 use borrow.Author.Needs.{needs}
 use Rattle.listing_text.proofs.LineLaws.{numerator-u, numerator-qubit, numerator-count, numerator-opaque, numerator-behind, numerator-none}
 use Rattle.listing_text.proofs.is_numerator.Statement.{statement}

@@ -1,4 +1,3 @@
-use Prim.Native.Nat.{_-_}
 use borrow.Author.Needs.{needs}
 use Rattle.listing_text.proofs.InputLaws.{in-front}
 use Rattle.listing_text.proofs.listing_text.Statement.{statement}

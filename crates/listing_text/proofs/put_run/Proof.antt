@@ -1,4 +1,4 @@
-use Prim.Native.Nat.{ℕ, _-_}
+use Prim.Native.Nat.{ℕ}
 use borrow.Author.Needs.{needs}
 use Rattle.listing_text.proofs.PutLaws.{put-length}
 use Rattle.listing_text.proofs.RunLaws.{prefix-inside, prefix-length, prefix-recorded, lines-room, trace-inside, trace-short, end-room, run-put}

@@ -1,4 +1,3 @@
-use Prim.Native.Nat.{_-_}
 use mathlib.Core.Path.{refl}
 use Rattle.listing_text.proofs.PutLaws.{put-then, put-length, room-front, room-rest}
 use Rattle.listing_text.proofs.put_word.Statement.{statement}
