@@ -30,7 +30,8 @@ const MOST_NODES: usize = 300_000;
 fn broadcasts(quantum: &[u64], statement: [u64; 5], count: usize) -> Vec<u64> {
     let arguments = (0..quantum.len() as u64).map(|register| [register, 0]).collect();
     let expressions = vec![[0, 0, 0], [2, 2, 0], [7, 0, 1], [2, 0, 0]];
-    Parts { quantum: quantum.to_vec(), main: vec![statement; count], arguments, expressions, ..Parts::default() }.words()
+    Parts { quantum: quantum.to_vec(), main: vec![statement; count], arguments, expressions, ..Parts::default() }
+        .words()
 }
 
 /// Gates that call the one below twice, over a U; each hands its parameters on.
@@ -92,7 +93,8 @@ fn small(count: usize) -> Vec<Vec<u64>> {
 
 /// The most gates, each calling the one below so many times, over a U whose angles have 32 levels.
 fn tower(calls: u64) -> Vec<u64> {
-    let mut parts = Parts { quantum: vec![1], arguments: vec![[0, 0]], expressions: vec![[0, 0, 0]], ..Parts::default() };
+    let mut parts =
+        Parts { quantum: vec![1], arguments: vec![[0, 0]], expressions: vec![[0, 0, 0]], ..Parts::default() };
     parts.expressions.extend((0..31).map(|operand| [9, operand, 0]));
     parts.further.push([1, 31, 31, 31, 0]);
     parts.gates.push(Gate { parameters: 0, arguments: 1, body: Some((0, 1)) });
