@@ -14,21 +14,21 @@ from pathlib import Path
 
 HERE = Path(__file__).resolve().parent
 WORK = HERE / "target" / "faults"
-NUM, IMAGE, PUBLISHED = "num/src/lib.rs", "src/image.rs", "src/published.rs"
+NUM, EXACT, IMAGE, PUBLISHED = "num/src/lib.rs", "num/src/exact.rs", "src/image.rs", "src/published.rs"
 
 FAULTS = [
-    ("sum: l not tested", NUM, "in_range(b / g * d)? as i128", "(b / g * d)"),
-    ("sum: p not tested", NUM, "in_range(l / b * a)? as i128", "(l / b * a)"),
-    ("sum: q not tested", NUM, "in_range(l / d * c)? as i128", "(l / d * c)"),
-    ("sum: s not tested", NUM, "in_range(p + q)? as i128", "(p + q)"),
-    ("sum: l without the common divisor", NUM, "b / g * d", "b * d"),
-    ("difference: as a sum", NUM, "self.sum(-(other.numer as i128)", "self.sum((other.numer as i128)"),
+    ("sum: l not tested", EXACT, "in_range(b / g * d)? as i128", "(b / g * d)"),
+    ("sum: p not tested", EXACT, "in_range(l / b * a)? as i128", "(l / b * a)"),
+    ("sum: q not tested", EXACT, "in_range(l / d * c)? as i128", "(l / d * c)"),
+    ("sum: s not tested", EXACT, "in_range(p + q)? as i128", "(p + q)"),
+    ("sum: l without the common divisor", EXACT, "b / g * d", "b * d"),
+    ("difference: as a sum", EXACT, "self.sum(-(other.numer as i128)", "self.sum((other.numer as i128)"),
     ("range: -2^63 taken", NUM, "(-LIMIT..=LIMIT)", "(-LIMIT - 1..=LIMIT)"),
     ("range: 2^63-1 refused", NUM, "(-LIMIT..=LIMIT)", "(-LIMIT..LIMIT)"),
-    ("product: tested before it is reduced", NUM,
+    ("product: tested before it is reduced", EXACT,
      "Rational64::reduced(self.numer as i128 * other.numer as i128, self.denom as i128 * other.denom as i128)",
      "Some(Rational64::new(self.numer.checked_mul(other.numer)?, self.denom.checked_mul(other.denom)?))"),
-    ("quotient: operands exchanged", NUM,
+    ("quotient: operands exchanged", EXACT,
      "Rational64::reduced(self.numer as i128 * other.denom as i128, self.denom as i128 * other.numer as i128)",
      "Rational64::reduced(self.denom as i128 * other.numer as i128, self.numer as i128 * other.denom as i128)"),
     ("power: 0^0 is 0", NUM, "if exponent == 0 {", "if exponent == 0 && base > 0 {"),

@@ -54,7 +54,7 @@ fn doubling(levels: u64, parameters: u64) -> Vec<u64> {
     parts.words()
 }
 
-/// Expressions of ten nodes as (pi*i/(j+1) - 1/2) + k, none of them twice, three a U.
+/// Expressions of ten nodes, (pi*i/j - 0.5) + (-k) with many i, three a U.
 fn expressions(count: u64, kinds: u64) -> Vec<u64> {
     let mut parts = Parts { quantum: vec![1], arguments: vec![[0, 0]], ..Parts::default() };
     for kind in 0..kinds {
