@@ -15,10 +15,11 @@ use Rattle.model.specs.Evaluate.{evaluate}
 
 -- ---- an angle in six words
 
--- a fraction in three: 1 for a negative one, the numerator, the denominator; three zeros are the fraction 0
+-- a denominator from its word: 0 stands for 1
 abbrev pub denominatorOf : ℕ → ℕ
 denominatorOf d = cond (eqb d 0) 1 d
 
+-- a fraction in three: 1 for a negative one, the numerator, the denominator; three zeros are the fraction 0
 abbrev pub partAt : List ℕ → ℕ → Rational64
 partAt words p = record { negative = eqb (getD words p 0) 1; numer = getD words (p + 1) 0; denom = denominatorOf (getD words (p + 2) 0) }
 
