@@ -1,7 +1,2 @@
-pub mod RanLaws
-pub mod GateLaws
-pub mod BodyLaws
-pub mod CycleLaws
-pub mod StatementLaws
 pub mod ProgramLaws
 pub mod OutcomeLaws

@@ -31,7 +31,7 @@ use Rattle.writer.specs.declared.LinearizeErrorKind.the-variants as kind
 use Rattle.writer.specs.declared.Linearized.{Linearized}
 use Rattle.writer.specs.declared.Linearized.the-variants as linearized
 use Rattle.writer.specs.Promise.{answerTo, answerOf, positionOf}
-use Rattle.linearize.specs.Running.{Ran}
+use Rattle.gate.specs.Running.{Ran}
 use Rattle.linearize.specs.Linearizes as promise
 use Rattle.linearize.specs.Linearizes.{refusedWith, Linearizes}
 

@@ -7,13 +7,10 @@ use mathlib.Core.List.{List, [], _∷_, _++_, map}
 use borrow.Author.Tests.{eq-eqb, ne-eqb}
 use lib.ListN.{length, getD, replicate}
 use Rattle.value.specs.declared.Value.{Value}
-use Rattle.value.specs.Value.{Sound}
 use Rattle.model.specs.Lists.{range, sum}
 use Rattle.model.specs.Image.{Conditional, word, quantumRegisters, quantumSize, firstQubit, statement, statementAt, mainStatements, classicalRegisters, classicalSize, firstBit, variables, scopeStatements}
 use Rattle.model.specs.Records.{Record}
 use Rattle.model.specs.Steps.{Step, write, inRounds, visitPlain, visitConditional, visitStatement, visitBody, opening, mainFrame, headRecord, steps}
-use Rattle.model.specs.Evaluate.{zeroValue}
-use Rattle.model.proofs.All.{nil, cons, All-getD}
 use Rattle.model.proofs.Facts.{PlainFacts, Facts, run-facts}
 use Rattle.model.specs.Run.{play}
 use Rattle.model.proofs.PlayLaws.{plays-stop}
@@ -29,8 +26,9 @@ use Rattle.statement.specs.Frames.{standing, formalsOf, Stands}
 use Rattle.expression.specs.Table.{Fixed}
 use Rattle.expression.proofs.AngleLaws.{zeros-sound}
 use Rattle.writer.specs.declared.Position.{Position}
-use Rattle.writer.specs.Promise.{Open, Wrote, SoundAngles}
-use Rattle.linearize.specs.Running.{Tabled, Ready, plainSteps}
+use Rattle.writer.specs.Promise.{Open, Wrote}
+use Rattle.gate.specs.Running.{Ready, plainSteps}
+use Rattle.linearize.specs.Tabled.{Tabled}
 use Rattle.statement.proofs.ArgumentLaws.{few-classical, count-sum}
 
 -- ---- a main statement by its kind
@@ -94,10 +92,6 @@ pub head-steps : (image : List ℕ) (depth : ℕ) {n left : ℕ} → n ≡ mainS
     → (write [] (headRecord image) ∷ []) ++ visitBody image (opening image left) mainFrame ≡ steps image depth
 unfolding steps
 head-steps image depth e h d = sym (rw (ne-eqb (mainStatements image) 0 (λ z. h (e ∙ z)), ← d) refl)
-
--- sixteen angles of 0
-pub sound-zeros : {x : Value} → Sound x → SoundAngles (x ∷ x ∷ x ∷ x ∷ x ∷ x ∷ x ∷ x ∷ x ∷ x ∷ x ∷ x ∷ x ∷ x ∷ x ∷ x ∷ [])
-sound-zeros h = record { full = refl; each = λ i k. All-getD {P = Sound} i zeroValue k (cons h (cons h (cons h (cons h (cons h (cons h (cons h (cons h (cons h (cons h (cons h (cons h (cons h (cons h (cons h (cons h nil)))))))))))))))) }
 
 -- where main's statements are run
 pub main-ready : {image : List ℕ} {l : Layout} {qs bs table formals out trace : List ℕ} {at : Position} → Tabled image l qs bs → Fixed image table → length formals ≡ 16 → Open out at → 256 ≤ length trace → at .trace ≡ 0

@@ -1,7 +1,7 @@
 use mathlib.Core.Path.{ap, subst}
 use borrow.Author.Needs.{needs}
 use denote.Ref.{now}
-use Rattle.linearize.proofs.RanLaws.{ran-lengths}
+use Rattle.gate.proofs.RanLaws.{ran-lengths}
 use Rattle.model.proofs.Accepted.{contents-right}
 use Rattle.linearize.proofs.OutcomeLaws.{accepted-run}
 use Rattle.model.proofs.Accepted.{accepts}

@@ -1,6 +1,6 @@
 use mathlib.Core.Path.{refl, _∙_}
 use borrow.Author.Needs.{needs}
-use Rattle.linearize.proofs.RanLaws.{wrote-ran, wrote-then, wrote-stops, ran-lengths, ran-steps}
+use Rattle.gate.proofs.RanLaws.{wrote-ran, wrote-then, wrote-stops, ran-lengths, ran-steps}
 use Rattle.linearize.proofs.ProgramLaws.{no-steps, head-steps, wrote-nothing, open-after}
 use Rattle.linearize.proofs.run_laid.Statement.{statement}
 use Rattle.linearize.proofs.run_laid.Tie as tie

@@ -1,8 +1,8 @@
 use native.Mathlib.Omega.{arith}
 use mathlib.Core.Path.{refl}
 use borrow.Author.Needs.{needs}
-use Rattle.linearize.proofs.RanLaws.{wrote-then, wrote-stops, ran-steps}
-use Rattle.linearize.proofs.CycleLaws.{ready-wrote}
+use Rattle.gate.proofs.RanLaws.{wrote-then, wrote-stops, ran-steps}
+use Rattle.gate.proofs.CycleLaws.{ready-wrote}
 use Rattle.linearize.proofs.ProgramLaws.{register-listed, register-tabled, held-listed, conditional-steps}
 use Rattle.linearize.proofs.visit_conditional.Statement.{statement}
 use Rattle.linearize.proofs.visit_conditional.Tie as tie

@@ -1,6 +1,6 @@
 use borrow.Author.Needs.{needs}
-use Rattle.linearize.proofs.RanLaws.{ran-then, ran-stops}
-use Rattle.linearize.proofs.CycleLaws.{ran-open}
+use Rattle.gate.proofs.RanLaws.{ran-then, ran-stops}
+use Rattle.gate.proofs.CycleLaws.{ran-open}
 use Rattle.linearize.proofs.visit_held.Statement.{statement}
 use Rattle.linearize.proofs.visit_held.Tie as tie
 

@@ -1,9 +1,9 @@
 use mathlib.Core.Path.{ap, _∙_}
 use borrow.Author.Needs.{needs}
 use denote.Ref.{now}
-use Rattle.linearize.proofs.RanLaws.{ran-steps}
-use Rattle.linearize.proofs.CycleLaws.{kind-read}
-use Rattle.linearize.proofs.BodyLaws.{statement-steps}
+use Rattle.gate.proofs.RanLaws.{ran-steps}
+use Rattle.gate.proofs.CycleLaws.{kind-read}
+use Rattle.gate.proofs.BodyLaws.{statement-steps}
 use Rattle.linearize.proofs.ProgramLaws.{plain-in-main}
 use Rattle.model.specs.Image.{word}
 use Rattle.linearize.proofs.visit_main.Statement.{statement}

@@ -5,8 +5,8 @@ use borrow.Author.Needs.{needs}
 use denote.Ref.{now}
 use lib.ListN.{length}
 use Rattle.statement.proofs.LoopLaws.{Looped, looped-start, looped-length}
-use Rattle.linearize.proofs.RanLaws.{ran-next, ran-stop, ran-done, ran-lengths, ran-steps, ran-from, ran-still}
-use Rattle.linearize.proofs.CycleLaws.{ready-on}
+use Rattle.gate.proofs.RanLaws.{ran-next, ran-stop, ran-done, ran-lengths, ran-steps, ran-from, ran-still}
+use Rattle.gate.proofs.CycleLaws.{ready-on}
 use Rattle.linearize.proofs.ProgramLaws.{main-ready, main-steps, main-facts}
 use Rattle.model.specs.Steps.{visitStatement, opening}
 use Rattle.statement.specs.Frames.{standing}

@@ -21,7 +21,7 @@ use Rattle.writer.specs.declared.LinearizeError.{LinearizeError}
 use Rattle.writer.specs.declared.Linearized.{Linearized}
 use Rattle.writer.specs.declared.Linearized.the-variants as linearized
 use Rattle.writer.specs.Promise.{answerTo, answerOf, Wrote}
-use Rattle.linearize.specs.Running.{Ran}
+use Rattle.gate.specs.Running.{Ran}
 use Rattle.statement.proofs.LoopLaws.{not-done, Looped, looped-next, looped-done}
 
 -- ---- without calls

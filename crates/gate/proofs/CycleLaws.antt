@@ -16,15 +16,15 @@ use Rattle.image.specs.Layout.{Holds}
 use Rattle.image.proofs.KindLaws.{words-are}
 use Rattle.writer.specs.declared.Position.{Position}
 use Rattle.expression.specs.Table.{anglesIn, Fixed}
-use Rattle.linearize.specs.declared.Call.{Call}
+use Rattle.gate.specs.declared.Call.{Call}
 use Rattle.writer.specs.declared.Linearized.{Linearized}
 use Rattle.writer.specs.Promise.{Open, Wrote, SoundAngles}
 use Rattle.statement.specs.Frames.{standing, QubitsAre}
-use Rattle.linearize.specs.Running.{Ready, Ran, plainSteps, Calls, callSteps}
+use Rattle.gate.specs.Running.{Ready, Ran, plainSteps, Calls, callSteps}
 use Rattle.writer.specs.declared.Linearized.the-variants as linearized
 use Rattle.statement.proofs.LoopLaws.{Looped, wrote-open}
-use Rattle.linearize.proofs.RanLaws.{ran-wrote}
-use Rattle.linearize.proofs.BodyLaws.{opened-stands, body-facts, statement-steps, bodyStatement}
+use Rattle.gate.proofs.RanLaws.{ran-wrote}
+use Rattle.gate.proofs.BodyLaws.{opened-stands, body-facts, statement-steps, bodyStatement}
 
 pub kind-read : (image : List ℕ) (s : ℕ) {p k n : ℕ} → p ≡ statementAt image s → k ≡ word image p → k ≡ n → word image (statementAt image s) ≡ n
 kind-read image s e f h = ap (word image) (sym e) ∙ sym f ∙ h

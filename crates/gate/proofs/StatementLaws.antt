@@ -8,11 +8,14 @@ use borrow.Author.Tests.{eqb-false}
 use lib.Dec.{T, eqb, eqb→eq}
 use lib.ListN.{take}
 use Rattle.value.specs.declared.Value.{Value}
+use Rattle.value.specs.Value.{Sound}
 use Rattle.model.specs.Lists.{range, largest, all, rising}
 use Rattle.model.specs.Image.{Statement, U, CX, Barrier, Measure, Reset, statementOf, word, statement, statementAt, gateAt, parameterAt, variables, rounds, argumentSize, classicalArgumentSize}
 use Rattle.model.specs.Check.{expressionOk, argumentOk, classicalArgumentOk, matching}
 use Rattle.model.specs.Records.{Record}
 use Rattle.model.specs.Steps.{write, inRounds, withValues, qubitIn, argumentQubits, writeU, writeCX, writeMeasure, writeReset, visitPlain}
+use Rattle.model.specs.Evaluate.{zeroValue}
+use Rattle.model.proofs.All.{nil, cons, All-getD}
 use Rattle.model.proofs.Accepted.{Accepted, few-parameters}
 use Rattle.model.proofs.StepsSound.{FrameOk}
 use Rattle.model.proofs.Facts.{PlainFacts, no-kind}
@@ -21,10 +24,10 @@ use Rattle.image.specs.Layout.{Laid}
 use Rattle.image.proofs.KindLaws.{u-is, cx-is, barrier-is, measure-is, reset-is, words-are}
 use Rattle.writer.specs.declared.Position.{Position}
 use Rattle.writer.specs.declared.Linearized.{Linearized}
-use Rattle.linearize.specs.declared.Call.{Call}
-use Rattle.writer.specs.Promise.{Wrote}
+use Rattle.gate.specs.declared.Call.{Call}
+use Rattle.writer.specs.Promise.{SoundAngles, Wrote}
 use Rattle.statement.specs.Frames.{standing, Stands, namedAt, Listed}
-use Rattle.linearize.specs.Running.{plainSteps, callOf}
+use Rattle.gate.specs.Running.{plainSteps, callOf}
 
 -- ---- kinds
 
@@ -167,3 +170,7 @@ module _ {image : List ℕ} {l : Layout} {qs bs : List ℕ} {scope : ℕ} {forma
         → Wrote (plainSteps image 0 (standing image scope angles formals) s) out at r out′
     unfolding visitPlain writeReset qubitIn
     reset-leaf n1 n2 n3 n4 n5 w = rw (reset-statement n1 n2 n3 n4 n5) w
+
+-- sixteen angles of 0
+pub sound-zeros : {x : Value} → Sound x → SoundAngles (x ∷ x ∷ x ∷ x ∷ x ∷ x ∷ x ∷ x ∷ x ∷ x ∷ x ∷ x ∷ x ∷ x ∷ x ∷ x ∷ [])
+sound-zeros h = record { full = refl; each = λ i k. All-getD {P = Sound} i zeroValue k (cons h (cons h (cons h (cons h (cons h (cons h (cons h (cons h (cons h (cons h (cons h (cons h (cons h (cons h (cons h (cons h nil)))))))))))))))) }

@@ -1,8 +1,8 @@
 use mathlib.Core.Path.{refl}
 use native.Mathlib.Numerals.{add-one}
 use borrow.Author.Needs.{needs}
-use Rattle.linearize.proofs.mark_call.Statement.{statement}
-use Rattle.linearize.proofs.mark_call.Tie as tie
+use Rattle.gate.proofs.mark_call.Statement.{statement}
+use Rattle.gate.proofs.mark_call.Tie as tie
 
 mul-trace : tie.Need-mul-trace
 mul-trace c = search needs

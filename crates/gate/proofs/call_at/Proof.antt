@@ -1,9 +1,9 @@
 use native.Mathlib.Omega.{arith}
 use denote.Ref.{now}
 use borrow.Author.Needs.{needs}
-use Rattle.linearize.proofs.StatementLaws.{read-at, known-gate, near-statement, near-gate, call-is}
-use Rattle.linearize.proofs.call_at.Statement.{statement}
-use Rattle.linearize.proofs.call_at.Tie as tie
+use Rattle.gate.proofs.StatementLaws.{read-at, known-gate, near-statement, near-gate, call-is}
+use Rattle.gate.proofs.call_at.Statement.{statement}
+use Rattle.gate.proofs.call_at.Tie as tie
 
 statement-at-requires : tie.Need-statement-at-requires
 statement-at-requires c κs = (c .before .pre .0, omega (arith, c .before .pre .1, c .before .pre .0 .all-is, c .before .pre .0 .whole, c .before .pre .0 .short))

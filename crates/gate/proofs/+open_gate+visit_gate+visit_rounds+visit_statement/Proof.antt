@@ -10,14 +10,14 @@ use Rattle.model.specs.Lists.{range}
 use Rattle.model.specs.Image.{word}
 use Rattle.model.specs.Steps.{visitGate, opening}
 use Rattle.statement.specs.Frames.{standing}
-use Rattle.linearize.specs.Running.{nested}
+use Rattle.gate.specs.Running.{nested}
 use Rattle.statement.proofs.LoopLaws.{Looped, looped-start, looped-next, looped-length}
 use Rattle.statement.proofs.GivenLaws.{named, refuses}
 use Rattle.statement.proofs.CallLaws.{call-rounds-few}
-use Rattle.linearize.proofs.RanLaws.{wrote-ran, ran-next, ran-stop, ran-done, ran-returned, ran-refused, ran-enter, ran-lengths, ran-steps, ran-from, ran-still, wrote-steps}
-use Rattle.linearize.proofs.GateLaws.{known-gate, calls, named-listed, gate-given, gate-refused}
-use Rattle.linearize.proofs.BodyLaws.{body-round, opaque-rounds, cut-steps, open-steps, bodyStatement, few-arguments}
-use Rattle.linearize.proofs.CycleLaws.{kind-read, leaf-steps, call-frame, ready-on, ready-opened, ready-in-body, holds-body, facts-in-body, step-in-body}
+use Rattle.gate.proofs.RanLaws.{wrote-ran, ran-next, ran-stop, ran-done, ran-returned, ran-refused, ran-enter, ran-lengths, ran-steps, ran-from, ran-still, wrote-steps}
+use Rattle.gate.proofs.GateLaws.{known-gate, calls, named-listed, gate-given, gate-refused}
+use Rattle.gate.proofs.BodyLaws.{body-round, opaque-rounds, cut-steps, open-steps, bodyStatement, few-arguments}
+use Rattle.gate.proofs.CycleLaws.{kind-read, leaf-steps, call-frame, ready-on, ready-opened, ready-in-body, holds-body, facts-in-body, step-in-body}
 use Prim.Native.Nat.{ℕ, _<_}
 use borrow.Fn.Kinds.{In}
 use borrow.Fn.PlainCycle.{Measures, is, falls, and}
@@ -31,26 +31,26 @@ use Rattle.image.proofs.word.Reads as word-reads
 use Rattle.expression.specs.Table.{anglesIn, Fixed}
 use Rattle.expression.proofs.AngleLaws.{zeros-sound}
 use Rattle.writer.specs.Promise.{SoundAngles}
-use Rattle.linearize.proofs.open_gate.Reads as open-gate
-use Rattle.linearize.proofs.open_gate.Kinds as open-gate-kinds
-use Rattle.linearize.proofs.+open_gate+visit_gate+visit_rounds+visit_statement.Lts-open_gate as open-gate-lts
-use Rattle.linearize.proofs.visit_gate.Reads as visit-gate
-use Rattle.linearize.proofs.visit_gate.Kinds as visit-gate-kinds
-use Rattle.linearize.proofs.+open_gate+visit_gate+visit_rounds+visit_statement.Lts-visit_gate as visit-gate-lts
-use Rattle.linearize.proofs.visit_rounds.Reads as visit-rounds
-use Rattle.linearize.proofs.visit_rounds.Kinds as visit-rounds-kinds
-use Rattle.linearize.proofs.+open_gate+visit_gate+visit_rounds+visit_statement.Lts-visit_rounds as visit-rounds-lts
-use Rattle.linearize.proofs.visit_statement.Reads as visit-statement
-use Rattle.linearize.proofs.visit_statement.Kinds as visit-statement-kinds
-use Rattle.linearize.proofs.+open_gate+visit_gate+visit_rounds+visit_statement.Lts-visit_statement as visit-statement-lts
+use Rattle.gate.proofs.open_gate.Reads as open-gate
+use Rattle.gate.proofs.open_gate.Kinds as open-gate-kinds
+use Rattle.gate.proofs.+open_gate+visit_gate+visit_rounds+visit_statement.Lts-open_gate as open-gate-lts
+use Rattle.gate.proofs.visit_gate.Reads as visit-gate
+use Rattle.gate.proofs.visit_gate.Kinds as visit-gate-kinds
+use Rattle.gate.proofs.+open_gate+visit_gate+visit_rounds+visit_statement.Lts-visit_gate as visit-gate-lts
+use Rattle.gate.proofs.visit_rounds.Reads as visit-rounds
+use Rattle.gate.proofs.visit_rounds.Kinds as visit-rounds-kinds
+use Rattle.gate.proofs.+open_gate+visit_gate+visit_rounds+visit_statement.Lts-visit_rounds as visit-rounds-lts
+use Rattle.gate.proofs.visit_statement.Reads as visit-statement
+use Rattle.gate.proofs.visit_statement.Kinds as visit-statement-kinds
+use Rattle.gate.proofs.+open_gate+visit_gate+visit_rounds+visit_statement.Lts-visit_statement as visit-statement-lts
 use Rattle.expression.proofs.values_in.Reads as values-in-reads
-use Rattle.linearize.proofs.at_trace.Reads as at-trace-reads
-use Rattle.linearize.proofs.call_at.Reads as call-at-reads
-use Rattle.linearize.proofs.mark_call.Reads as mark-call-reads
-use Rattle.linearize.proofs.visit_leaf.Reads as visit-leaf-reads
-use Rattle.linearize.proofs.write_cut.Reads as write-cut-reads
-use Rattle.linearize.proofs.+open_gate+visit_gate+visit_rounds+visit_statement.{statement}
-use Rattle.linearize.proofs.+open_gate+visit_gate+visit_rounds+visit_statement.Tie.{close}
+use Rattle.gate.proofs.at_trace.Reads as at-trace-reads
+use Rattle.gate.proofs.call_at.Reads as call-at-reads
+use Rattle.gate.proofs.mark_call.Reads as mark-call-reads
+use Rattle.gate.proofs.visit_leaf.Reads as visit-leaf-reads
+use Rattle.gate.proofs.write_cut.Reads as write-cut-reads
+use Rattle.gate.proofs.+open_gate+visit_gate+visit_rounds+visit_statement.{statement}
+use Rattle.gate.proofs.+open_gate+visit_gate+visit_rounds+visit_statement.Tie.{close}
 
 abbrev μ-open-gate : Measures 6 open-gate-kinds.ps ℕ
 μ-open-gate κs a = 4 * a .1 .1 .1 .1 .1 .1 .0 + 4

@@ -15,11 +15,11 @@ use Rattle.model.proofs.Accepted.{few-parameters, few-arguments}
 use Rattle.model.proofs.Facts.{PlainFacts}
 use Rattle.image.specs.declared.Layout.{Layout}
 use Rattle.image.proofs.KindLaws.{gate-is, words-are}
-use Rattle.linearize.specs.declared.Call.{Call}
+use Rattle.gate.specs.declared.Call.{Call}
 use Rattle.statement.specs.Frames.{standing, namedAt, Listed, Stands}
-use Rattle.linearize.specs.Running.{nested, plainSteps, callOf, Calls, callSteps}
+use Rattle.gate.specs.Running.{nested, plainSteps, callOf, Calls, callSteps}
 use Rattle.statement.proofs.GivenLaws.{listed-values}
-use Rattle.linearize.proofs.StatementLaws.{few-variables}
+use Rattle.gate.proofs.StatementLaws.{few-variables}
 
 -- the words of consecutive parameters
 parameters-from : (image : List ℕ) (p k n : ℕ) → map (λ i. word image (parameterAt image p + i)) (range k n) ≡ map (parameter image) (range (p + k) n)

@@ -1,10 +1,9 @@
 use native.Mathlib.Omega.{arith}
 use denote.Ref.{now}
 use borrow.Author.Needs.{needs}
-use Rattle.linearize.proofs.StatementLaws.{read-at, near-gate, cut-is}
-use Rattle.linearize.proofs.ProgramLaws.{sound-zeros}
-use Rattle.linearize.proofs.write_cut.Statement.{statement}
-use Rattle.linearize.proofs.write_cut.Tie as tie
+use Rattle.gate.proofs.StatementLaws.{read-at, near-gate, cut-is, sound-zeros}
+use Rattle.gate.proofs.write_cut.Statement.{statement}
+use Rattle.gate.proofs.write_cut.Tie as tie
 
 gate-at-requires : tie.Need-gate-at-requires
 gate-at-requires c κs = (c .before .before .pre .0, omega (arith, c .before .before .pre .2, c .before .before .pre .0 .gates-is, c .before .before .pre .0 .few-gates))

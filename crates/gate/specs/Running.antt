@@ -17,7 +17,7 @@ use Rattle.image.specs.Layout.{Laid}
 use Rattle.image.specs.Firsts.{Firsts}
 use Rattle.writer.specs.declared.Position.{Position}
 use Rattle.writer.specs.declared.Linearized.{Linearized}
-use Rattle.linearize.specs.declared.Call.{Call}
+use Rattle.gate.specs.declared.Call.{Call}
 use Rattle.writer.specs.Promise.{placeAt, positionOf, answerOf, Open, SoundAngles}
 use Rattle.expression.specs.Table.{anglesIn, Fixed}
 use Rattle.statement.specs.Frames.{Stands, Called}
@@ -35,13 +35,6 @@ pub record Ready (image : List ℕ) (l : Layout) (qubits bits table : List ℕ) 
   pub opens : Open out at
   pub room : 256 ≤ length trace
   pub deep : at .trace + 2 * nested scope ≤ 256
-
--- an accepted image with the tables of where its registers start
-pub record Tabled (image : List ℕ) (l : Layout) (qubits bits : List ℕ) : Type 0 where
-  pub laid : Laid image l
-  pub accepted : Accepted image
-  pub quantum : Firsts (quantumSize image) (quantumRegisters image) qubits
-  pub classical : Firsts (classicalSize image) (classicalRegisters image) bits
 
 -- some steps were played. Where they were refused, the calls on the stack stand in the trace from the position's words on.
 pub record Ran (ss : List Step) (out : List ℕ) (at : Position) (trace : List ℕ) (r : Linearized) (out′ trace′ : List ℕ) : Type 0 where

@@ -18,9 +18,9 @@ use Rattle.model.proofs.Facts.{PlainFacts, Facts, run-facts}
 use Rattle.model.proofs.StepsSound.{Declared, all-below}
 use Rattle.model.proofs.TraceLaws.{under, opening-under}
 use Rattle.image.specs.declared.Layout.{Layout}
-use Rattle.linearize.specs.declared.Call.{Call}
+use Rattle.gate.specs.declared.Call.{Call}
 use Rattle.statement.specs.Frames.{standing, formalsOf, Stands, QubitsAre}
-use Rattle.linearize.specs.Running.{plainSteps, Calls, callSteps}
+use Rattle.gate.specs.Running.{plainSteps, Calls, callSteps}
 
 -- ---- a round of a call
 

@@ -1,0 +1,15 @@
+-- What the main statements have at hand.
+use Prim.Native.Nat.{ℕ}
+use mathlib.Core.List.{List}
+use Rattle.model.specs.Image.{quantumSize, quantumRegisters, classicalSize, classicalRegisters}
+use Rattle.model.proofs.Accepted.{Accepted}
+use Rattle.image.specs.declared.Layout.{Layout}
+use Rattle.image.specs.Layout.{Laid}
+use Rattle.image.specs.Firsts.{Firsts}
+
+-- an accepted image with the tables of where its registers start
+pub record Tabled (image : List ℕ) (l : Layout) (qubits bits : List ℕ) : Type 0 where
+  pub laid : Laid image l
+  pub accepted : Accepted image
+  pub quantum : Firsts (quantumSize image) (quantumRegisters image) qubits
+  pub classical : Firsts (classicalSize image) (classicalRegisters image) bits
