@@ -48,10 +48,12 @@ extern "C" {
 #define COWHIRAME_CHECK_ANSWER 2
 #define COWHIRAME_TALLY_ANSWER 11
 #define COWHIRAME_RUN_ANSWER 6
+#define COWHIRAME_NEXT_ANSWER 2
 
 enum cowhirame_answer {
     COWHIRAME_NUMBER = 0, /* in each answer: 0, or why it is refused (cowhirame_number) */
-    COWHIRAME_PLACE = 1,  /* in each answer: the index of a word of the image, or 0 */
+    COWHIRAME_PLACE = 1,  /* in the answers of check, tally and run: the index of a word of the image, or 0 */
+    COWHIRAME_LENGTH = 1, /* in the answer of next: the words of the record, 0 at the end */
 
     /* in a run's answer */
     COWHIRAME_SECOND = 2,       /* a second place, or the bits of an f32; else 0 */
@@ -98,7 +100,10 @@ enum cowhirame_number {
     COWHIRAME_SHORT_TRACE = 15,    /* fewer than 256 trace words lent; place 0 */
 
     /* by the tally, behind the check */
-    COWHIRAME_TALLY_TOO_LARGE = 16 /* a figure passes 4,294,967,295; place 0 */
+    COWHIRAME_TALLY_TOO_LARGE = 16, /* a figure passes 4,294,967,295; place 0 */
+
+    /* by next */
+    COWHIRAME_NO_RECORD = 17       /* the words there begin no whole record of a known kind, or are past the end */
 };
 
 /* ---- Records: the kind is the first word ----
@@ -148,6 +153,14 @@ void cowhirame_tally(const uint64_t *image, size_t words, uint64_t depth, uint64
  */
 void cowhirame_run(const uint64_t *image, size_t words, uint64_t depth, uint64_t *output, size_t output_words,
                    uint64_t *trace, size_t trace_words, uint64_t *answer);
+
+/*
+ * Reads records back: what stands at a position of some words. The record is at words + at.
+ *   words, count   the words, as a run wrote them or any others, and how many
+ *   at             the position: 0 first, then that of the last record plus its length
+ *   answer         2 words: number and length. 0 and a length of 1 or more: a record; 0 0: the end; 17 0: no record
+ */
+void cowhirame_next(const uint64_t *words, size_t count, size_t at, uint64_t *answer);
 
 #ifdef __cplusplus
 }

@@ -52,21 +52,6 @@ static int read_depth(const char *text, uint64_t *depth) {
     return text[0] < '0' || text[0] > '9' || *end || errno ? unusable("is no depth", text) : DONE;
 }
 
-/* How many words the record has. The words are a run's, so that they begin a whole record of a known kind. */
-static uint64_t record_words(const uint64_t *record) {
-    switch (record[0]) {
-    case COWHIRAME_HEAD: return 3 + 2 * (record[1] + record[2]);
-    case COWHIRAME_U: return 14;
-    case COWHIRAME_CX: return 3;
-    case COWHIRAME_GATE: return 4 + 4 * record[2] + record[3];
-    case COWHIRAME_BARRIER: return 2 + record[1];
-    case COWHIRAME_MEASURE: return 3;
-    case COWHIRAME_RESET: return 2;
-    case COWHIRAME_IF: return 4;
-    default: return 1; /* COWHIRAME_END_IF */
-    }
-}
-
 /* Whether a word of a record belongs to an angle, and so is signed. */
 static int is_signed(const uint64_t *record, uint64_t at) {
     if (record[0] == COWHIRAME_U) return at >= 1 && at < 13;
@@ -82,7 +67,12 @@ static void print_record(const uint64_t *record, uint64_t words) {
 }
 
 static void print_records(const uint64_t *output, uint64_t words) {
-    for (uint64_t at = 0; at < words; at += record_words(output + at)) print_record(output + at, record_words(output + at));
+    uint64_t next[COWHIRAME_NEXT_ANSWER];
+    for (size_t at = 0;; at += (size_t)next[COWHIRAME_LENGTH]) {
+        cowhirame_next(output, (size_t)words, at, next);
+        if (next[COWHIRAME_LENGTH] == 0) return; /* the end: a run writes whole records */
+        print_record(output + at, next[COWHIRAME_LENGTH]);
+    }
 }
 
 static int print_refusal(const uint64_t *trace, const uint64_t *answer) {

@@ -25,6 +25,7 @@ mod unit {
             trace_words: usize,
             answer: *mut u64,
         );
+        fn cowhirame_next(words: *const u64, count: usize, at: usize, answer: *mut u64);
     }
 
     /// Number and place, then nine figures; the last of them is the word bound.
@@ -51,33 +52,36 @@ mod unit {
         };
         answer
     }
+
+    /// The record at the front of some words; None at the end, or where they begin no record.
+    pub fn next(words: &[u64]) -> Option<&[u64]> {
+        let mut answer = [0; 2];
+        unsafe { cowhirame_next(words.as_ptr(), words.len(), 0, answer.as_mut_ptr()) };
+        match answer {
+            [0, length] if length > 0 => Some(&words[..length as usize]),
+            _ => None,
+        }
+    }
 }
 
-/// The words of a record, and which of them belong to angles and so are signed.
-fn record_shape(record: &[u64]) -> (usize, std::ops::Range<usize>) {
-    let word = |at: usize| record[at] as usize;
+/// Which words of a record belong to angles, and so are signed.
+fn angles_of(record: &[u64]) -> std::ops::Range<usize> {
     match record[0] {
-        0 => (3 + 2 * (word(1) + word(2)), 0..0), // head
-        1 => (14, 1..13),                         // U
-        2 | 5 => (3, 0..0),                       // CX, measure
-        3 => (4 + 4 * word(2) + word(3), 4..4 + 4 * word(2)), // gate
-        4 => (2 + word(1), 0..0),                 // barrier
-        6 => (2, 0..0),                           // reset
-        7 => (4, 0..0),                           // start of a conditional
-        _ => (1, 0..0),                           // 8, its end
+        1 => 1..13,                          // U
+        3 => 4..4 + 4 * record[2] as usize, // a gate that is not opened
+        _ => 0..0,
     }
 }
 
 fn print_records(mut output: &[u64]) {
-    while !output.is_empty() {
-        let (length, angles) = record_shape(output);
-        let (record, rest) = output.split_at(length);
+    while let Some(record) = unit::next(output) {
+        let angles = angles_of(record);
         let signed = |(at, word): (usize, &u64)| match angles.contains(&at) {
             true => (*word as i64).to_string(),
             false => word.to_string(),
         };
         println!("{}", record.iter().enumerate().map(signed).collect::<Vec<_>>().join(" "));
-        output = rest;
+        output = &output[record.len()..];
     }
 }
 

@@ -5,6 +5,8 @@ use mathlib.Core.List.{List, [], _∷_}
 use Rattle.model.specs.Check.{Verdict, fine, bad}
 use Rattle.model.specs.Tally.{TallyAnswer, tallied, refused}
 use Rattle.model.specs.Run.{told, Outcome, linearize}
+use Rattle.reader.specs.declared.NextRecord.{NextRecord}
+use Rattle.reader.specs.declared.NextRecord.the-variants as answer
 
 -- number and place, 0 0 of an accepted image
 abbrev pub checkWords : Verdict → List ℕ
@@ -15,6 +17,12 @@ checkWords (bad n p) = n ∷ p ∷ []
 abbrev pub tallyWords : TallyAnswer → List ℕ
 tallyWords (tallied nine) = 0 ∷ 0 ∷ nine
 tallyWords (refused n p) = n ∷ p ∷ 0 ∷ 0 ∷ 0 ∷ 0 ∷ 0 ∷ 0 ∷ 0 ∷ 0 ∷ 0 ∷ []
+
+-- number and the record's length; a record has a word at least, so that 0 0 is the end
+abbrev pub nextWords : NextRecord → List ℕ
+nextWords (answer.Record n) = 0 ∷ n ∷ []
+nextWords answer.End = 0 ∷ 0 ∷ []
+nextWords answer.Wrong = 17 ∷ 0 ∷ []
 
 -- number, place, second place, records, output words and trace words
 abbrev pub runWords : Outcome → List ℕ

@@ -15,7 +15,7 @@ ghost use Rattle.reader.specs.Answer.{answerOf as nextOf, wordsOf};
 ghost use Rattle.writer.specs.Promise.{positionOf};
 ghost use Rattle.linearize.specs.Linearizes.{Linearizes};
 ghost use Rattle.unit.specs.Told.{ToldKind, Told};
-ghost use Rattle.unit.specs.Exports.{checkWords, tallyWords, Exported};
+ghost use Rattle.unit.specs.Exports.{checkWords, tallyWords, nextWords, Exported};
 
 // Whether an image is a checked program: accepted, or the number and the place of what is wrong.
 pub fn check(image: &[u64]) -> CheckAnswer
@@ -209,4 +209,22 @@ pub extern "C" fn cowhirame_run(
         at.words,
         at.trace,
     ];
+}
+
+// The reader's number, and the length of a record: 0 0 is the end, 17 0 no record.
+fn next_words(found: NextRecord) -> [u64; 2]
+    ensures { λ r. ⌜ r ≡ nextWords found ⌝ }
+{
+    match found {
+        NextRecord::Record(length) => [0, length as u64],
+        NextRecord::End => [0, 0],
+        NextRecord::Wrong => [17, 0],
+    }
+}
+
+#[no_mangle]
+pub extern "C" fn cowhirame_next(words: &[u64], at: usize, answer: &mut [u64; 2])
+    ensures { λ _. ⌜ now (answer .exit) ≡ nextWords (nextOf (nextAt (now (words .entry)) at)) ⌝ }
+{
+    *answer = next_words(next_at(words, at));
 }

@@ -5,6 +5,7 @@ use crate::Outcome;
 #[link(name = "unit", kind = "static")]
 extern "C" {
     pub fn cowhirame_check(image: *const u64, words: usize, answer: *mut u64);
+    pub fn cowhirame_next(words: *const u64, count: usize, at: usize, answer: *mut u64);
     pub fn cowhirame_run(
         image: *const u64,
         words: usize,
@@ -29,6 +30,13 @@ pub fn check(image: &[u64]) -> [u64; 2] {
 pub fn tally(image: &[u64], depth: u64) -> [u64; 11] {
     let mut answer = [u64::MAX; 11];
     unsafe { cowhirame_tally(image.as_ptr(), image.len(), depth, answer.as_mut_ptr()) };
+    answer
+}
+
+/// Number and length of what stands at a position of some words.
+pub fn next(words: &[u64], at: usize) -> [u64; 2] {
+    let mut answer = [u64::MAX; 2];
+    unsafe { cowhirame_next(words.as_ptr(), words.len(), at, answer.as_mut_ptr()) };
     answer
 }
 

@@ -4,7 +4,7 @@
 //! and every difference with its image; the exit status is 1 if there is any.
 use oracle::published::{self, Domain, Run};
 use oracle::random::Random;
-use oracle::{generate, records, unit, with_rising_barriers, Outcome};
+use oracle::{generate, record_length, records, unit, with_rising_barriers, Outcome};
 use std::collections::BTreeMap;
 use std::time::Instant;
 
@@ -66,6 +66,7 @@ impl Comparison {
         let ample = bound.min(MOST_ROOM) as usize;
         let Some(ours) = self.compared(image, depth, ample, true) else { return };
         self.tallied(image, depth, ample, &tally[2..], &ours);
+        self.read(image, depth, ample, &ours.output);
         *self.counts.depths.entry(shown_depth(depth)).or_default() += 1;
         let written = ours.output.len();
         let any = self.random.below(written as u64 + 1) as usize;
@@ -139,6 +140,17 @@ impl Comparison {
             && !(ample && ours.number == 14);
         if !good {
             self.differ(image, depth, room, &format!("figures {figures:?}, outcome {ours:?}"));
+        }
+    }
+
+    /// The reader at each position of a run's output, the end and one past it.
+    fn read(&mut self, image: &[u64], depth: u64, room: usize, output: &[u64]) {
+        for at in 0..output.len() + 2 {
+            let length = output.get(at..).map_or(0, record_length) as u64;
+            let expected = if length > 0 || at == output.len() { [0, length] } else { [17, 0] };
+            if unit::next(output, at) != expected {
+                return self.differ(image, depth, room, &format!("the reader at {at}: {expected:?} is right"));
+            }
         }
     }
 
