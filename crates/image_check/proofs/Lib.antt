@@ -6,4 +6,3 @@ pub mod NumberLaws
 pub mod OrderLaws
 pub mod ScopeLaws
 pub mod TestLaws
-pub mod UnusedLaws

@@ -5,11 +5,10 @@ use image::Layout;
 use image_entries::Fault;
 ghost use mathlib.Core.Path.{_≡_};
 ghost use mathlib.Core.List.{[], _∷_, List};
-ghost use lib.Dec.{eqb};
-ghost use Prim.Native.Nat.{ℕ, _+_, _-_, _≤_};
-ghost use Rattle.model.specs.Lists.{range, all};
-ghost use Rattle.model.specs.Image.{U, CX, Gate, Barrier, Measure, Reset, word, statement, statementAt, scopeStatements};
-ghost use Rattle.model.specs.Check.{firstBad, expressionOk, unused, downward, conditionalFlaw, plainFlaw, flaw, registers, gateEntries, statementEntries, check, firstOf, inConditional, orElse};
+ghost use Prim.Native.Nat.{ℕ, _≤_};
+ghost use Rattle.model.specs.Lists.{all};
+ghost use Rattle.model.specs.Image.{U, CX, Gate, Barrier, Measure, Reset, statement, statementAt, scopeStatements};
+ghost use Rattle.model.specs.Check.{firstBad, expressionOk, downward, conditionalFlaw, plainFlaw, flaw, registers, gateEntries, statementEntries, check, firstOf, inConditional, orElse};
 ghost use Rattle.image.specs.Answer.{verdictOf};
 ghost use Rattle.image.specs.Layout.{Laid, Gated};
 ghost use Rattle.image_entries.specs.Faults.{verdictOfFault};
@@ -17,29 +16,6 @@ ghost use Rattle.image_entries.specs.Judging.{Judged};
 ghost use Rattle.image_check.specs.Statements.{Ready, callFits};
 
 // ---- statements
-
-// Whether the words of a statement after its first n are 0.
-fn unused_words(image: &[u64], at: u64, n: u64) -> bool
-    requires { ⌜ (at ≤ 65536) × (n ≤ 5) ⌝ }
-    ensures { λ r. ⌜ r ≡ all (λ i. eqb (word (now (image .entry)) (at + i)) 0) (range n (5 - n)) ⌝ }
-{
-    let mut i = n;
-    while i < 5 {
-        if image::word(image, at + i) != 0 {
-            return false;
-        }
-        i += 1;
-    }
-    true
-}
-
-// Whether the words of statement s after its first n are 0.
-fn unused_after(image: &[u64], l: Layout, s: u64, n: u64) -> bool
-    requires { ⌜ Laid (now image) l × (s ≤ 8192) × (n ≤ 5) ⌝ }
-    ensures { λ r. ⌜ r ≡ unused (now (image .entry)) s n ⌝ }
-{
-    unused_words(image, image::statement_at(image, l, s), n)
-}
 
 // Whether a call of gate g from a scope is downward.
 fn calls_down(scope: u64, g: u64) -> bool
@@ -118,7 +94,7 @@ fn cx_flaw(image: &[u64], l: Layout, scope: u64, s: u64, a: u64, b: u64) -> u64
     requires { ⌜ Laid (now image) l × (scope ≤ l .gates) × (s ≤ 8192) ⌝ }
     ensures { λ r. ⌜ r ≡ plainFlaw (now (image .entry)) (λ r v t. 4) scope s (CX a b) ⌝ }
 {
-    if !unused_after(image, l, s, 3) {
+    if !image_entries::unused_after(image, l, s, 3) {
         return 4;
     }
     let m = l.arguments;
@@ -144,7 +120,7 @@ fn call_fits(image: &[u64], l: Layout, s: u64, g: u64, p: u64, a: u64) -> bool
     requires { ⌜ Laid (now image) l × (s ≤ 8192) ⌝ }
     ensures { λ r. ⌜ r ≡ callFits (now (image .entry)) s g p a ⌝ }
 {
-    if !unused_after(image, l, s, 4) {
+    if !image_entries::unused_after(image, l, s, 4) {
         return false;
     }
     if l.gates <= g {
@@ -213,7 +189,7 @@ fn barrier_flaw(image: &[u64], l: Layout, scope: u64, s: u64, a: u64, n: u64) ->
     requires { ⌜ Laid (now image) l × (scope ≤ l .gates) × (s ≤ 8192) ⌝ }
     ensures { λ r. ⌜ r ≡ plainFlaw (now (image .entry)) (λ r v t. 4) scope s (Barrier a n) ⌝ }
 {
-    if !unused_after(image, l, s, 3) {
+    if !image_entries::unused_after(image, l, s, 3) {
         return 4;
     }
     if !image_entries::fits(a, n, l.arguments) {
@@ -234,7 +210,7 @@ fn measure_flaw(image: &[u64], l: Layout, scope: u64, s: u64, q: u64, c: u64) ->
     if scope != 0 {
         return 4;
     }
-    if !unused_after(image, l, s, 3) {
+    if !image_entries::unused_after(image, l, s, 3) {
         return 4;
     }
     let m = l.arguments;
@@ -263,7 +239,7 @@ fn reset_flaw(image: &[u64], l: Layout, scope: u64, s: u64, q: u64) -> u64
     if scope != 0 {
         return 4;
     }
-    if !unused_after(image, l, s, 2) {
+    if !image_entries::unused_after(image, l, s, 2) {
         return 4;
     }
     if l.arguments <= q {
@@ -327,7 +303,7 @@ fn conditional_flaw(
     if scope != 0 {
         return 4;
     }
-    if !unused_after(image, l, s, 4) {
+    if !image_entries::unused_after(image, l, s, 4) {
         return 4;
     }
     if l.classical <= r {

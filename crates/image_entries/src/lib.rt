@@ -5,10 +5,10 @@ ghost use mathlib.Core.Bool.{false, cond, _&&_, _||_};
 ghost use mathlib.Core.List.{[], _∷_, map};
 ghost use lib.Dec.{ltb, leb, eqb};
 ghost use lib.ListN.{length, getD};
-ghost use Prim.Native.Nat.{_+_, _<_, _≤_, suc};
+ghost use Prim.Native.Nat.{_+_, _-_, _<_, _≤_, suc};
 ghost use Rattle.model.specs.Lists.{range, every, all};
 ghost use Rattle.model.specs.Image.{word, parameter, variables, argumentSize};
-ghost use Rattle.model.specs.Check.{firstBad, gateOk, expressionOk, argumentOk, classicalArgumentOk, matching, gateEntries};
+ghost use Rattle.model.specs.Check.{firstBad, gateOk, expressionOk, argumentOk, classicalArgumentOk, unused, matching, gateEntries};
 ghost use Rattle.image.specs.Layout.{Laid};
 ghost use Rattle.image_entries.specs.Faults.{verdictOfFault, registerFlaw};
 ghost use Rattle.image_entries.specs.Judging.{accepts, Judged, leafFits, wordsOk, Tells};
@@ -374,4 +374,29 @@ pub fn two_match(x: u64, y: u64) -> bool
         return 1 <= x;
     }
     false
+}
+
+// ---- unused words
+
+// Whether the words of a statement after its first n are 0.
+fn unused_words(image: &[u64], at: u64, n: u64) -> bool
+    requires { ⌜ (at ≤ 65536) × (n ≤ 5) ⌝ }
+    ensures { λ r. ⌜ r ≡ all (λ i. eqb (word (now (image .entry)) (at + i)) 0) (range n (5 - n)) ⌝ }
+{
+    let mut i = n;
+    while i < 5 {
+        if image::word(image, at + i) != 0 {
+            return false;
+        }
+        i += 1;
+    }
+    true
+}
+
+// Whether the words of statement s after its first n are 0.
+pub fn unused_after(image: &[u64], l: Layout, s: u64, n: u64) -> bool
+    requires { ⌜ Laid (now image) l × (s ≤ 8192) × (n ≤ 5) ⌝ }
+    ensures { λ r. ⌜ r ≡ unused (now (image .entry)) s n ⌝ }
+{
+    unused_words(image, image::statement_at(image, l, s), n)
 }

@@ -6,9 +6,9 @@ use native.Mathlib.Omega.{arith}
 use borrow.Author.Needs.{needs}
 use borrow.Author.Tests.{eq-eqb, ne-eqb}
 use Rattle.model.specs.Lists.{range, all}
-use Rattle.image_check.proofs.UnusedLaws.{zeroAt, words-start, words-next, words-fail, words-done}
-use Rattle.image_check.proofs.unused_words.Statement.{statement}
-use Rattle.image_check.proofs.unused_words.Tie as tie
+use Rattle.image_entries.proofs.RunLaws.{zeroAt, words-start, words-next, words-fail, words-done}
+use Rattle.image_entries.proofs.unused_words.Statement.{statement}
+use Rattle.image_entries.proofs.unused_words.Tie as tie
 
 abbrev Inv-loop : tie.InvT-loop
 Inv-loop image at n i₀ i = (n ≤ i) × (i ≤ 5) × (all (zeroAt image at) (range n (i - n)) ≡ true)

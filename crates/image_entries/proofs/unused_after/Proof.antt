@@ -3,10 +3,10 @@ use mathlib.Core.Path.{ap, _∙_}
 use denote.Ref.{now}
 use Rattle.model.specs.Lists.{range, all}
 use Rattle.model.specs.Check.{unused}
-use Rattle.image_check.proofs.UnusedLaws.{zeroAt}
+use Rattle.image_entries.proofs.RunLaws.{zeroAt}
 use borrow.Author.Needs.{needs}
-use Rattle.image_check.proofs.unused_after.Statement.{statement}
-use Rattle.image_check.proofs.unused_after.Tie as tie
+use Rattle.image_entries.proofs.unused_after.Statement.{statement}
+use Rattle.image_entries.proofs.unused_after.Tie as tie
 
 statement-at-requires : tie.Need-statement-at-requires
 statement-at-requires c κs = search needs
