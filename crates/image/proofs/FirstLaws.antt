@@ -1,13 +1,14 @@
 -- The table of first qubits or bits, one register after another.
 use Prim.Native.Nat.{ℕ, _+_, _≤_, _<_, zero-le}
 use native.Mathlib.Omega.{arith}
-use mathlib.Core.Path.{_≡_, ap}
+use mathlib.Core.Path.{_≡_, ap, _∙_}
 use mathlib.Core.Logic.{_⊎_, inl, inr}
 use mathlib.Core.List.{List, map}
 use lib.ListN.{length, getD, set, length-set}
 use native.Mathlib.Nat.{eq-or-lt-of-le, zero-add}
 use lib.Seq.{getD-set-same, getD-set-other}
 use Rattle.model.specs.Lists.{range, sum}
+use Rattle.model.proofs.Ranges.{sum-next}
 use Rattle.model.proofs.StepsSound.{sum-below}
 use Rattle.image.specs.Firsts.{Firsts}
 
@@ -25,3 +26,7 @@ module _ (size : ℕ → ℕ) where
   -- one more register passes no total that all of them keep
   pub total-within : (i n total : ℕ) → i < n → total ≡ sum (map size (range 0 i)) → sum (map size (range 0 n)) ≤ 4096 → total + size i ≤ 4096
   total-within i n total h t m = omega (arith, sum-below size 0 n i h, ap size (zero-add i))
+
+  -- the total with one register more
+  pub total-next : (i total : ℕ) → total ≡ sum (map size (range 0 i)) → sum (map size (range 0 (i + 1))) ≡ total + size i
+  total-next i total e = sum-next size 0 i ∙ omega (arith, ap size (zero-add i))

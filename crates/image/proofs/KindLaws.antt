@@ -1,18 +1,9 @@
--- What a statement is by its kind, and what is wrong with it then.
-use Prim.Native.Nat.{ℕ, zero, suc, _+_, _≤_, _<_}
-use native.Mathlib.Omega.{arith}
+-- What a statement is by its kind, and an expression entry by its words.
+use Prim.Native.Nat.{ℕ, _+_}
 use mathlib.Core.Path.{_≡_, refl, sym, subst, _∙_}
-use mathlib.Core.Bool.{Bool, true, false, not, _&&_}
 use mathlib.Core.List.{List}
-use lib.Dec.{ltb, eqb}
-use borrow.Author.Tests.{lt-ltb, le-ltb, ne-eqb}
-use Rattle.model.specs.Image.{Statement, U, CX, Gate, Barrier, Measure, Reset, Conditional, statementOf, word, statementAt, statement}
-use Rattle.model.specs.Check.{plainFlaw, inConditional, conditionalOk, conditionalFlaw, flaw}
+use Rattle.model.specs.Image.{U, CX, Gate, Barrier, Measure, Reset, Conditional, statementOf, word, statementAt, statement, expressionOf, expression, expressionAt}
 use Rattle.model.proofs.Facts.{PlainFacts, Facts, no-if}
-
--- what is wrong with an if where none may stand
-abbrev pub noIf : ℕ → ℕ → ℕ → ℕ
-noIf r v t = 4
 
 module _ (k a b c d : ℕ) where
   pub u-is : k ≡ 1 → statementOf k a b c d ≡ U a b c d
@@ -65,78 +56,7 @@ module _ (image : List ℕ) where
         subst (PlainFacts image scope) (sym stands)
         (no-if image scope kind (word image (at + 1)) (word image (at + 2)) (word image (at + 3)) (word image (at + 4)) h (subst (Facts image scope) stands f))
 
-  -- no if is looked into
-  pub plain-is : (scope s : ℕ) {r : ℕ} {x y : Statement} → statement image s ≡ x → x ≡ y → r ≡ plainFlaw image noIf scope s y → r ≡ plainFlaw image noIf scope s (statement image s)
-  plain-is scope s e f h = rw (e, f) h
-
-  pub plain-other : (scope s k a b c d : ℕ) → ¬ (k ≡ 1) → ¬ (k ≡ 2) → ¬ (k ≡ 3) → ¬ (k ≡ 4) → ¬ (k ≡ 5) → ¬ (k ≡ 6) → 4 ≡ plainFlaw image noIf scope s (statementOf k a b c d)
-  unfolding plainFlaw statementOf
-  plain-other scope s zero a b c d n1 n2 n3 n4 n5 n6 = refl
-  plain-other scope s (suc zero) a b c d n1 n2 n3 n4 n5 n6 = absurd (n1 refl)
-  plain-other scope s (suc (suc zero)) a b c d n1 n2 n3 n4 n5 n6 = absurd (n2 refl)
-  plain-other scope s (suc (suc (suc zero))) a b c d n1 n2 n3 n4 n5 n6 = absurd (n3 refl)
-  plain-other scope s (suc (suc (suc (suc zero)))) a b c d n1 n2 n3 n4 n5 n6 = absurd (n4 refl)
-  plain-other scope s (suc (suc (suc (suc (suc zero))))) a b c d n1 n2 n3 n4 n5 n6 = absurd (n5 refl)
-  plain-other scope s (suc (suc (suc (suc (suc (suc zero)))))) a b c d n1 n2 n3 n4 n5 n6 = absurd (n6 refl)
-  plain-other scope s (suc (suc (suc (suc (suc (suc (suc zero))))))) a b c d n1 n2 n3 n4 n5 n6 = refl
-  plain-other scope s (suc (suc (suc (suc (suc (suc (suc (suc k)))))))) a b c d n1 n2 n3 n4 n5 n6 = refl
-
-  -- what is handed in for an if says nothing of another statement
-  any-if : (f : ℕ → ℕ → ℕ → ℕ) (scope s k a b c d : ℕ) → ¬ (k ≡ 7) → plainFlaw image noIf scope s (statementOf k a b c d) ≡ plainFlaw image f scope s (statementOf k a b c d)
-  unfolding plainFlaw statementOf
-  any-if f scope s zero a b c d n = refl
-  any-if f scope s (suc zero) a b c d n = refl
-  any-if f scope s (suc (suc zero)) a b c d n = refl
-  any-if f scope s (suc (suc (suc zero))) a b c d n = refl
-  any-if f scope s (suc (suc (suc (suc zero)))) a b c d n = refl
-  any-if f scope s (suc (suc (suc (suc (suc zero))))) a b c d n = refl
-  any-if f scope s (suc (suc (suc (suc (suc (suc zero)))))) a b c d n = refl
-  any-if f scope s (suc (suc (suc (suc (suc (suc (suc zero))))))) a b c d n = absurd (n refl)
-  any-if f scope s (suc (suc (suc (suc (suc (suc (suc (suc k)))))))) a b c d n = refl
-
-  pub flaw-if : (scope s k a b c d : ℕ) {n : ℕ} → statement image s ≡ statementOf k a b c d → k ≡ 7 → n ≡ conditionalFlaw image scope s a b c → n ≡ flaw image scope s
-  unfolding flaw plainFlaw
-  flaw-if scope s k a b c d e z h = rw (e, if-is k a b c d z) h
-
-  pub flaw-plain : (scope s k a b c d : ℕ) {n : ℕ} → statement image s ≡ statementOf k a b c d → ¬ (k ≡ 7) → n ≡ plainFlaw image noIf scope s (statement image s) → n ≡ flaw image scope s
-  unfolding flaw
-  flaw-plain scope s k a b c d e z h = rw e ((rw e at h) ∙ any-if (conditionalFlaw image scope s) scope s k a b c d z)
-
-  -- what an if may hold
-  pub held-told : (t : ℕ) {r : Bool} {x : Statement} → statement image t ≡ x → r ≡ inConditional image x → r ≡ inConditional image (statement image t)
-  held-told t e h = rw e h
-
-  kinds : (k a b c d : ℕ) → inConditional image (statementOf k a b c d) ≡ (ltb 0 k && (ltb k 7 && not (eqb k 4)))
-  unfolding inConditional statementOf
-  kinds zero a b c d = refl
-  kinds (suc zero) a b c d = refl
-  kinds (suc (suc zero)) a b c d = refl
-  kinds (suc (suc (suc zero))) a b c d = refl
-  kinds (suc (suc (suc (suc zero)))) a b c d = refl
-  kinds (suc (suc (suc (suc (suc zero))))) a b c d = refl
-  kinds (suc (suc (suc (suc (suc (suc zero)))))) a b c d = refl
-  kinds (suc (suc (suc (suc (suc (suc (suc zero))))))) a b c d = refl
-  kinds (suc (suc (suc (suc (suc (suc (suc (suc k)))))))) a b c d =
-      let n = suc (suc (suc (suc (suc (suc (suc (suc k))))))) in
-      sym (rw (lt-ltb 0 n (omega arith), le-ltb n 7 (omega arith)) refl)
-
-  pub held-yes : (k a b c d : ℕ) → 1 ≤ k → k < 7 → ¬ (k ≡ 4) → true ≡ inConditional image (statementOf k a b c d)
-  held-yes k a b c d h j n = sym (kinds k a b c d ∙ rw (lt-ltb 0 k h, lt-ltb k 7 j, ne-eqb k 4 n) refl)
-
-  pub held-none : (k a b c d : ℕ) → k < 1 → false ≡ inConditional image (statementOf k a b c d)
-  held-none k a b c d h = sym (kinds k a b c d ∙ rw (le-ltb 0 k (omega arith)) refl)
-
-  pub held-barrier : (k a b c d : ℕ) → k ≡ 4 → false ≡ inConditional image (statementOf k a b c d)
-  held-barrier k a b c d e = sym (kinds k a b c d ∙ rw e refl)
-
-  pub held-not : (k a b c d : ℕ) → 7 ≤ k → false ≡ inConditional image (statementOf k a b c d)
-  held-not k a b c d h = sym (kinds k a b c d ∙ rw (lt-ltb 0 k (omega arith), le-ltb k 7 h) refl)
-
-  -- an if by its own test
-  pub if-wrong : (scope s r v t : ℕ) → conditionalOk image scope s r t ≡ false → 4 ≡ conditionalFlaw image scope s r v t
-  unfolding conditionalFlaw
-  if-wrong scope s r v t e = rw e refl
-
-  pub if-right : (scope s r v t : ℕ) {n : ℕ} → conditionalOk image scope s r t ≡ true → n ≡ plainFlaw image noIf scope t (statement image t) → n ≡ conditionalFlaw image scope s r v t
-  unfolding conditionalFlaw
-  if-right scope s r v t e h = rw e h
+-- an entry by its three words
+pub entry-is : (image : List ℕ) (e at kind a b : ℕ) → at ≡ expressionAt image e → kind ≡ word image at → a ≡ word image (at + 1) → b ≡ word image (at + 2) → expression image e ≡ expressionOf kind a b
+unfolding expression
+entry-is image e at kind a b at-is kind-is a-is b-is = rw (kind-is, a-is, b-is, at-is) refl

@@ -1,14 +1,5 @@
-pub mod AnswerLaws
-pub mod CallLaws
-pub mod CheckParts
 pub mod ContentsLaws
-pub mod ExpressionLaws
 pub mod FirstLaws
 pub mod KindLaws
-pub mod NumberLaws
-pub mod OrderLaws
-pub mod RegisterLaws
-pub mod RunLaws
-pub mod ScopeLaws
 pub mod SizeLaws
-pub mod TestLaws
+pub mod SpanLaws

@@ -1,11 +1,8 @@
 -- What the answers of the check say in document 01's numbers and places.
 use Prim.Native.Nat.{ℕ}
-use mathlib.Core.Bool.{cond}
-use lib.Dec.{eqb}
 use Rattle.model.specs.Check.{Verdict, fine, bad}
 use Rattle.image.specs.declared.CheckAnswer.{CheckAnswer}
 use Rattle.image.specs.declared.CheckAnswer.the-variants as answer
-use Rattle.image.specs.declared.Fault.{Fault}
 
 -- the number and the place of each answer
 abbrev pub verdictOf : CheckAnswer → Verdict
@@ -18,10 +15,6 @@ verdictOf (answer.Argument p) = bad 5 p
 verdictOf (answer.Expression p) = bad 6 p
 verdictOf (answer.Sizes p) = bad 7 p
 verdictOf (answer.Upward p) = bad 8 p
-
--- a fault that a part of the check found: number 0 is none
-abbrev pub verdictOfFault : Fault → Verdict
-verdictOfFault f = cond (eqb (f .number) 0) fine (bad (f .number) (f .place))
 
 -- a verdict's number and place, 0 where nothing is wrong
 abbrev pub numberIn : Verdict → ℕ

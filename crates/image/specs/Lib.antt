@@ -1,4 +1,3 @@
 pub mod Answer
 pub mod Firsts
-pub mod Judging
 pub mod Layout

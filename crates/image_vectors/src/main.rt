@@ -9,7 +9,7 @@ fn say_counts(images: u64, agree: u64) {
 
 // Whether the check answers this number and place.
 fn agrees(image: &[u64], answer: &[u64; 2]) -> bool {
-    let checked = image::check(image);
+    let checked = image_check::check(image);
     if image::number_of(checked) == answer[0] {
         return image::place_of(checked) == answer[1];
     }

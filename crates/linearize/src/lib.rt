@@ -376,7 +376,7 @@ pub fn run(image: &[u64], depth: u64, out: &mut [u64], trace: &mut [u64]) -> Lin
     if trace.len() < 256 {
         return refused(LinearizeErrorKind::ShortTrace);
     }
-    let verdict = image::check(image);
+    let verdict = image_check::check(image);
     match verdict {
         CheckAnswer::Accepted => run_accepted(image, depth, out, trace),
         _ => refused(LinearizeErrorKind::Rejected(verdict)),

@@ -419,7 +419,7 @@ fn accepted_tally(image: &[u64], depth: u64) -> Tallied
 pub fn tally(image: &[u64], depth: u64) -> Tallied
     ensures { λ r. ⌜ answerOf r ≡ tally (now (image .entry)) depth ⌝ }
 {
-    let verdict = image::check(image);
+    let verdict = image_check::check(image);
     match verdict {
         CheckAnswer::Accepted => accepted_tally(image, depth),
         _ => Tallied::Refused(verdict),

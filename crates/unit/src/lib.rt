@@ -21,7 +21,7 @@ ghost use Rattle.unit.specs.Exports.{checkWords, tallyWords, nextWords, 
 pub fn check(image: &[u64]) -> CheckAnswer
     ensures { λ r. ⌜ verdictOf r ≡ check (now (image .entry)) ⌝ }
 {
-    image::check(image)
+    image_check::check(image)
 }
 
 // What a run at a depth will write: records of each kind, body entries, words at most.

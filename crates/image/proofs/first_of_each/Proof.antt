@@ -9,7 +9,7 @@ use Rattle.model.specs.Lists.{range, sum}
 use Rattle.model.specs.Image.{word}
 use Rattle.image.specs.Firsts.{Firsts}
 use Rattle.image.proofs.FirstLaws.{firsts-none, firsts-next, total-within}
-use Rattle.image.proofs.RegisterLaws.{total-next}
+use Rattle.image.proofs.FirstLaws.{total-next}
 use Rattle.image.proofs.first_of_each.Statement.{statement}
 use Rattle.image.proofs.first_of_each.Tie as tie
 

@@ -1,0 +1,53 @@
+use denote.Ref.{now}
+use Rattle.image_entries.proofs.ArgumentLaws.{classical-is, classical-none}
+use borrow.Author.Needs.{needs}
+use Rattle.image_entries.proofs.classical_argument_ok.Statement.{statement}
+use Rattle.image_entries.proofs.classical_argument_ok.Tie as tie
+
+argument-at-requires : tie.Need-argument-at-requires
+argument-at-requires c κs = search needs
+
+word-requires : tie.Need-word-requires
+word-requires c κs = search needs
+
+add-word : tie.Need-add-word
+add-word c = search needs
+
+word-requires-2 : tie.Need-word-requires-2
+word-requires-2 c κs = search needs
+
+add-word-2 : tie.Need-add-word-2
+add-word-2 c = search needs
+
+add-word-3 : tie.Need-add-word-3
+add-word-3 c = search needs
+
+word-requires-3 : tie.Need-word-requires-3
+word-requires-3 c κs = search needs
+
+returns : tie.Need-returns
+returns c =
+    let m = c .before .before .before .before .before in
+    let p = m .before .before .before in
+    classical-is (now (p .args .image)) _ _ _ (m .before .argument-at .ensures) (m .word .ensures)
+    _ _ _ _ (p .pre .0 .classical-is) (c .before .before .before .if1 .taken) (c .before .before .word2 .ensures) (p .pre .0 .quantum-is) (c .word3 .ensures)
+
+returns-2 : tie.Need-returns-2
+returns-2 c =
+    let m = c .before .before in
+    let p = m .before .before .before in
+    classical-none (now (p .args .image)) _ _ _ (m .before .argument-at .ensures) (m .word .ensures) _ (p .pre .0 .classical-is) (c .if1 .left)
+
+pub classical-argument-ok-spec : {M : Type 1} → statement M
+classical-argument-ok-spec =
+    tie.close
+    (tie.spec
+    argument-at-requires
+    word-requires
+    add-word
+    word-requires-2
+    add-word-2
+    add-word-3
+    word-requires-3
+    returns
+    returns-2)
