@@ -19,7 +19,7 @@ use Rattle.model.proofs.StepsSound.{Declared, all-below}
 use Rattle.model.proofs.TraceLaws.{under, opening-under}
 use Rattle.image.specs.declared.Layout.{Layout}
 use Rattle.gate.specs.declared.Call.{Call}
-use Rattle.statement.specs.Frames.{standing, formalsOf, Stands, QubitsAre}
+use Rattle.argument.specs.Frames.{standing, formalsOf, Stands, QubitsAre}
 use Rattle.gate.specs.Running.{plainSteps, Calls, callSteps}
 
 -- ---- a round of a call

@@ -19,7 +19,7 @@ use Rattle.expression.specs.Table.{anglesIn, Fixed}
 use Rattle.gate.specs.declared.Call.{Call}
 use Rattle.writer.specs.declared.Linearized.{Linearized}
 use Rattle.writer.specs.Promise.{Open, Wrote, SoundAngles}
-use Rattle.statement.specs.Frames.{standing, QubitsAre}
+use Rattle.argument.specs.Frames.{standing, QubitsAre}
 use Rattle.gate.specs.Running.{Ready, Ran, plainSteps, Calls, callSteps}
 use Rattle.writer.specs.declared.Linearized.the-variants as linearized
 use Rattle.statement.proofs.LoopLaws.{Looped, wrote-open}

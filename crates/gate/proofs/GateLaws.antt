@@ -16,9 +16,10 @@ use Rattle.model.proofs.Facts.{PlainFacts}
 use Rattle.image.specs.declared.Layout.{Layout}
 use Rattle.image.proofs.KindLaws.{gate-is, words-are}
 use Rattle.gate.specs.declared.Call.{Call}
-use Rattle.statement.specs.Frames.{standing, namedAt, Listed, Stands}
+use Rattle.argument.specs.Frames.{standing, Stands}
+use Rattle.unitary.specs.Named.{namedAt, Listed}
 use Rattle.gate.specs.Running.{nested, plainSteps, callOf, Calls, callSteps}
-use Rattle.statement.proofs.GivenLaws.{listed-values}
+use Rattle.unitary.proofs.GivenLaws.{listed-values}
 use Rattle.gate.proofs.StatementLaws.{few-variables}
 
 -- the words of consecutive parameters

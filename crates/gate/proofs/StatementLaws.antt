@@ -26,7 +26,8 @@ use Rattle.writer.specs.declared.Position.{Position}
 use Rattle.writer.specs.declared.Linearized.{Linearized}
 use Rattle.gate.specs.declared.Call.{Call}
 use Rattle.writer.specs.Promise.{SoundAngles, Wrote}
-use Rattle.statement.specs.Frames.{standing, Stands, namedAt, Listed}
+use Rattle.argument.specs.Frames.{standing, Stands}
+use Rattle.unitary.specs.Named.{namedAt, Listed}
 use Rattle.gate.specs.Running.{plainSteps, callOf}
 
 -- ---- kinds

@@ -20,7 +20,7 @@ use Rattle.writer.specs.declared.Linearized.{Linearized}
 use Rattle.gate.specs.declared.Call.{Call}
 use Rattle.writer.specs.Promise.{placeAt, positionOf, answerOf, Open, SoundAngles}
 use Rattle.expression.specs.Table.{anglesIn, Fixed}
-use Rattle.statement.specs.Frames.{Stands, Called}
+use Rattle.argument.specs.Frames.{Stands, Called}
 
 -- the calls that may nest in a scope: each goes to a gate of smaller number
 abbrev pub nested : ℕ → ℕ

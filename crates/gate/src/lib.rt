@@ -1,6 +1,5 @@
 // Opens gate calls: a statement runs a gate's body, and the body its statements, in turn.
 use image::Layout;
-use statement::Frame;
 use writer::Linearized;
 use writer::Position;
 ghost use mathlib.Core.Path.{_≡_};
@@ -15,8 +14,14 @@ ghost use Rattle.model.proofs.Facts.{PlainFacts};
 ghost use Rattle.image.specs.Layout.{Laid};
 ghost use Rattle.writer.specs.Promise.{SoundAngles, Open, Wrote};
 ghost use Rattle.expression.specs.Table.{anglesIn, Fixed};
-ghost use Rattle.statement.specs.Frames.{standing, Stands};
+ghost use Rattle.argument.specs.Frames.{standing, Stands};
 ghost use Rattle.gate.specs.Running.{Ready, Ran, plainSteps, callOf, Calls, callSteps};
+
+// The sixteen angles and sixteen qubits that a gate's body has at most, an angle in six words.
+pub struct Frame {
+    pub angles: [u64; 96],
+    pub qubits: [u64; 16],
+}
 
 // A call's pair of trace words: the caller's scope and the place of the call.
 fn mark_call(trace: &mut [u64], at: u64, scope: u64, place: u64)
@@ -68,7 +73,7 @@ fn visit_leaf(
     let a = image::word(image, place + 1);
     let b = image::word(image, place + 2);
     match kind {
-        1 => statement::visit_u(
+        1 => unitary::visit_u(
             image,
             l,
             qubits,
@@ -274,7 +279,7 @@ fn visit_rounds(
     let mut now = at;
     let mut i = 0u64;
     while i < n {
-        let q = statement::qubits_in(
+        let q = argument::qubits_in(
             image,
             l,
             qubits,

@@ -22,14 +22,14 @@ use Rattle.writer.specs.declared.Linearized.{Linearized}
 use Rattle.writer.specs.declared.Linearized.the-variants as linearized
 use Rattle.statement.proofs.LoopLaws.{wrote-open}
 use Rattle.image.proofs.KindLaws.{if-at, plain-facts-at}
-use Rattle.statement.specs.Frames.{standing, formalsOf, Stands}
+use Rattle.argument.specs.Frames.{standing, formalsOf, Stands}
 use Rattle.expression.specs.Table.{Fixed}
 use Rattle.expression.proofs.AngleLaws.{zeros-sound}
 use Rattle.writer.specs.declared.Position.{Position}
 use Rattle.writer.specs.Promise.{Open, Wrote}
 use Rattle.gate.specs.Running.{Ready, plainSteps}
 use Rattle.linearize.specs.Tabled.{Tabled}
-use Rattle.statement.proofs.ArgumentLaws.{few-classical, count-sum}
+use Rattle.argument.proofs.ArgumentLaws.{few-classical, count-sum}
 
 -- ---- a main statement by its kind
 

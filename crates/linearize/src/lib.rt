@@ -19,7 +19,7 @@ ghost use Rattle.model.proofs.Facts.{PlainFacts, Facts};
 ghost use Rattle.image.specs.Layout.{Laid};
 ghost use Rattle.writer.specs.Promise.{Open};
 ghost use Rattle.expression.specs.Table.{anglesIn, Fixed};
-ghost use Rattle.statement.specs.Frames.{standing};
+ghost use Rattle.argument.specs.Frames.{standing};
 ghost use Rattle.gate.specs.Running.{Ready, Ran, plainSteps};
 ghost use Rattle.linearize.specs.Tabled.{Tabled};
 ghost use Rattle.linearize.specs.Linearizes.{refusedWith, Linearizes};

@@ -1,7 +1,5 @@
 pub mod LoopLaws
-pub mod ArgumentLaws
 pub mod RoundLaws
-pub mod GivenLaws
 pub mod OverlapLaws
-pub mod CallLaws
+pub mod OpaqueLaws
 pub mod MarkLaws

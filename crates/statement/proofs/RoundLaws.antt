@@ -6,17 +6,20 @@ use mathlib.Core.List.{List, [], _∷_}
 use lib.ListN.{length}
 use Rattle.value.specs.declared.Value.{Value}
 use Rattle.model.specs.Records.{Record, encode, kind as kindOf, fields}
-use Rattle.model.specs.Steps.{Step, write, Frame, qubitIn, bitIn, writeReset, writeMeasure, writeCX, writeU}
+use Rattle.model.specs.Steps.{Step, write, refuse, Refusal, Frame, qubitIn, bitIn, writeReset, writeMeasure, writeCX}
 use Rattle.model.specs.Image.{argumentAt}
-use Rattle.model.specs.Run.{play}
+use Rattle.model.specs.Run.{Answer, refused, play}
+use Rattle.model.specs.Playing.{Plays}
 use Rattle.model.proofs.PlayLaws.{plays-stop}
 use Rattle.writer.specs.declared.Position.{Position}
 use Rattle.writer.specs.declared.LinearizeErrorKind.the-variants as kind
+use Rattle.writer.specs.declared.LinearizeError.{LinearizeError}
 use Rattle.writer.specs.declared.Linearized.{Linearized}
 use Rattle.writer.specs.declared.Linearized.the-variants as linearized
-use Rattle.writer.specs.Promise.{fullAt, Open, Wrote}
+use Rattle.writer.specs.Promise.{fullAt, Open, Wrote, answerTo, placeAt}
 use Rattle.writer.proofs.WriteLaws.{full-up}
-use Rattle.statement.specs.Frames.{standing, apartCX, overlapAtCX}
+use Rattle.argument.specs.Frames.{standing}
+use Rattle.statement.specs.Statements.{apartCX, overlapAtCX}
 
 module _ (image : List ℕ) (scope : ℕ) (angles : List Value) (formals : List ℕ) where
   abbrev frame : Frame
@@ -33,10 +36,6 @@ module _ (image : List ℕ) (scope : ℕ) (angles : List Value) (formals : List 
   pub cx-round : (a b i : ℕ) {p q : ℕ} → p ≡ qubitIn image frame i a → q ≡ qubitIn image frame i b → apartCX image a b p q ≡ writeCX image frame a b i
   unfolding writeCX apartCX
   cx-round a b i e f = ap₂ (apartCX image a b) e f
-
-  pub u-round : (theta phi lambda : Value) (a i : ℕ) {q : ℕ} → q ≡ qubitIn image frame i a → _≡_ {A = List Step} (write [] (Record.U theta phi lambda q) ∷ []) (writeU image frame a (theta ∷ phi ∷ lambda ∷ []) i)
-  unfolding writeU
-  u-round theta phi lambda a i e = ap (λ (q : ℕ). write [] (Record.U theta phi lambda q) ∷ []) e
 
 -- an answer by what is promised of it
 pub wrote-told : {ss : List Step} {out out′ : List ℕ} {at : Position} {r s : Linearized} → r ≡ s → Wrote ss out at s out′ → Wrote ss out at r out′
@@ -58,3 +57,13 @@ module _ (image : List ℕ) (a b : ℕ) {out : List ℕ} {p q : ℕ} {at : Posit
   pub cx-full : {p′ q′ : ℕ} → p′ ≡ p → q′ ≡ q → ¬ (p′ ≡ q′) → Open out at → length out < at .words + 3 → Wrote (apartCX image a b p q) out at (fullAt at) out
   unfolding encode kindOf fields
   cx-full {p′} {q′} e f n o h = cx-apart e f n (full-up (Record.CX p′ q′) o h)
+
+-- a refusal that nothing is written before
+pub refuses : (x : Refusal) (e : LinearizeError) {out : List ℕ} {at : Position} → e .at ≡ at → ((t : List ℕ) → answerTo (e .kind) t ≡ refused t x) → Open out at → Wrote (refuse [] x ∷ []) out at (linearized.Refused e) out
+unfolding play
+refuses x e {out} {at} p q o =
+    record {
+      plays = subst (λ (z : Position). Plays (refuse [] x ∷ []) (placeAt out at) (placeAt out z) (answerTo (e .kind) [])) (sym p)
+          (subst (λ (z : Answer). Plays (refuse [] x ∷ []) (placeAt out at) (placeAt out at) z) (sym (q [])) (plays-stop (refuse [] x ∷ []) (o .inside) refl));
+      level = ap (λ (z : Position). z .trace) p;
+    }

@@ -9,11 +9,12 @@ use lib.ListN.{length, take}
 use Rattle.model.specs.Lists.{range}
 use Rattle.model.specs.Image.{word}
 use Rattle.model.specs.Steps.{visitGate, opening}
-use Rattle.statement.specs.Frames.{standing}
+use Rattle.argument.specs.Frames.{standing}
 use Rattle.gate.specs.Running.{nested}
 use Rattle.statement.proofs.LoopLaws.{Looped, looped-start, looped-next, looped-length}
-use Rattle.statement.proofs.GivenLaws.{named, refuses}
-use Rattle.statement.proofs.CallLaws.{call-rounds-few}
+use Rattle.unitary.proofs.GivenLaws.{named}
+use Rattle.statement.proofs.RoundLaws.{refuses}
+use Rattle.argument.proofs.CallLaws.{call-rounds-few}
 use Rattle.gate.proofs.RanLaws.{wrote-ran, ran-next, ran-stop, ran-done, ran-returned, ran-refused, ran-enter, ran-lengths, ran-steps, ran-from, ran-still, wrote-steps}
 use Rattle.gate.proofs.GateLaws.{known-gate, calls, named-listed, gate-given, gate-refused}
 use Rattle.gate.proofs.BodyLaws.{body-round, opaque-rounds, cut-steps, open-steps, bodyStatement, few-arguments}
@@ -22,7 +23,7 @@ use Prim.Native.Nat.{ℕ, _<_}
 use borrow.Fn.Kinds.{In}
 use borrow.Fn.PlainCycle.{Measures, is, falls, and}
 use Rattle.expression.proofs.parameters.Reads as parameters-reads
-use Rattle.statement.proofs.qubits_in.Reads as qubits-in-reads
+use Rattle.argument.proofs.qubits_in.Reads as qubits-in-reads
 use Rattle.statement.proofs.visit_opaque.Reads as visit-opaque-reads
 use Rattle.image.proofs.rounds_of.Reads as rounds-of-reads
 use Rattle.image.proofs.statement_at.Reads as statement-at-reads

@@ -9,7 +9,7 @@ use Rattle.gate.proofs.RanLaws.{ran-next, ran-stop, ran-done, ran-lengths, ran-
 use Rattle.gate.proofs.CycleLaws.{ready-on}
 use Rattle.linearize.proofs.ProgramLaws.{main-ready, main-steps, main-facts}
 use Rattle.model.specs.Steps.{visitStatement, opening}
-use Rattle.statement.specs.Frames.{standing}
+use Rattle.argument.specs.Frames.{standing}
 use Rattle.expression.specs.Table.{anglesIn, Fixed}
 use Rattle.linearize.proofs.visit_program.Statement.{statement}
 use Rattle.linearize.proofs.visit_program.Tie as tie

@@ -1,7 +1,7 @@
 -- Angles of a frame's expressions, and what is done with them.
 use Prim.Native.Nat.{ℕ, zero, suc, _+_, _*_, _<_}
 use native.Mathlib.Omega.{arith}
-use mathlib.Core.Path.{_≡_, refl, sym, ap, ap₂, subst, _∙_}
+use mathlib.Core.Path.{_≡_, refl, sym, ap, ap₂, _∙_}
 use mathlib.Core.List.{List, [], _∷_}
 use lib.Dec.{T, ltb→lt}
 use lib.ListN.{take}
@@ -11,23 +11,24 @@ use Rattle.value.specs.Value.{Sound, andThen}
 use Rattle.model.specs.Image.{Expr, Pi, Real, Int, Var, Binary, Unary, word, expression, expressionAt, variables}
 use Rattle.model.specs.Evaluate.{unary, binary, valueOf, evaluate, zeroValue}
 use Rattle.model.specs.Check.{entryOk, expressionOk}
-use Rattle.model.specs.Steps.{Step, refuse, Refusal, have, lack, also, given, parameterValues, withValues, inRounds, qubitIn, writeU}
-use Rattle.model.specs.Run.{Answer, refused, play}
-use Rattle.model.specs.Playing.{Plays}
+use Rattle.model.specs.Records.{Record}
+use Rattle.model.specs.Steps.{Step, write, Refusal, have, lack, also, given, parameterValues, withValues, inRounds, qubitIn, writeU}
+use Rattle.model.specs.Run.{refused}
 use Rattle.model.proofs.ListLaws.{getD-take}
 use Rattle.model.proofs.All.{All, test, all-All, of-All, range-All, head-All, tail-All}
-use Rattle.model.proofs.PlayLaws.{plays-stop}
 use Rattle.model.proofs.EvaluateLaws.{operand}
 use Rattle.writer.specs.declared.Position.{Position}
 use Rattle.writer.specs.declared.LinearizeError.{LinearizeError}
 use Rattle.writer.specs.declared.Linearized.{Linearized}
 use Rattle.writer.specs.declared.Linearized.the-variants as linearized
-use Rattle.writer.specs.Promise.{Open, Wrote, SoundAngles, answerTo, placeAt}
+use Rattle.writer.specs.Promise.{Open, Wrote, SoundAngles, answerTo}
 use Rattle.expression.specs.Operands.{Named}
 use Rattle.expression.specs.Table.{valueAt, anglesIn}
 use Rattle.expression.proofs.AngleLaws.{angle-at}
 use Rattle.model.specs.Lists.{range}
-use Rattle.statement.specs.Frames.{standing, namedAt, Listed}
+use Rattle.statement.proofs.RoundLaws.{refuses}
+use Rattle.argument.specs.Frames.{standing}
+use Rattle.unitary.specs.Named.{namedAt, Listed}
 
 -- ---- an accepted expression reads the variables that it may, so the angles behind them do not show
 
@@ -71,16 +72,6 @@ module _ (image : List ℕ) (v : ℕ) (angles : List Value) where
 
 -- ---- what is done with the values
 
--- a refusal that nothing is written before
-pub refuses : (x : Refusal) (e : LinearizeError) {out : List ℕ} {at : Position} → e .at ≡ at → ((t : List ℕ) → answerTo (e .kind) t ≡ refused t x) → Open out at → Wrote (refuse [] x ∷ []) out at (linearized.Refused e) out
-unfolding play
-refuses x e {out} {at} p q o =
-    record {
-      plays = subst (λ (z : Position). Plays (refuse [] x ∷ []) (placeAt out at) (placeAt out z) (answerTo (e .kind) [])) (sym p)
-          (subst (λ (z : Answer). Plays (refuse [] x ∷ []) (placeAt out at) (placeAt out at) z) (sym (q [])) (plays-stop (refuse [] x ∷ []) (o .inside) refl));
-      level = ap (λ (z : Position). z .trace) p;
-    }
-
 module _ (image : List ℕ) (scope : ℕ) (angles : List Value) (formals : List ℕ) {place n : ℕ} (l : Listed image (variables image scope) place n) (next : List Value → List Step) where
   abbrev named-steps : List Step
   named-steps = withValues image (standing image scope angles formals) (namedAt image place n) next
@@ -107,3 +98,9 @@ three-angles words e f g = sym (rw (e, f, g) refl)
 
 pub angle-sound : (words : List ℕ) (i : ℕ) {x : Value} → i < 16 → SoundAngles (anglesIn words) → x ≡ valueAt words (6 * i) → Sound x
 angle-sound words i h s e = rw (e ∙ sym (angle-at words i zeroValue h)) (s .each i h)
+
+-- one round of a U, from the qubit that the code found
+pub u-round : (image : List ℕ) (scope : ℕ) (angles : List Value) (formals : List ℕ) (theta phi lambda : Value) (a i : ℕ) {q : ℕ} → q ≡ qubitIn image (standing image scope angles formals) i a
+    → _≡_ {A = List Step} (write [] (Record.U theta phi lambda q) ∷ []) (writeU image (standing image scope angles formals) a (theta ∷ phi ∷ lambda ∷ []) i)
+unfolding writeU
+u-round image scope angles formals theta phi lambda a i e = ap (λ (q : ℕ). write [] (Record.U theta phi lambda q) ∷ []) e

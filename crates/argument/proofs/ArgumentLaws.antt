@@ -18,8 +18,8 @@ use Rattle.model.proofs.StepsSound.{FrameOk, argument, bit-below, matched}
 use Rattle.value.specs.declared.Value.{Value}
 use Rattle.image.specs.declared.Layout.{Layout}
 use Rattle.image.specs.Firsts.{Firsts}
-use Rattle.statement.specs.declared.Argument.{Argument}
-use Rattle.statement.specs.Frames.{formalsOf, standing, Stands, inRound, partOf, Part, quantumArgument, classicalArgument}
+use Rattle.argument.specs.declared.Argument.{Argument}
+use Rattle.argument.specs.Frames.{formalsOf, standing, Stands, inRound, partOf, Part, quantumArgument, classicalArgument}
 
 -- sizes of 1 at least come to their number at least
 pub count-sum : (f : ℕ → ℕ) (a n : ℕ) → ((r : ℕ) → a ≤ r → r < a + n → 1 ≤ f r) → n ≤ sum (map f (range a n))
