@@ -335,7 +335,7 @@ fn run_laid(
     if l.main == 0 {
         return Linearized::Done(at);
     }
-    match writer::write_head(out, at, image, l) {
+    match long_record::write_head(out, at, image, l) {
         Linearized::Done(next) => visit_statements(image, l, levels(depth), out, trace, next),
         Linearized::Refused(e) => Linearized::Refused(e),
     }

@@ -1,4 +1,2 @@
 pub mod WriteLaws
 pub mod AngleLaws
-pub mod MarkLaws
-pub mod HeadLaws

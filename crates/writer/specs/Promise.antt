@@ -1,17 +1,14 @@
 -- What the functions that write records promise, and what their answers say in document 01's words.
-use Prim.Native.Nat.{ℕ, _+_, _*_, _≤_, _<_}
+use Prim.Native.Nat.{ℕ, _+_, _≤_, _<_}
 use mathlib.Core.Path.{_≡_}
-use mathlib.Core.Bool.{Bool, false, cond}
-use mathlib.Core.List.{List, [], _∷_, map, flatMap}
+use mathlib.Core.List.{List, [], _∷_}
 use lib.ListN.{length, getD}
-use lib.Seq.{sets}
 use Rattle.value.specs.declared.Value.{Value}
 use Rattle.value.specs.Value.{Sound}
-use Rattle.model.specs.Lists.{range, sum}
 use Rattle.model.specs.Evaluate.{zeroValue}
 use Rattle.float.specs.Float.{bits as floatBits}
-use Rattle.model.specs.Records.{Record, encode, pair}
-use Rattle.model.specs.Steps.{Step, write, Refusal, offsets}
+use Rattle.model.specs.Records.{Record, encode}
+use Rattle.model.specs.Steps.{Step, write, Refusal}
 use Rattle.model.specs.Run.{Answer, done, refused, full, rejected, shortTrace}
 use Rattle.model.specs.Playing.{Place, Plays}
 use Rattle.image.specs.Answer.{verdictOf, numberIn, placeIn}
@@ -71,19 +68,6 @@ pub record SoundAngles (angles : List Value) : Type 0 where
   pub full : length angles ≡ 16
   pub each : (i : ℕ) → i < 16 → Sound (getD angles i zeroValue)
 
--- the marked numbers below an end, in rising order
-unfoldable pub marked : List Bool → ℕ → List ℕ
-marked marks end = flatMap (λ q. cond (getD marks q false) (q ∷ []) []) (range 0 end)
-
 -- the position behind a record of n words
 abbrev pub after : Position → ℕ → Position
 after at n = record { records = at .records + 1; words = at .words + n; trace = at .trace }
-
--- a register with each offset below its size
-unfoldable pub pairsOf : ℕ → ℕ → List ℕ
-pairsOf r size = flatMap pair (map (λ o. (r, o)) (range 0 size))
-
--- the pairs of n registers of some sizes were put from a place on, to an end
-pub record Paired (sizes : ℕ → ℕ) (n : ℕ) (out : List ℕ) (start end : ℕ) (out′ : List ℕ) : Type 0 where
-  pub contents : out′ ≡ sets out start (flatMap pair (offsets sizes n))
-  pub ends : end ≡ start + 2 * sum (map sizes (range 0 n))
