@@ -1,6 +1,4 @@
 pub mod NumberLaws
 pub mod ImageLaws
-pub mod FrontLaws
-pub mod LastLaws
 pub mod CutLaws
 pub mod Samples

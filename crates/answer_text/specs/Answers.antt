@@ -1,16 +1,13 @@
 -- What the answering programs write, from the bytes of standard input to those of standard output.
-use Prim.Native.Nat.{ℕ, _*_, _/_, _%_, min}
+use Prim.Native.Nat.{ℕ, _/_, _%_}
 use mathlib.Core.Bool.{_&&_, cond}
-use mathlib.Core.List.{List, [], _∷_, _++_, map, flatMap}
+use mathlib.Core.List.{List, map}
 use lib.ListN.{length, getD, drop}
-use lib.Dec.{eqb, ltb, leb}
-use Rattle.model.specs.Lists.{sum}
+use lib.Dec.{eqb, leb}
 use Rattle.model.specs.Check.{bad, check}
 use Rattle.model.specs.Tally.{refused, tally}
-use Rattle.model.specs.Reader.{recordsIn}
-use Rattle.model.specs.Listing.{ascii, decimal, line, wordsOf}
+use Rattle.model.specs.Listing.{decimal, line, wordsOf}
 use Rattle.unit.specs.Exports.{checkWords, tallyWords}
-use Rattle.listing_text.specs.WordText.{recordLine}
 
 -- a line of numbers in decimal
 unfoldable pub numbersLine : List ℕ → List ℕ
@@ -26,19 +23,3 @@ unfoldable pub tallyAnswer : List ℕ → List ℕ
 tallyAnswer bytes =
     let input = wordsOf (length bytes / 8) bytes in
     numbersLine (tallyWords (cond (eqb (length bytes % 8) 0 && leb 8 (length bytes)) (tally (drop 1 input) (getD input 0 0)) (refused 1 0)))
-
--- ---- records read back
-
--- The last line for an input of n bytes, of which r records were read, up to word p. `more`: only the first 65,536 words of a longer input were looked at, and the next record starts at p. `end`: the records are the whole input. Else 17 at p, where no whole record stands; so too if a longer input begins with none.
-unfoldable pub lastLine : ℕ → ℕ → ℕ → List ℕ
-lastLine n p r =
-    cond (ltb 524288 n && ltb 0 r) (line (ascii "more" ∷ decimal p ∷ decimal r ∷ []))
-    (cond (eqb (8 * p) n) (line (ascii "end" ∷ decimal r ∷ [])) (line (ascii "refused" ∷ decimal 17 ∷ decimal p ∷ [])))
-
--- Records, each as its line in the listing, and the last line: they end where their words do.
-unfoldable pub recordsText : ℕ → List (List ℕ) → List ℕ
-recordsText n records = flatMap recordLine records ++ lastLine n (sum (map length records)) (length records)
-
--- Of an input: the records of its whole words from the first on, of 65,536 words at most.
-unfoldable pub readBack : List ℕ → List ℕ
-readBack bytes = recordsText (length bytes) (recordsIn (wordsOf (min (length bytes / 8) 65536) bytes))

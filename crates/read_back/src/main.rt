@@ -23,6 +23,6 @@ fn main() {
     let n = io::read_full(STDIN_FILENO, &mut input);
     standard_input::read_rest();
     let mut text = text_room();
-    let end = answer_text::read_back(&input[..n], &mut text);
+    let end = record_text::read_back(&input[..n], &mut text);
     io::write_all(STDOUT_FILENO, &text[..end]);
 }

@@ -7,7 +7,7 @@ use Rattle.model.specs.Lists.{sum}
 use Rattle.model.specs.Reader.{recordsIn}
 use Rattle.listing_text.specs.Put.{Put}
 use Rattle.listing_text.specs.WordText.{recordLine}
-use Rattle.answer_text.specs.declared.Front.{Front}
+use Rattle.record_text.specs.declared.Front.{Front}
 
 -- the lines of the records that stand at the front of some words are put; where the lines and the records end, and how many they are
 pub record ReadFront (ws text : List ℕ) (r : Front) (text′ : List ℕ) : Type 0 where

@@ -3,9 +3,9 @@ use denote.Ref.{now}
 use lib.ListN.{replicate}
 use Rattle.listing_text.proofs.PutLaws.{put-length}
 use Rattle.listing_text.proofs.InputLaws.{read-inside, read-length}
-use Rattle.answer_text.proofs.LastLaws.{within-fits, within-inside, front-lines-room, last-room, back-put}
-use Rattle.answer_text.proofs.put_read_back.Statement.{statement}
-use Rattle.answer_text.proofs.put_read_back.Tie as tie
+use Rattle.record_text.proofs.LastLaws.{within-fits, within-inside, front-lines-room, last-room, back-put}
+use Rattle.record_text.proofs.put_read_back.Statement.{statement}
+use Rattle.record_text.proofs.put_read_back.Tie as tie
 
 within-requires : tie.Need-within-requires
 within-requires c κs = tt

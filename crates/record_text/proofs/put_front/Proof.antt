@@ -2,9 +2,9 @@ use native.Mathlib.Omega.{arith}
 use Prim.Native.Nat.{_-_}
 use lib.ListN.{length}
 use Rattle.listing_text.proofs.PutLaws.{put-length}
-use Rattle.answer_text.proofs.FrontLaws.{Fronting, fronting-start, front-some, front-inside, front-room, front-more, front-end}
-use Rattle.answer_text.proofs.put_front.Statement.{statement}
-use Rattle.answer_text.proofs.put_front.Tie as tie
+use Rattle.record_text.proofs.FrontLaws.{Fronting, fronting-start, front-some, front-inside, front-room, front-more, front-end}
+use Rattle.record_text.proofs.put_front.Statement.{statement}
+use Rattle.record_text.proofs.put_front.Tie as tie
 
 abbrev Inv-loop : tie.InvT-loop
 Inv-loop text₀ words end₀ at₀ records₀ text end at records = Fronting words text₀ at records end text

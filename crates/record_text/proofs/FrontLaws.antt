@@ -15,7 +15,7 @@ use Rattle.model.proofs.ListLaws.{flat-append}
 use Rattle.listing_text.specs.Put.{Put, PutMost}
 use Rattle.listing_text.specs.WordText.{recordLine}
 use Rattle.listing_text.proofs.PutLaws.{put-none, put-same, put-then, put-length}
-use Rattle.answer_text.specs.Reading.{ReadFront}
+use Rattle.record_text.specs.Reading.{ReadFront}
 
 -- ---- what stands at a position
 

@@ -1,6 +1,6 @@
-use Rattle.answer_text.proofs.LastLaws.{few-bytes, many-bytes}
-use Rattle.answer_text.proofs.is_more.Statement.{statement}
-use Rattle.answer_text.proofs.is_more.Tie as tie
+use Rattle.record_text.proofs.LastLaws.{few-bytes, many-bytes}
+use Rattle.record_text.proofs.is_more.Statement.{statement}
+use Rattle.record_text.proofs.is_more.Tie as tie
 
 returns : tie.Need-returns
 returns c = few-bytes _ (c .before .args .records) (c .if1 .taken)

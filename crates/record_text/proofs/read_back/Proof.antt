@@ -1,7 +1,7 @@
 use borrow.Author.Needs.{needs}
 use Rattle.listing_text.proofs.InputLaws.{in-front}
-use Rattle.answer_text.proofs.read_back.Statement.{statement}
-use Rattle.answer_text.proofs.read_back.Tie as tie
+use Rattle.record_text.proofs.read_back.Statement.{statement}
+use Rattle.record_text.proofs.read_back.Tie as tie
 
 put-read-back-requires : tie.Need-put-read-back-requires
 put-read-back-requires c κs = search needs

@@ -16,9 +16,9 @@ use Rattle.listing_text.proofs.PutLaws.{put-same, put-then, put-length}
 use Rattle.listing_text.proofs.DigitLaws.{decimal-short}
 use Rattle.listing_text.proofs.EndLaws.{length-two}
 use Rattle.listing_text.proofs.InputLaws.{read-front, length-words}
-use Rattle.answer_text.specs.declared.Front.{Front}
-use Rattle.answer_text.specs.Answers.{lastLine, recordsText, readBack}
-use Rattle.answer_text.specs.Reading.{ReadFront}
+use Rattle.record_text.specs.declared.Front.{Front}
+use Rattle.record_text.specs.Answers.{lastLine, recordsText, readBack}
+use Rattle.record_text.specs.Reading.{ReadFront}
 
 -- ---- lines of a name and numbers
 

@@ -2,9 +2,9 @@ use native.Mathlib.Omega.{arith}
 use mathlib.Core.Path.{refl}
 use denote.Ref.{now}
 use Rattle.listing_text.proofs.PutLaws.{put-same, put-then, put-length, room-front, room-rest}
-use Rattle.answer_text.proofs.LastLaws.{named-two-is, named-two-room}
-use Rattle.answer_text.proofs.put_named_two.Statement.{statement}
-use Rattle.answer_text.proofs.put_named_two.Tie as tie
+use Rattle.record_text.proofs.LastLaws.{named-two-is, named-two-room}
+use Rattle.record_text.proofs.put_named_two.Statement.{statement}
+use Rattle.record_text.proofs.put_named_two.Tie as tie
 
 put-bytes-requires : tie.Need-put-bytes-requires
 put-bytes-requires c κs =

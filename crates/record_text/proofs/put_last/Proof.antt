@@ -2,9 +2,9 @@ use native.Mathlib.Omega.{arith}
 use mathlib.Core.Path.{refl}
 use Rattle.model.specs.Listing.{ascii}
 use Rattle.listing_text.proofs.PutLaws.{put-same, put-length}
-use Rattle.answer_text.proofs.LastLaws.{last-more, last-end, last-refused}
-use Rattle.answer_text.proofs.put_last.Statement.{statement}
-use Rattle.answer_text.proofs.put_last.Tie as tie
+use Rattle.record_text.proofs.LastLaws.{last-more, last-end, last-refused}
+use Rattle.record_text.proofs.put_last.Statement.{statement}
+use Rattle.record_text.proofs.put_last.Tie as tie
 
 is-more-requires : tie.Need-is-more-requires
 is-more-requires c κs = tt

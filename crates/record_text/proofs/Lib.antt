@@ -1,0 +1,4 @@
+pub mod FrontLaws
+pub mod LastLaws
+pub mod CutLaws
+pub mod Samples
