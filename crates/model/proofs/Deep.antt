@@ -1,4 +1,4 @@
--- Depths of 129 and above give the same steps and the same figures, since bodies call only gates of smaller number and there are at most 128 gates.
+-- Depths above the number of gates give the same steps and the same figures, since bodies call only gates of smaller number.
 use Prim.Native.Nat.{ℕ, zero, suc, _+_, _-_, _*_, _≤_, _<_}
 use native.Mathlib.Nat.{not-suc-le-zero}
 use native.Mathlib.Omega.{arith}
@@ -6,7 +6,7 @@ use mathlib.Core.Path.{_≡_, refl, ap, ap₂, fun-ext}
 use mathlib.Core.Bool.{Bool, true, false, cond}
 use mathlib.Core.List.{List, [], _∷_, _++_, map, flatMap}
 use mathlib.Core.Option.{Option}
-use lib.Dec.{ltb→lt}
+use lib.Dec.{T, ltb→lt}
 use Rattle.value.specs.declared.Value.{Value}
 use Rattle.model.specs.Lists.{range, sum}
 use Rattle.model.specs.Image.{Statement, Gate, Conditional, statement, gates, scopeStatements}
@@ -33,14 +33,22 @@ inner-flaw false m n e = absurd (omega arith)
 
 module _ (image : List ℕ) where
   -- a scope's statements call only gates below this
-  abbrev reach : ℕ → ℕ
+  abbrev pub reach : ℕ → ℕ
   reach zero = gates image
   reach (suc h) = h
 
+  reach-few : (scope : ℕ) → scope ≤ gates image → reach scope ≤ gates image
+  reach-few zero h = omega arith
+  reach-few (suc g) h = omega arith
+
+  pub within-reach : (scope g : ℕ) → g < gates image → T (downward image scope g) → g < reach scope
+  unfolding downward
+  within-reach zero g h t = h
+  within-reach (suc k) g h t = ltb→lt g k t
+
   called : (ifFlaw : ℕ → ℕ → ℕ → ℕ) (scope s g p a : ℕ) → plainFlaw image ifFlaw scope s (Gate g p a) ≡ 0 → g < reach scope
-  unfolding plainFlaw downward
-  called ifFlaw zero s g p a e = ltb→lt _ _ (test 1 _ (passes 0 _ e tt))
-  called ifFlaw (suc h) s g p a e = ltb→lt _ _ (passes 1 _ e tt)
+  unfolding plainFlaw
+  called ifFlaw scope s g p a e = within-reach scope g (ltb→lt _ _ (test 1 _ (passes 0 _ e tt))) (passes 1 _ e tt)
 
   -- ---- steps
 
@@ -90,10 +98,10 @@ module _ (image : List ℕ) where
         λ g k t values qubits.
         ap (λ l. enter t g ∷ l) (body-same n _ _ (alike n a b (omega arith) (omega arith) (omega arith)) _ (omega arith) (accepted .flawless (suc g) (omega arith)))
 
-    pub deep-steps : (d : ℕ) → 129 ≤ d → steps image d ≡ steps image 129
+    pub deep-steps : (d e : ℕ) → gates image < d → gates image < e → steps image d ≡ steps image e
     unfolding steps
-    deep-steps d h =
-        rw (body-same (gates image) _ _ (alike (gates image) (d - 1) 128 (omega arith) (omega (arith, accepted .fewGates)) (accepted .fewGates)) mainFrame (omega arith) (accepted .flawless 0 (omega arith)))
+    deep-steps d e h k =
+        rw (body-same (gates image) _ _ (alike (gates image) (d - 1) (e - 1) (omega arith) (omega arith) (omega arith)) mainFrame (omega arith) (accepted .flawless 0 (omega arith)))
 
   -- ---- figures
 
@@ -139,13 +147,16 @@ module _ (image : List ℕ) where
       alike-tally (suc n) (suc a) (suc b) h p q =
           λ g k. ap (λ m. entry + m) (body-tally n _ _ (alike-tally n a b (omega arith) (omega arith) (omega arith)) (suc g) (omega arith) (accepted .flawless (suc g) (omega arith)))
 
-      pub deep-weights : (d : ℕ) → 129 ≤ d → weightTally image weight entry d ≡ weightTally image weight entry 129
-      unfolding weightTally
-      deep-weights d h =
-          rw (body-tally (gates image) _ _ (alike-tally (gates image) (d - 1) 128 (omega arith) (omega (arith, accepted .fewGates)) (accepted .fewGates)) 0 (omega arith) (accepted .flawless 0 (omega arith)))
+      -- a scope's statements come to the same where all that they may call is opened
+      pub deep-body : (scope a b : ℕ) → scope ≤ gates image → reach scope ≤ a → reach scope ≤ b → bodyTally image weight entry (openingTally image weight entry a) scope ≡ bodyTally image weight entry (openingTally image weight entry b) scope
+      deep-body scope a b h p q = body-tally (reach scope) _ _ (alike-tally (reach scope) a b (reach-few scope h) p q) scope (omega arith) (accepted .flawless scope h)
 
-  pub deep-figures : Accepted image → (d : ℕ) → 129 ≤ d → figures image d ≡ figures image 129
+      deep-weights : (d e : ℕ) → gates image < d → gates image < e → weightTally image weight entry d ≡ weightTally image weight entry e
+      unfolding weightTally
+      deep-weights d e h k = rw (deep-body 0 (d - 1) (e - 1) (omega arith) (omega arith) (omega arith))
+
+  pub deep-figures : Accepted image → (d e : ℕ) → gates image < d → gates image < e → figures image d ≡ figures image e
   unfolding figures recordFigure entryFigure wordBound
-  deep-figures accepted d h =
-      λ i. map (λ k. deep-weights (ofKind k) 0 accepted d h i) (range 1 7)
-      ++ deep-weights (λ kind n. 0) 1 accepted d h i ∷ deep-weights theWords 0 accepted d h i ∷ []
+  deep-figures accepted d e h k =
+      λ i. map (λ kind. deep-weights (ofKind kind) 0 accepted d e h k i) (range 1 7)
+      ++ deep-weights (λ kind n. 0) 1 accepted d e h k i ∷ deep-weights theWords 0 accepted d e h k i ∷ []

@@ -1,5 +1,6 @@
 -- Some rounds of a call: opaque, cut short, or opened.
 use Prim.Native.Nat.{ℕ, zero, suc, _+_, _*_, _≤_, _<_}
+use native.Mathlib.Omega.{arith}
 use mathlib.Core.Path.{_≡_, refl}
 use mathlib.Core.List.{List}
 use lib.ListN.{getD}
@@ -21,12 +22,12 @@ module _ (image : List ℕ) (j g at k : ℕ) (at-is : at ≡ gateAt image g) whe
   unfolding gateTally openGateTally openingTally
   gate-cut n q b r eq eb z e er = rw (e, ← at-is, ← eq, ← eb, ne-eqb b 0 z) er
 
-  pub gate-opened : (n : ℕ) (table : List ℕ) (b e t r : ℕ) → Tabled image n table → g < gates image → j < 9 → b ≡ word image (at + 2) → ¬ (b ≡ 0) → ¬ (n ≡ 0)
+  pub gate-opened : (n : ℕ) (table : List ℕ) (b e t r : ℕ) → Tabled image n (suc g) table → j < 9 → b ≡ word image (at + 2) → ¬ (b ≡ 0) → ¬ (n ≡ 0)
       → e ≡ cut (k * entryOf j) → t ≡ cut (k * getD table (9 * g + j) 0) → r ≡ cut (e + t) → r ≡ cut (k * gateTally image (weightOf j) (entryOf j) (opening image j n) g)
   unfolding gateTally openGateTally openingTally
-  gate-opened zero table b e t r tab hg hj eb z m ee et er = absurd (m refl)
-  gate-opened (suc n) table b e t r tab hg hj eb z m ee et er =
-      rw (er, ee, et, tab .holds n g j refl hg hj, ← at-is, ← eb, ne-eqb b 0 z) (rounds-of-body k (entryOf j) (body image n g j))
+  gate-opened zero table b e t r tab hj eb z m ee et er = absurd (m refl)
+  gate-opened (suc n) table b e t r tab hj eb z m ee et er =
+      rw (er, ee, et, tab .holds n g j refl (omega arith) hj, ← at-is, ← eb, ne-eqb b 0 z) (rounds-of-body k (entryOf j) (body image n g j))
 
 -- what acceptance says of a gate's counts
 module _ (image : List ℕ) (ok : check image ≡ fine) (g at : ℕ) (h : g < gates image) (at-is : at ≡ gateAt image g) where

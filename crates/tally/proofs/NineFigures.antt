@@ -9,6 +9,7 @@ use denote.Enum.Declared.{tagOf}
 use lib.Dec.{ltb, leb}
 use borrow.Author.Tests.{ltb-true, ltb-false, le-leb, lt-leb}
 use Rattle.model.specs.Lists.{range, largest, all}
+use Rattle.model.specs.Image.{gates}
 use Rattle.model.specs.Check.{fine, check}
 use Rattle.model.specs.Tally.{weightTally, recordFigure, entryFigure, wordBound, figures, TallyAnswer, tallied, refused, ifAccepted, tally}
 use Rattle.model.proofs.Accepted.{Accepted, accepts}
@@ -31,7 +32,7 @@ module _ (image : List ℕ) where
   nine-cut d u cx opaque barrier measure reset conditional entries words e₀ e₁ e₂ e₃ e₄ e₅ e₆ e₇ e₈ =
       rw (e₀, e₁, e₂, e₃, e₄, e₅, e₆, e₇, e₈) (sym (ap (map cut) (figures-by-weight d)))
 
-  -- ---- only the levels opened enter, up to 128
+  -- ---- only the levels opened enter, up to the number of gates
   weight-same : (j d e : ℕ) → d - 1 ≡ e - 1 → weightTally image (weightOf j) (entryOf j) d ≡ weightTally image (weightOf j) (entryOf j) e
   unfolding weightTally
   weight-same j d e h = rw h refl
@@ -39,12 +40,12 @@ module _ (image : List ℕ) where
   level-same : (d e : ℕ) → d - 1 ≡ e - 1 → figures image d ≡ figures image e
   level-same d e h = figures-by-weight d ∙ (λ i. map (λ j. weight-same j d e h i) (range 0 9)) ∙ sym (figures-by-weight e)
 
-  pub levels-enough : Accepted image → (depth n : ℕ) → n ≡ min (depth - 1) 128 → figures image depth ≡ figures image (n + 1)
-  levels-enough acc depth n e = go (ltb depth 129) refl
+  pub levels-enough : Accepted image → (depth n : ℕ) → n ≡ min (depth - 1) (gates image) → figures image depth ≡ figures image (n + 1)
+  levels-enough acc depth n e = go (ltb (gates image) depth) refl
     where
-      go : (t : Bool) → ltb depth 129 ≡ t → figures image depth ≡ figures image (n + 1)
-      go true p = let h = ltb-true depth 129 p in level-same depth (n + 1) (omega arith)
-      go false p = let h = ltb-false depth 129 p in deep-figures image acc depth h ∙ level-same 129 (n + 1) (omega arith)
+      go : (t : Bool) → ltb (gates image) depth ≡ t → figures image depth ≡ figures image (n + 1)
+      go true p = let h = ltb-true (gates image) depth p in deep-figures image acc depth (n + 1) h (omega arith)
+      go false p = let h = ltb-false (gates image) depth p in level-same depth (n + 1) (omega arith)
 
 -- ---- figures that are cut
 uncut : (l : List ℕ) → largest (map cut l) < 2 ^ 32 → map cut l ≡ l
@@ -67,9 +68,9 @@ passing (x ∷ l) h = go (ltb x (2 ^ 32)) refl (passing l)
     go false p later = let q = ltb-false x (2 ^ 32) p in rw (lt-leb x 4294967295 (omega arith)) refl
 
 -- ---- the answer
-module _ (image : List ℕ) (depth n m : ℕ) (nine : List ℕ) (ok : check image ≡ fine) (levels-are : n ≡ min (depth - 1) 128) (nine-are : nine ≡ map cut (figures image (n + 1))) (most-is : m ≡ largest nine) where
+module _ (image : List ℕ) (depth n m : ℕ) (nine : List ℕ) (ok : check image ≡ fine) (g : ℕ) (gates-are : g ≡ gates image) (levels-are : n ≡ min (depth - 1) g) (nine-are : nine ≡ map cut (figures image (n + 1))) (most-is : m ≡ largest nine) where
   same : figures image depth ≡ figures image (n + 1)
-  same = levels-enough image (accepts image ok) depth n levels-are
+  same = levels-enough image (accepts image ok) depth n (rw (← gates-are) levels-are)
 
   pub tally-told : m < 2 ^ 32 → tallied nine ≡ tally image depth
   unfolding tally ifAccepted

@@ -6,7 +6,6 @@ use mathlib.Core.List.{List, [], _∷_}
 use mathlib.Core.Option.{Option}
 use lib.Dec.{eqb, ltb}
 use lib.ListN.{getD}
-use Rattle.model.specs.Image.{gates}
 use Rattle.model.specs.Check.{Verdict, fine, bad, check}
 use Rattle.model.specs.Tally.{bodyTally, openingTally, TallyAnswer, tallied, refused}
 use Rattle.image.specs.declared.Layout.{Layout}
@@ -41,14 +40,14 @@ pub record Ready (image : List ℕ) (l : Layout) : Type 0 where
   pub laid : Laid image l
   pub accepted : check image ≡ fine
 
--- where bodies are opened n deep, the table has the nine figures, cut, of each gate's body
-pub record Tabled (image : List ℕ) (n : ℕ) (table : List ℕ) : Type 0 where
-  pub holds : (k g j : ℕ) → n ≡ suc k → g < gates image → j < 9 → getD table (9 * g + j) 0 ≡ cut (body image k g j)
+-- where bodies are opened n deep, the table has the nine figures, cut, of the body of each gate below m
+pub record Tabled (image : List ℕ) (n m : ℕ) (table : List ℕ) : Type 0 where
+  pub holds : (k g j : ℕ) → n ≡ suc k → g < m → j < 9 → getD table (9 * g + j) 0 ≡ cut (body image k g j)
 
--- gate g's figures are put into the table, and those of the gates before it stay
+-- gate g's figures are put into the table, and those of the others stay
 pub record Rowed (image : List ℕ) (n g : ℕ) (table next : List ℕ) : Type 0 where
   pub here : (j : ℕ) → j < 9 → getD next (9 * g + j) 0 ≡ cut (body image n g j)
-  pub others : (i : ℕ) → i < 9 * g → getD next i 0 ≡ getD table i 0
+  pub others : (h j : ℕ) → ¬ (h ≡ g) → j < 9 → getD next (9 * h + j) 0 ≡ getD table (9 * h + j) 0
 
 -- the figures in document 01's order
 abbrev pub nineOf : Figures → List ℕ

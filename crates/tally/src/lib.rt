@@ -8,10 +8,11 @@ ghost use mathlib.Core.List.{[], _∷_, map};
 ghost use lib.Dec.{eqb};
 ghost use Prim.Native.Nat.{suc, _+_, _-_, _*_, _<_, _≤_, _^_, min};
 ghost use Rattle.model.specs.Lists.{range, sum, largest};
-ghost use Rattle.model.specs.Image.{word, statement, argumentSize, classicalArgumentSize, rounds, gateArguments, qubits, bits};
+ghost use Rattle.model.specs.Image.{word, statement, argumentSize, classicalArgumentSize, rounds, gates, gateArguments, qubits, bits};
 ghost use Rattle.model.specs.Check.{fine, check};
 ghost use Rattle.model.specs.Tally.{gateTally, plainTally, conditionalTally, statementTally, bodyTally, weightTally, figures, tally};
 ghost use Rattle.model.proofs.Facts.{PlainFacts, Facts};
+ghost use Rattle.model.proofs.Deep.{reach};
 ghost use Rattle.image.specs.Layout.{Laid};
 ghost use Rattle.tally.specs.Weights.{weightOf, entryOf, cut, opening, Ready, Tabled, Rowed, nineOf, answerOf};
 
@@ -147,7 +148,7 @@ fn gate_figure(
     rounds: u64,
     j: u64,
 ) -> u64
-    requires { ⌜ Ready (now image) l × Tabled (now image) n (now table) × (g < l .gates) × (j < 9) ⌝ }
+    requires { ⌜ Ready (now image) l × Tabled (now image) n (suc g) (now table) × (g < l .gates) × (j < 9) ⌝ }
     ensures { λ r. ⌜ r ≡ cut (rounds * gateTally (now (image .entry)) (weightOf j) (entryOf j) (opening (now (image .entry)) j n) g) ⌝ }
 {
     let at = image::gate_at(image, l, g);
@@ -174,7 +175,7 @@ fn call_figure(
     a: u64,
     j: u64,
 ) -> u64
-    requires { ⌜ Ready (now image) l × Tabled (now image) n (now table) × (g < l .gates) × (a + gateArguments (now image) g ≤ 8192) × (j < 9) ⌝ }
+    requires { ⌜ Ready (now image) l × Tabled (now image) n (suc g) (now table) × (g < l .gates) × (a + gateArguments (now image) g ≤ 8192) × (j < 9) ⌝ }
     ensures { λ r. ⌜ r ≡ cut (rounds (now (image .entry)) scope (range a (gateArguments (now (image .entry)) g)) * gateTally (now (image .entry)) (weightOf j) (entryOf j) (opening (now (image .entry)) j n) g) ⌝ }
 {
     let arguments = image::word(image, image::gate_at(image, l, g) + 1);
@@ -192,7 +193,7 @@ fn plain_figure(
     s: u64,
     j: u64,
 ) -> u64
-    requires { ⌜ Ready (now image) l × Tabled (now image) n (now table) × PlainFacts (now image) scope (statement (now image) s) × (s ≤ 8192) × (j < 9) ⌝ }
+    requires { ⌜ Ready (now image) l × Tabled (now image) n (reach (now image) scope) (now table) × PlainFacts (now image) scope (statement (now image) s) × (s ≤ 8192) × (j < 9) ⌝ }
     ensures { λ r. ⌜ r ≡ cut (plainTally (now (image .entry)) (weightOf j) (entryOf j) (λ t. 0) (opening (now (image .entry)) j n) scope (statement (now (image .entry)) s)) ⌝ }
 {
     let at = image::statement_at(image, l, s);
@@ -222,7 +223,7 @@ fn conditional_figure(
     t: u64,
     j: u64,
 ) -> u64
-    requires { ⌜ Ready (now image) l × Tabled (now image) n (now table) × PlainFacts (now image) scope (statement (now image) t) × (t ≤ 8192) × (j < 9) ⌝ }
+    requires { ⌜ Ready (now image) l × Tabled (now image) n (reach (now image) scope) (now table) × PlainFacts (now image) scope (statement (now image) t) × (t ≤ 8192) × (j < 9) ⌝ }
     ensures { λ r. ⌜ r ≡ cut (conditionalTally (now (image .entry)) (weightOf j) (entryOf j) (opening (now (image .entry)) j n) scope t) ⌝ }
 {
     let inner = plain_figure(image, l, table, n, scope, t, j);
@@ -238,7 +239,7 @@ fn statement_figure(
     s: u64,
     j: u64,
 ) -> u64
-    requires { ⌜ Ready (now image) l × Tabled (now image) n (now table) × Facts (now image) scope (statement (now image) s) × (s ≤ 8192) × (j < 9) ⌝ }
+    requires { ⌜ Ready (now image) l × Tabled (now image) n (reach (now image) scope) (now table) × Facts (now image) scope (statement (now image) s) × (s ≤ 8192) × (j < 9) ⌝ }
     ensures { λ r. ⌜ r ≡ cut (statementTally (now (image .entry)) (weightOf j) (entryOf j) (opening (now (image .entry)) j n) scope s) ⌝ }
 {
     let at = image::statement_at(image, l, s);
@@ -253,7 +254,7 @@ fn statement_figure(
 
 // The statements of a scope.
 fn body_figure(image: &[u64], l: Layout, table: &[u64; 1152], n: u64, scope: u64, j: u64) -> u64
-    requires { ⌜ Ready (now image) l × Tabled (now image) n (now table) × (scope ≤ l .gates) × (j < 9) ⌝ }
+    requires { ⌜ Ready (now image) l × Tabled (now image) n (reach (now image) scope) (now table) × (scope ≤ l .gates) × (j < 9) ⌝ }
     ensures { λ r. ⌜ r ≡ cut (bodyTally (now (image .entry)) (weightOf j) (entryOf j) (opening (now (image .entry)) j n) scope) ⌝ }
 {
     let span = image::statements_of(image, l, scope);
@@ -271,46 +272,69 @@ fn body_figure(image: &[u64], l: Layout, table: &[u64; 1152], n: u64, scope: u64
     total
 }
 
-// The nine figures of gate g's body.
-fn fill_row(image: &[u64], l: Layout, table: &[u64; 1152], n: u64, g: u64, next: &mut [u64; 1152])
-    requires { ⌜ Ready (now image) l × Tabled (now image) n (now table) × (g < l .gates) ⌝ }
-    ensures { λ r. ⌜ Rowed (now (image .entry)) n g (now (next .entry)) (now (next .exit)) ⌝ }
+// Puts the nine figures of gate g's body into its row. The body calls only gates before g, whose rows stay.
+fn fill_row(image: &[u64], l: Layout, n: u64, g: u64, table: &mut [u64; 1152])
+    requires { ⌜ Ready (now image) l × Tabled (now image) n g (now table) × (g < l .gates) ⌝ }
+    ensures { λ r. ⌜ Rowed (now (image .entry)) n g (now (table .entry)) (now (table .exit)) ⌝ }
 {
     let mut j = 0u64;
     while j < 9 {
-        let i = (9 * g + j) as usize;
         let figure = body_figure(image, l, table, n, g + 1, j);
-        image::put(next, i, figure);
+        image::put(table, (9 * g + j) as usize, figure);
         j += 1;
     }
 }
 
-// The table with bodies opened one level deeper.
-fn next_table(image: &[u64], l: Layout, table: &[u64; 1152], n: u64, next: &mut [u64; 1152])
-    requires { ⌜ Ready (now image) l × Tabled (now image) n (now table) ⌝ }
-    ensures { λ r. ⌜ Tabled (now (image .entry)) (suc n) (now (next .exit)) ⌝ }
+// Opens bodies one level deeper, from the last gate down: each row is made of those that are not yet deeper.
+fn deepen_table(image: &[u64], l: Layout, n: u64, table: &mut [u64; 1152])
+    requires { ⌜ Ready (now image) l × Tabled (now image) n (gates (now image)) (now table) ⌝ }
+    ensures { λ r. ⌜ Tabled (now (image .entry)) (suc n) (gates (now (image .entry))) (now (table .exit)) ⌝ }
+{
+    let mut g = l.gates;
+    while 0 < g {
+        g -= 1;
+        fill_row(image, l, n, g, table);
+    }
+}
+
+// The table with bodies opened n deep, level by level.
+fn level_table(image: &[u64], l: Layout, n: u64) -> [u64; 1152]
+    requires { ⌜ Ready (now image) l ⌝ }
+    ensures { λ r. ⌜ Tabled (now (image .entry)) n (gates (now (image .entry))) r ⌝ }
+{
+    let mut table = [0u64; 1152];
+    let mut i = 0u64;
+    while i < n {
+        deepen_table(image, l, i, &mut table);
+        i += 1;
+    }
+    table
+}
+
+// The table with all bodies opened: one pass from the first gate on, since each row is made of those before it.
+fn whole_table(image: &[u64], l: Layout) -> [u64; 1152]
+    requires { ⌜ Ready (now image) l ⌝ }
+    ensures { λ r. ⌜ Tabled (now (image .entry)) (l .gates) (gates (now (image .entry))) r ⌝ }
 {
     let gates = l.gates;
+    let mut table = [0u64; 1152];
     let mut g = 0u64;
     while g < gates {
-        fill_row(image, l, table, n, g, next);
+        fill_row(image, l, gates, g, &mut table);
         g += 1;
     }
+    table
 }
 
 // The table with bodies opened n deep.
 fn opened_table(image: &[u64], l: Layout, n: u64) -> [u64; 1152]
     requires { ⌜ Ready (now image) l ⌝ }
-    ensures { λ r. ⌜ Tabled (now (image .entry)) n r ⌝ }
+    ensures { λ r. ⌜ Tabled (now (image .entry)) n (gates (now (image .entry))) r ⌝ }
 {
-    let mut table = [0u64; 1152];
-    let mut i = 0u64;
-    while i < n {
-        let last = table;
-        next_table(image, l, &last, i, &mut table);
-        i += 1;
+    if n == l.gates {
+        return whole_table(image, l);
     }
-    table
+    level_table(image, l, n)
 }
 
 // ---- in all
@@ -346,7 +370,7 @@ fn if_any(main: u64, head: u64) -> u64
 }
 
 fn total_figure(image: &[u64], l: Layout, table: &[u64; 1152], n: u64, j: u64) -> u64
-    requires { ⌜ Ready (now image) l × Tabled (now image) n (now table) × (j < 9) ⌝ }
+    requires { ⌜ Ready (now image) l × Tabled (now image) n (gates (now image)) (now table) × (j < 9) ⌝ }
     ensures { λ r. ⌜ r ≡ cut (weightTally (now (image .entry)) (weightOf j) (entryOf j) (n + 1)) ⌝ }
 {
     let main = l.main;
@@ -355,18 +379,18 @@ fn total_figure(image: &[u64], l: Layout, table: &[u64; 1152], n: u64, j: u64) -
     cut_sum(statements, if_any(main, head))
 }
 
-// How deep bodies are opened: from depth 129 on the figures are the same.
-fn levels(depth: u64) -> u64
-    ensures { λ r. ⌜ r ≡ min (depth - 1) 128 ⌝ }
+// How deep bodies are opened: as many levels as there are gates open them all.
+fn levels(depth: u64, gates: u64) -> u64
+    ensures { λ r. ⌜ r ≡ min (depth - 1) gates ⌝ }
 {
     if depth == 0 {
         return 0;
     }
-    if depth < 129 { depth - 1 } else { 128 }
+    if depth <= gates { depth - 1 } else { gates }
 }
 
 fn nine_figures(image: &[u64], l: Layout, table: &[u64; 1152], n: u64) -> Figures
-    requires { ⌜ Ready (now image) l × Tabled (now image) n (now table) ⌝ }
+    requires { ⌜ Ready (now image) l × Tabled (now image) n (gates (now image)) (now table) ⌝ }
     ensures { λ r. ⌜ nineOf r ≡ map cut (figures (now (image .entry)) (n + 1)) ⌝ }
 {
     Figures {
@@ -395,7 +419,7 @@ fn laid_tally(image: &[u64], l: Layout, depth: u64) -> Tallied
     requires { ⌜ Ready (now image) l ⌝ }
     ensures { λ r. ⌜ answerOf r ≡ tally (now (image .entry)) depth ⌝ }
 {
-    let n = levels(depth);
+    let n = levels(depth, l.gates);
     let table = opened_table(image, l, n);
     let figures = nine_figures(image, l, &table, n);
     if largest_figure(figures) < LIMIT {

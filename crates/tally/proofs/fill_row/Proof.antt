@@ -2,32 +2,36 @@ use Prim.Native.Nat.{_-_, _≤_, _<_}
 use native.Mathlib.Omega.{arith}
 use denote.Ref.{now}
 use borrow.Author.Needs.{needs}
-use Rattle.tally.proofs.TableLaws.{Begun, begun, begun-next, begun-done}
+use Rattle.tally.proofs.TableLaws.{Begun, begun, begun-below, begun-next, begun-done}
 use Rattle.tally.proofs.fill_row.Statement.{statement}
 use Rattle.tally.proofs.fill_row.Tie as tie
 
 abbrev Inv-loop : tie.InvT-loop
-Inv-loop image l table n g next₀ j₀ next j = (j ≤ 9) × Begun image n g j next₀ next
+Inv-loop image l n g table₀ j₀ table j = (j ≤ 9) × Begun image n g j table₀ table
 
 abbrev μ-loop : tie.MeasureT-loop
-μ-loop image l table n g next₀ j₀ next j = 9 - j
+μ-loop image l n g table₀ j₀ table j = 9 - j
 
 loop-holds : tie.Need-loop-holds Inv-loop μ-loop
 loop-holds c =
     let a = c .before .args in
-    (search needs, begun (now (a .image)) (a .n) (a .g) (now (a .next)))
-
-mul-i : tie.Need-mul-i Inv-loop μ-loop
-mul-i c = search needs
-
-add-i : tie.Need-add-i Inv-loop μ-loop
-add-i c = search needs
+    (search needs, begun (now (a .image)) (a .n) (a .g) (now (a .table)))
 
 add-body-figure : tie.Need-add-body-figure Inv-loop μ-loop
 add-body-figure c = search needs
 
 body-figure-requires : tie.Need-body-figure-requires Inv-loop μ-loop
-body-figure-requires c κs = search needs
+body-figure-requires c κs =
+    let l = c .before .before in
+    let a = l .before .before .args in
+    let pre = l .before .before .pre in
+    (pre .0, begun-below (now (a .image)) (a .n) (a .g) (l .loop .j) (now (a .table)) (l .loop .table) (pre .1) (l .loop .inv .1), search needs, search needs)
+
+mul-put : tie.Need-mul-put Inv-loop μ-loop
+mul-put c = search needs
+
+add-put : tie.Need-add-put Inv-loop μ-loop
+add-put c = search needs
 
 put-requires : tie.Need-put-requires Inv-loop μ-loop
 put-requires c κs = search needs
@@ -41,18 +45,19 @@ loop-less c = search needs
 loop-again : tie.Need-loop-again Inv-loop μ-loop
 loop-again c =
     let b = c .before .before in
-    let l = b .before .before in
+    let t = b .before .before in
+    let l = t .before in
     let a = l .before .before .args in
     let pre = l .before .before .pre in
     let laid = pre .0 .laid in
     let few : a .g < 128 = omega (arith, pre .2, laid .gates-is, laid .few-gates) in
-    (search needs, begun-next (now (a .image)) (a .n) (a .g) (l .loop .j) _ (now (a .next)) (l .loop .next) _ (l .loop .inv .1) (search needs) (b .body-figure .ensures) (c .put .ensures))
+    (search needs, begun-next (now (a .image)) (a .n) (a .g) (l .loop .j) _ (now (a .table)) (l .loop .table) _ (l .loop .inv .1) (t .loop-test .taken) (search needs) (b .body-figure .ensures) (c .put .ensures))
 
 returns : tie.Need-returns Inv-loop μ-loop
 returns c =
     let l = c .before in
     let a = l .before .before .args in
-    begun-done (now (a .image)) (a .n) (a .g) (l .loop .j) (now (a .next)) (l .loop .next) (c .loop-test .left) (l .loop .inv .1)
+    begun-done (now (a .image)) (a .n) (a .g) (l .loop .j) (now (a .table)) (l .loop .table) (c .loop-test .left) (l .loop .inv .1)
 
 pub fill-row-spec : {M : Type 1} → statement M
 fill-row-spec =
@@ -61,10 +66,10 @@ fill-row-spec =
     Inv-loop
     μ-loop
     loop-holds
-    mul-i
-    add-i
     add-body-figure
     body-figure-requires
+    mul-put
+    add-put
     put-requires
     add-j
     loop-less

@@ -122,9 +122,7 @@ returns-3 c =
     let g = w .before .before .before in
     let a = g .before .before .args in
     let pre = g .before .before .pre in
-    let laid = pre .0 .laid in
-    let h : a .g < gates (now (a .image)) = omega arith in
-    gate-opened (now (a .image)) (a .j) (a .g) (g .gate-at .result) (a .rounds) (g .gate-at .ensures) (a .n) _ _ _ _ _ (pre .1) h (pre .3) (w .word3 .ensures) (i .before .if1 .left) (i .if2 .left)
+    gate-opened (now (a .image)) (a .j) (a .g) (g .gate-at .result) (a .rounds) (g .gate-at .ensures) (a .n) _ _ _ _ _ (pre .1) (pre .3) (w .word3 .ensures) (i .before .if1 .left) (i .if2 .left)
     (c .before .before .before .cut-product .ensures ∙ ap (λ (k : ℕ). cut (a .rounds * k)) (c .before .before .before .before .entry-weight .ensures)) (c .before .cut-product2 .ensures) (c .cut-sum .ensures)
 
 pub gate-figure-spec : {M : Type 1} → statement M

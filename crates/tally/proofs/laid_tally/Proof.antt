@@ -20,13 +20,13 @@ returns : tie.Need-returns
 returns c =
     let g = c .before .before in
     let s = g .before .before .before .before .before in
-    tally-told (now (s .args .image)) (s .args .depth) _ _ _ (s .pre .accepted) (g .before .before .before .levels .ensures) (g .nine-figures .ensures) (c .before .largest-figure .ensures) (c .if1 .taken)
+    tally-told (now (s .args .image)) (s .args .depth) _ _ _ (s .pre .accepted) _ (s .pre .laid .gates-is) (g .before .before .before .levels .ensures) (g .nine-figures .ensures) (c .before .largest-figure .ensures) (c .if1 .taken)
 
 returns-2 : tie.Need-returns-2
 returns-2 c =
     let g = c .before .before in
     let s = g .before .before .before .before .before in
-    tally-large (now (s .args .image)) (s .args .depth) _ _ _ (s .pre .accepted) (g .before .before .before .levels .ensures) (g .nine-figures .ensures) (c .before .largest-figure .ensures) (c .if1 .left)
+    tally-large (now (s .args .image)) (s .args .depth) _ _ _ (s .pre .accepted) _ (s .pre .laid .gates-is) (g .before .before .before .levels .ensures) (g .nine-figures .ensures) (c .before .largest-figure .ensures) (c .if1 .left)
 
 pub laid-tally-spec : {M : Type 1} → statement M
 laid-tally-spec =

@@ -1,43 +1,24 @@
-use Prim.Native.Nat.{_-_, _≤_}
-use native.Mathlib.Numerals.{add-one}
 use native.Mathlib.Omega.{arith}
 use mathlib.Core.Path.{_≡_}
 use borrow.Author.Needs.{needs}
-use Rattle.tally.specs.Weights.{Tabled}
-use Rattle.tally.proofs.TableLaws.{tabled-none}
 use Rattle.tally.proofs.opened_table.Statement.{statement}
 use Rattle.tally.proofs.opened_table.Tie as tie
 
-abbrev Inv-loop : tie.InvT-loop
-Inv-loop image l n table₀ i₀ table i = (i ≤ n) × Tabled image i table
+whole-table-requires : tie.Need-whole-table-requires
+whole-table-requires c κs = search needs
 
-abbrev μ-loop : tie.MeasureT-loop
-μ-loop image l n table₀ i₀ table i = n - i
-
-loop-holds : tie.Need-loop-holds Inv-loop μ-loop
-loop-holds c = (search needs, tabled-none _ _)
-
-next-table-requires : tie.Need-next-table-requires Inv-loop μ-loop
-next-table-requires c κs = search needs
-
-add-i : tie.Need-add-i Inv-loop μ-loop
-add-i c = search needs
-
-loop-less : tie.Need-loop-less Inv-loop μ-loop
-loop-less c = search needs
-
-loop-again : tie.Need-loop-again Inv-loop μ-loop
-loop-again c =
-    let l = c .before .before .before .before in
-    (search needs, rw (add-one (l .loop .i)) (c .next-table .ensures))
-
-returns : tie.Need-returns Inv-loop μ-loop
+returns : tie.Need-returns
 returns c =
-    let l = c .before in
-    let same : l .loop .i ≡ l .before .before .args .n = omega arith in
-    rw same at (l .loop .inv .1)
+    let a = c .before .before .before .before .args in
+    let same : a .n ≡ a .l .gates = omega arith in
+    rw same (c .whole-table .ensures)
+
+level-table-requires : tie.Need-level-table-requires
+level-table-requires c κs = search needs
+
+returns-2 : tie.Need-returns-2
+returns-2 c = search needs
 
 pub opened-table-spec : {M : Type 1} → statement M
 opened-table-spec =
-    tie.close
-    (tie.spec Inv-loop μ-loop loop-holds next-table-requires add-i loop-less loop-again returns)
+    tie.close (tie.spec whole-table-requires returns level-table-requires returns-2)
