@@ -12,7 +12,7 @@ use Rattle.model.specs.Reader.{recordsIn}
 use Rattle.model.specs.Listing.{littleEndian, wordsOf}
 use Rattle.record_text.specs.Answers.{lastLine, recordsText, readBack}
 
-drop-take : (k m : ℕ) (l : List ℕ) → k ≤ m → drop k (take m l) ≡ take (m - k) (drop k l)
+pub drop-take : (k m : ℕ) (l : List ℕ) → k ≤ m → drop k (take m l) ≡ take (m - k) (drop k l)
 drop-take zero m l h = let e : m ≡ m - 0 = omega arith in ap (λ (j : ℕ). take j l) e
 drop-take (suc k) zero l h = absurd (not-suc-le-zero h)
 drop-take (suc k) (suc m) [] h = sym (take-nil (suc m - suc k))

@@ -1,4 +1,5 @@
 pub mod FrontLaws
 pub mod LastLaws
 pub mod CutLaws
+pub mod OnLaws
 pub mod Samples
