@@ -6,15 +6,12 @@ use lib.ListN.{length}
 use lib.Seq.{sets}
 use Rattle.value.specs.declared.Value.{Value}
 use Rattle.model.specs.Lists.{range}
-use Rattle.model.specs.Image.{word, statement, statementAt, parameterAt, gateParameters, gateArguments, gateBody, rounds, quantumSize, quantumRegisters, classicalSize, classicalRegisters}
+use Rattle.model.specs.Image.{word, statement, statementAt, parameterAt, gateParameters, gateArguments, gateBody, rounds}
 use Rattle.model.specs.Steps as Steps
 use Rattle.model.specs.Steps.{Step, inRounds, visitPlain, visitGate, opening}
 use Rattle.model.specs.Run.{traceOf}
 use Rattle.model.specs.Playing.{Plays}
-use Rattle.model.proofs.Accepted.{Accepted}
 use Rattle.image.specs.declared.Layout.{Layout}
-use Rattle.image.specs.Layout.{Laid}
-use Rattle.image.specs.Firsts.{Firsts}
 use Rattle.writer.specs.declared.Position.{Position}
 use Rattle.writer.specs.declared.Linearized.{Linearized}
 use Rattle.gate.specs.declared.Call.{Call}
