@@ -5,3 +5,4 @@ pub mod Rounding
 pub mod SignedRounding
 pub mod Reduced
 pub mod Patterns
+pub mod NearestOfAll

@@ -8,10 +8,11 @@ use lib.Dec.{ltb}
 use lib.IntN.{ℤ, pos, negsuc, negℤ, natAbs, pos-ne-negsuc, _+ℤ_, _*ℤ_, negℤ-+ℤ, +ℤ-comm}
 use borrow.Author.Tests.{ltb-true, ltb-false, lt-ltb, le-ltb}
 use Rattle.rational.specs.Gcd.{gcd}
-use Rattle.rational.specs.Rational.{LowestTerms, inRange, reduced, unlike, sumMagnitude, sumSign, commonDenominator, allInRange, sum, opposite, product, quotient}
+use Rattle.rational.specs.Rational.{LowestTerms, inRange, reduced, unlike, sumMagnitude, sumSign, commonDenominator, allInRange, sum, opposite, difference, product, quotient}
 use Rattle.rational.specs.declared.Rational64.{Rational64}
 use Rattle.rational.specs.declared.Checked.the-variants.{Some, None}
 use Rattle.rational.proofs.GcdLaws.{gcd-dvd-left, gcd-dvd-right, gcd-pos, lowest-unique}
+use Rattle.rational.proofs.Soundness.{opposite-lowest}
 
 -- ---- the size and the sign that the sum's steps give are those of the sum of two integers
 abbrev pub toZ : Bool → ℕ → ℤ
@@ -208,7 +209,7 @@ sum-integers x y r px py e =
     whole : (k e m l g B b d : ℕ) → k * (B * d) ≡ m * e → g * B ≡ b → k * (b * d) ≡ g * m * e
     whole k e m l g B b d p q = rw (← q) (omega (arith, ap (λ (z : ℕ). g * z) p))
 
--- r = x - y over ℤ: the sum with the opposite, whose numerator is the other way round
+-- the opposite's numerator is the other way round
 pub opposite-integers : (y : Rational64) → LowestTerms y → numerator (opposite y) ≡ negℤ (numerator y)
 opposite-integers y l = go (y .negative) (y .numer)
   where
@@ -217,6 +218,14 @@ opposite-integers y l = go (y .negative) (y .numer)
     go true (suc n) = refl
     go false zero = refl
     go false (suc n) = rw (lt-ltb 0 (suc n) (zero-lt-suc n)) refl
+
+-- r = x - y over ℤ
+pub difference-integers : (x y r : Rational64) → LowestTerms x → LowestTerms y → difference x y ≡ Some r
+    → numerator r *ℤ pos (x .denom * y .denom) ≡ (numerator x *ℤ pos (y .denom) +ℤ negℤ (numerator y) *ℤ pos (x .denom)) *ℤ pos (r .denom)
+unfolding difference
+difference-integers x y r px py e =
+    subst (λ (z : ℤ). numerator r *ℤ pos (x .denom * y .denom) ≡ (numerator x *ℤ pos (y .denom) +ℤ z *ℤ pos (x .denom)) *ℤ pos (r .denom)) (opposite-integers y py)
+    (sum-integers x (opposite y) r px (opposite-lowest y py) e)
 
 -- ---- lowest terms are unique
 size-of : (s : Bool) (n : ℕ) → natAbs (toZ s n) ≡ n

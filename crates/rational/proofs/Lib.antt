@@ -7,3 +7,4 @@ pub mod PowerLaws
 pub mod Soundness
 pub mod WholeRoots
 pub mod Integers
+pub mod Exactly

@@ -1,7 +1,7 @@
 -- `wholeRoot k n` is the r with r ^ k = n, and there is none where it is absent; a root of a fraction in lowest terms is in lowest terms.
 use mathlib.Core.Path.{_≡_, refl, sym, _∙_, subst}
 use mathlib.Core.Bool.{Bool, true, false, cond}
-use Prim.Native.Nat.{ℕ, zero, suc, _+_, _^_, _<_, _∣_}
+use Prim.Native.Nat.{ℕ, zero, suc, _+_, _*_, _^_, _<_, _∣_}
 use native.Mathlib.Nat.{pow-suc, mul-zero, dvd-mul-left, le-of-dvd, lt-of-le-of-lt, le-of-eq, lt-irrefl, zero-lt-suc, one-le-pow, pow-lt-pow-left}
 use native.Mathlib.Omega.{arith}
 use lib.Dec.{eqb}
@@ -10,10 +10,10 @@ use Rattle.rational.specs.Root.{root}
 use Rattle.rational.specs.Rational.{LowestTerms, ratio, wholeRoot, rootRatio, rationalRoot}
 use Rattle.rational.specs.Promise.{SoundChecked}
 use Rattle.rational.specs.declared.Rational64.{Rational64}
-use Rattle.rational.specs.declared.Checked.the-variants.{None}
+use Rattle.rational.specs.declared.Checked.the-variants.{Some, None}
 use Rattle.rational.specs.declared.WholeRoot.{WholeRoot}
 use Rattle.rational.specs.declared.WholeRoot.the-variants.{Whole, Absent}
-use Rattle.rational.proofs.GcdLaws.{coprime-parts}
+use Rattle.rational.proofs.GcdLaws.{coprime-parts, coprime-pow, lowest-unique}
 use Rattle.rational.proofs.RootLaws.{root-is, root-unique}
 
 pub whole-root-is : (k n r : ℕ) → wholeRoot k n ≡ Whole r → r ^ k ≡ n
@@ -71,3 +71,35 @@ root-sound x k l h = signed (x .negative)
     signed : (s : Bool) → SoundChecked (cond s None (rootRatio (wholeRoot k (x .numer)) (wholeRoot k (x .denom))))
     signed true = tt
     signed false = ratios (wholeRoot k (x .numer)) (wholeRoot k (x .denom)) refl refl
+
+-- ---- a root that is found is the root, and one that is there is found: r is not negative, and r ^ k = x
+pub rational-root-is : (x r : Rational64) (k : ℕ) → rationalRoot k x ≡ Some r → (x .negative ≡ false) × (r .negative ≡ false) × (r .numer ^ k ≡ x .numer) × (r .denom ^ k ≡ x .denom)
+unfolding rationalRoot
+rational-root-is x r k = signed (x .negative) refl
+  where
+    no : None ≡ Some r → ⊥
+    no e = let z : _≡_ {A = ℕ} 0 1 = cc in omega arith
+
+    ratios : (n d : WholeRoot) → wholeRoot k (x .numer) ≡ n → wholeRoot k (x .denom) ≡ d → rootRatio n d ≡ Some r → (r .negative ≡ false) × (r .numer ^ k ≡ x .numer) × (r .denom ^ k ≡ x .denom)
+    ratios (Whole a) (Whole b) p q e =
+        let i : ratio false a b ≡ r = cc in
+        subst (λ (z : Rational64). (z .negative ≡ false) × (z .numer ^ k ≡ x .numer) × (z .denom ^ k ≡ x .denom)) i (refl, whole-root-is k (x .numer) a p, whole-root-is k (x .denom) b q)
+    ratios (Whole a) Absent p q e = absurd (no e)
+    ratios Absent d p q e = absurd (no e)
+
+    signed : (s : Bool) → x .negative ≡ s → cond s None (rootRatio (wholeRoot k (x .numer)) (wholeRoot k (x .denom))) ≡ Some r
+        → (x .negative ≡ false) × (r .negative ≡ false) × (r .numer ^ k ≡ x .numer) × (r .denom ^ k ≡ x .denom)
+    signed true h e = absurd (no e)
+    signed false h e = let t = ratios (wholeRoot k (x .numer)) (wholeRoot k (x .denom)) refl refl e in (h, t .0, t .1, t .2)
+
+pub rational-root-found : (x r : Rational64) (k : ℕ) → 0 < k → LowestTerms x → LowestTerms r → x .negative ≡ false → r .negative ≡ false
+    → r .numer ^ k * x .denom ≡ x .numer * r .denom ^ k → rationalRoot k x ≡ Some r
+unfolding rationalRoot
+rational-root-found x r k h p q nx nr e =
+    rw (nx, whole-root-found k (x .numer) (r .numer) h (same .0), whole-root-found k (x .denom) (r .denom) h (same .1)) (made (r .negative) nr)
+  where
+    same : (r .numer ^ k ≡ x .numer) × (r .denom ^ k ≡ x .denom)
+    same = lowest-unique (r .numer ^ k) (r .denom ^ k) (x .numer) (x .denom) (one-le-pow k (r .denom) (q .positive)) (coprime-pow (r .numer) (r .denom) k (q .coprime)) (p .coprime) e
+
+    made : (s : Bool) → s ≡ false → _≡_ {A = _} (Some (ratio false (r .numer) (r .denom))) (Some (record { negative = s; numer = r .numer; denom = r .denom }))
+    made s z = rw z
