@@ -13,7 +13,7 @@ use Rattle.rational.specs.declared.Checked.the-variants.{None}
 use Rattle.rational.specs.Rational.{reduced, checked}
 use Rattle.float.specs.Float.{approximateFloat}
 
--- a float's approximateFloat fraction is its value in reduced terms, however the value is written
+-- a float's fraction is its value in reduced terms, however the value is written
 value-exact : (x : Float) (s : Bool) (a c : ℕ) → 0 < c → T (fits binary32 x) → HasValue x s a c → checked (reduced s a c) ≡ approximateFloat x
 unfolding approximateFloat
 value-exact nan s a c p h v = absurd v

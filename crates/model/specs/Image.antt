@@ -33,7 +33,7 @@ pub data Binop : Type 0 where
 pub data Unop : Type 0 where
   Neg Sin Cos Tan Exp Ln Sqrt : Unop
 
--- "Expression, 3, unused words 0: kind, two operands. Kinds 0 pi, 1 real (f32 bits, below 2^32), 2 integer, 3 variable, 4 + , 5 - , 6 times, 7 divide, 8 power, 9 negate, 10 sin, 11 cos, 12 tan, 13 exp, 14 ln, 15 sqrt."
+-- "Expression, 3, unused words 0: kind, two operands. Kinds 0 pi, 1 real (f32 bits, below 2^32), 2 integer, 3 variable (below the gate's parameter count, none in main), 4 + , 5 - , 6 times, 7 divide, 8 power, 9 negate, 10 sin, 11 cos, 12 tan, 13 exp, 14 ln, 15 sqrt."
 pub data Expr : Type 0 where
   Pi : Expr
   Real : (bits : ℕ) → Expr

@@ -6,7 +6,7 @@ use lib.ListN.{length}
 use Rattle.rational.specs.declared.Rational64.{Rational64}
 use Rattle.value.specs.declared.Value.{Value}
 
--- "0 head: qubits, bits, then register and offset for each qubit, then for each bit. 1 U: three angles, qubit. 2 CX. 3 opaque: gate, p, q, p angles, q qubits. 4 barrier: count, qubits. 5 measure: qubit, bit. 6 reset. 7 conditional start: first bit, size, value. 8 its end."
+-- "0 head: qubits, bits, then register and offset for each qubit, then for each bit. 1 U: three angles (four words each: a's n, d, b's n, d, signed in two's complement), qubit. 2 CX. 3 opaque: gate, p, q, p angles, q qubits. 4 barrier: count, qubits. 5 measure: qubit, bit. 6 reset. 7 conditional start: first bit, size, value. 8 its end."
 pub data Record : Type 0 where
   Head : (qubits bits : List (ℕ × ℕ)) → Record
   U : (theta phi lambda : Value) (qubit : ℕ) → Record

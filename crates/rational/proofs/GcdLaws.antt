@@ -1,4 +1,4 @@
--- Laws of `gcd`: it divides both numbers, every commonDenominator divisor divides it, Euclid's lemma, and that a fraction in reduced terms is unique.
+-- Laws of `gcd`: it divides both numbers, every common divisor divides it, Euclid's lemma, and that a fraction in reduced terms is unique.
 use mathlib.Core.Path.{_≡_, refl, sym, ap, _∙_, subst}
 use Prim.Native.Nat.{ℕ, zero, suc, _-_, _*_, _/_, _%_, _^_, _<_, _∣_}
 use native.Mathlib.Nat.{mod-lt, dvd-mod-iff, dvd-refl, dvd-zero, dvd-trans, dvd-antisymm, zero-lt-suc, mul-div-mul-left, mod-def, mul-sub, mul-assoc, mul-comm, mul-zero, dvd-mul-left, mul-div-cancel', pos-of-dvd-of-pos, eq-of-mul-eq-mul-left, eq-one-of-dvd-one, mul-pos, not-suc-le-zero, mul-one, zero-mul, lt-suc-self, mul-left-comm, lt-irrefl, pow-zero, pow-suc}
@@ -35,7 +35,7 @@ pub gcd-greatest : (a b d : ℕ) → d ∣ a → d ∣ b → d ∣ gcd a b
 unfolding gcd
 gcd-greatest a b d p q = euclid-greatest (suc b) a b d p q
 
--- a commonDenominator divisor that every commonDenominator divisor divides is the gcd
+-- a common divisor that every common divisor divides is the gcd
 pub gcd-unique : (a b g : ℕ) → g ∣ a → g ∣ b → ((d : ℕ) → d ∣ a → d ∣ b → d ∣ g) → g ≡ gcd a b
 gcd-unique a b g p q r = dvd-antisymm (gcd-greatest a b g p q) (r (gcd a b) (gcd-dvd-left a b) (gcd-dvd-right a b))
 
@@ -56,7 +56,7 @@ gcd-comm a b = gcd-unique b a (gcd a b) (gcd-dvd-right a b) (gcd-dvd-left a b) (
 pub gcd-pos : (a b : ℕ) → 0 < b → 0 < gcd a b
 gcd-pos a b h = pos-of-dvd-of-pos (gcd-dvd-right a b) h
 
--- ---- a commonDenominator factor comes out
+-- ---- a common factor comes out
 mod-mul-left : (c a b : ℕ) → 0 < c → (c * a) % (c * b) ≡ c * (a % b)
 mod-mul-left c a b h =
     mod-def (c * a) (c * b)

@@ -40,7 +40,7 @@ no3 : (a b d : Bool) (v : Checked) → cond (a && (b && (d && false))) v None �
 no3 true b d v = no2 b d v
 no3 false b d v = refl
 
--- allInRange steps, each cut to the limit before the next
+-- all steps, each cut to the limit before the next
 steps : (L : ℕ) (P Q : ℕ → ℕ) (M : ℕ → ℕ → ℕ) (R : ℕ → ℕ → ℕ → ℕ → Rational64) (l p q m : ℕ)
     → l ≡ min L (2 ^ 63) → p ≡ min (P l) (2 ^ 63) → q ≡ min (Q l) (2 ^ 63) → m ≡ min (M p q) (2 ^ 63)
     → cond (allInRange l p q m) (Some (R l p q m)) None ≡ cond (allInRange L (P L) (Q L) (M (P L) (Q L))) (Some (R L (P L) (Q L) (M (P L) (Q L)))) None

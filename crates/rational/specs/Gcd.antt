@@ -1,4 +1,4 @@
--- The greatest common divisor of two naturals. `proofs/Gcd.antt` proves that it divides both and that every common divisor divides it.
+-- The greatest common divisor of two naturals. `proofs/GcdLaws.antt` proves that it divides both and that every common divisor divides it.
 use Prim.Native.Nat.{ℕ, zero, suc, _%_}
 
 -- Euclid's steps, at most as many as the first argument says

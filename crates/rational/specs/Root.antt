@@ -1,4 +1,4 @@
--- The whole part of a k-th root, k above 0. `proofs/Root.antt` proves that it is the one r with r ^ k ≤ n < (r + 1) ^ k.
+-- The whole part of a k-th root, k above 0. `proofs/RootLaws.antt` proves that it is the one r with r ^ k ≤ n < (r + 1) ^ k.
 use Prim.Native.Nat.{ℕ, zero, suc, _+_, _*_, _/_, _^_}
 use mathlib.Core.Bool.{cond}
 use lib.Dec.{leb}
@@ -9,7 +9,7 @@ digits zero k n = 0
 digits (suc f) k zero = 0
 digits (suc f) k (suc n) = let r = 2 * digits f k (suc n / 2 ^ k) in cond (leb ((r + 1) ^ k) (suc n)) (r + 1) r
 
--- it computes at numerals of any size
+-- it computes at numerals n of any size, where k is not huge
 unfoldable pub root : ℕ → ℕ → ℕ
 unfolding digits
 root k n = digits n k n

@@ -64,7 +64,7 @@ pi = value zero one
 abbrev pub halfPi : Value
 halfPi = value zero half
 
--- "A literal of 2^63 or more [..] is 11"
+-- "A literal of 2^63 or more wraps in the Rust; here it is 11"
 unfoldable pub integer : ℕ → Evaluation
 integer n = cond (inRange n) (rational (ratio false n 1)) evaluation.Overflow
 
