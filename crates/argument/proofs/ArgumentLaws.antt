@@ -17,9 +17,9 @@ use Rattle.model.proofs.Accepted.{Accepted, few-arguments}
 use Rattle.model.proofs.StepsSound.{FrameOk, argument, bit-below, matched}
 use Rattle.value.specs.declared.Value.{Value}
 use Rattle.image.specs.declared.Layout.{Layout}
-use Rattle.image.specs.Firsts.{Firsts}
+use Rattle.image.specs.Firsts.{RegisterStarts}
 use Rattle.argument.specs.declared.Argument.{Argument}
-use Rattle.argument.specs.Frames.{formalsOf, standing, Stands, inRound, partOf, Part, quantumArgument, classicalArgument}
+use Rattle.argument.specs.Frames.{formalsOf, scopeFrame, ScopeContext, inRound, registerArgument, RegisterEntry, quantumArgument, classicalArgument}
 
 -- sizes of 1 at least come to their number at least
 pub count-sum : (f : ℕ → ℕ) (a n : ℕ) → ((r : ℕ) → a ≤ r → r < a + n → 1 ≤ f r) → n ≤ sum (map f (range a n))
@@ -95,7 +95,7 @@ largest-one : (x : ℕ) → x ≡ largest (x ∷ [])
 unfolding largest
 largest-one x = omega arith
 
-module _ {image : List ℕ} {l : Layout} {qs bs : List ℕ} {scope : ℕ} {formals : List ℕ} (s : Stands image l qs bs scope formals) where
+module _ {image : List ℕ} {l : Layout} {qs bs : List ℕ} {scope : ℕ} {formals : List ℕ} (s : ScopeContext image l qs bs scope formals) where
   pub few-quantum : quantumRegisters image ≤ 4096
   unfolding firstQubit
   few-quantum = omega (arith, count-sum (quantumSize image) 0 (quantumRegisters image) (λ r p q. s .accepted .qsizes r (omega arith)), s .accepted .fewQubits)
@@ -110,7 +110,7 @@ module _ {image : List ℕ} {l : Layout} {qs bs : List ℕ} {scope : ℕ} {forma
   pub resolved-below : (a i : ℕ) → T (argumentOk image scope a) → (¬ (argumentSize image scope a ≡ 1) → i < argumentSize image scope a) → inRound (resolved a) i < 4096
   resolved-below a i k h = omega (arith, argument image (s .accepted) scope [] (take (formalsOf image scope) formals) a i (s .ready) k h, s .accepted .fewQubits)
 
-  pub qubit-is : (angles : List Value) (a i : ℕ) {x : Argument} {q : ℕ} → x ≡ resolved a → q ≡ inRound x i → q ≡ qubitIn image (standing image scope angles formals) i a
+  pub qubit-is : (angles : List Value) (a i : ℕ) {x : Argument} {q : ℕ} → x ≡ resolved a → q ≡ inRound x i → q ≡ qubitIn image (scopeFrame image scope angles formals) i a
   unfolding qubitIn
   qubit-is angles a i e f = f ∙ ap (λ (x : Argument). inRound x i) e
 
@@ -171,13 +171,13 @@ module _ {image : List ℕ} {l : Layout} {qs bs : List ℕ} {scope : ℕ} {forma
             same-argument (ap (λ (n : ℕ). getD formals n 0) read ∙ body-first image (s .accepted) formals a scope h k) (body-size image (s .accepted) formals a scope h),
           )
 
-      pub quantum-is : scope ≡ 0 → partOf image 9 at ≡ resolved a
+      pub quantum-is : scope ≡ 0 → registerArgument image 9 at ≡ resolved a
       unfolding firstQubit
       quantum-is h =
-          ap (partOf image 9) ea
+          ap (registerArgument image 9) ea
           ∙ same-argument (main-first image (s .accepted) formals a scope (take (formalsOf image scope) formals) h) (main-size image (s .accepted) formals a scope h)
 
-      pub quantum-part : scope ≡ 0 → Part image qs 9 at
+      pub quantum-part : scope ≡ 0 → RegisterEntry image qs 9 at
       unfolding firstQubit
       quantum-part h =
           let m = main-register image (s .accepted) formals a scope h k in
@@ -195,9 +195,9 @@ module _ {image : List ℕ} {l : Layout} {qs bs : List ℕ} {scope : ℕ} {forma
       unfolding classicalArgumentOk
       register-listed = (ltb→lt _ _ (test 0 _ k), leb→le _ _ (test 1 _ k))
 
-      pub classical-is : {c : ℕ} → c ≡ 9 + quantumRegisters image → partOf image c at ≡ classicalArgument image a
+      pub classical-is : {c : ℕ} → c ≡ 9 + quantumRegisters image → registerArgument image c at ≡ classicalArgument image a
       unfolding firstBit classicalArgumentSize
-      classical-is e = ap₂ (partOf image) e ea
+      classical-is e = ap₂ (registerArgument image) e ea
 
       bit-size : 1 ≤ classicalArgumentSize image a
       unfolding classicalArgumentSize
@@ -207,12 +207,12 @@ module _ {image : List ℕ} {l : Layout} {qs bs : List ℕ} {scope : ℕ} {forma
       unfolding bitIn
       bit-first = omega (arith, bit-below image (s .accepted) a 0 k (λ n. bit-size), s .accepted .fewBits)
 
-      pub classical-part : {c : ℕ} → c ≡ 9 + quantumRegisters image → Part image bs c at
+      pub classical-part : {c : ℕ} → c ≡ 9 + quantumRegisters image → RegisterEntry image bs c at
       unfolding firstBit
       classical-part {c} e =
           record {
             count = classicalRegisters image;
-            table = subst (λ (n : ℕ). Firsts (λ i. word image (n + i)) (classicalRegisters image) bs) (sym e) (s .classical);
+            table = subst (λ (n : ℕ). RegisterStarts (λ i. word image (n + i)) (classicalRegisters image) bs) (sym e) (s .classical);
             few = few-classical;
             listed = subst (λ (n : ℕ). word image n < classicalRegisters image) (sym ea) (register-listed .0);
             below = subst (λ (x : Argument). x .first < 4096) (sym (classical-is e)) bit-first;
@@ -224,17 +224,17 @@ unfolding bitIn
 bit-is image c i e f = f ∙ ap (λ (y : Argument). inRound y i) e
 
 -- what the words at a place say
-module _ {image firsts : List ℕ} {sizes at : ℕ} (p : Part image firsts sizes at) {r j : ℕ} (er : r ≡ word image at) (ej : j ≡ word image (at + 1)) where
+module _ {image firsts : List ℕ} {sizes at : ℕ} (p : RegisterEntry image firsts sizes at) {r j : ℕ} (er : r ≡ word image at) (ej : j ≡ word image (at + 1)) where
   starts : getD firsts r 0 ≡ sum (map (λ i. word image (sizes + i)) (range 0 (word image at)))
   starts = ap (λ (n : ℕ). getD firsts n 0) er ∙ p .table .each (word image at) (p .listed)
 
-  begins : getD firsts r 0 + (j - 1) ≡ partOf image sizes at .first
+  begins : getD firsts r 0 + (j - 1) ≡ registerArgument image sizes at .first
   begins = ap₂ (λ (m n : ℕ). m + (n - 1)) starts ej
 
-  pub part-index : ¬ (j ≡ 0) → (getD firsts r 0 + (j - 1) < 4096) × (_≡_ {A = Argument} (record { first = getD firsts r 0 + (j - 1); size = 1 }) (partOf image sizes at))
+  pub part-index : ¬ (j ≡ 0) → (getD firsts r 0 + (j - 1) < 4096) × (_≡_ {A = Argument} (record { first = getD firsts r 0 + (j - 1); size = 1 }) (registerArgument image sizes at))
   part-index n = (omega (arith, begins, p .below), same-argument begins (sym (rw (ne-eqb (word image (at + 1)) 0 (λ e. n (ej ∙ e))) refl)))
 
-  pub part-whole : j ≡ 0 → {z : ℕ} → z ≡ word image (sizes + r) → _≡_ {A = Argument} (record { first = getD firsts r 0; size = z }) (partOf image sizes at)
+  pub part-whole : j ≡ 0 → {z : ℕ} → z ≡ word image (sizes + r) → _≡_ {A = Argument} (record { first = getD firsts r 0; size = z }) (registerArgument image sizes at)
   part-whole n ez =
       let f : getD firsts r 0 ≡ getD firsts r 0 + (j - 1) = omega (arith, n) in
       same-argument (f ∙ begins) (ez ∙ ap (λ (m : ℕ). word image (sizes + m)) er ∙ sym (rw (eq-eqb (word image (at + 1)) 0 (sym ej ∙ n)) refl))

@@ -6,7 +6,7 @@ ghost use Prim.Native.Nat.{_^_, _<_};
 ghost use Rattle.model.specs.Lists.{range};
 ghost use Rattle.model.specs.Image.{rounds};
 ghost use Rattle.model.specs.Check.{argumentOk, classicalArgumentOk};
-ghost use Rattle.argument.specs.Frames.{Stands, inRound, Part, partOf, quantumArgument, classicalArgument, Called, QubitsAre};
+ghost use Rattle.argument.specs.Frames.{ScopeContext, inRound, RegisterEntry, registerArgument, quantumArgument, classicalArgument, CallArguments, RoundQubits};
 
 // An argument's first qubit or bit, and its size.
 pub struct Argument {
@@ -16,8 +16,8 @@ pub struct Argument {
 
 // A part of a register or the whole of it, by the two words at a place. The registers' sizes stand from another place on.
 fn register_part(image: &[u64], firsts: &[u64], sizes: u64, at: u64) -> Argument
-    requires { ⌜ Part (now image) (now firsts) sizes at ⌝ }
-    ensures { λ r. ⌜ r ≡ partOf (now (image .entry)) sizes at ⌝ }
+    requires { ⌜ RegisterEntry (now image) (now firsts) sizes at ⌝ }
+    ensures { λ r. ⌜ r ≡ registerArgument (now (image .entry)) sizes at ⌝ }
 {
     let register = image::word(image, at);
     let index = image::word(image, at + 1);
@@ -44,7 +44,7 @@ pub fn resolve_qreg(
     formals: &[u64; 16],
     a: u64,
 ) -> Argument
-    requires { ⌜ Stands (now image) l (now qubits) (now bits) scope (now formals) × (a < l .arguments) × T (argumentOk (now image) scope a) ⌝ }
+    requires { ⌜ ScopeContext (now image) l (now qubits) (now bits) scope (now formals) × (a < l .arguments) × T (argumentOk (now image) scope a) ⌝ }
     ensures { λ r. ⌜ r ≡ quantumArgument (now (image .entry)) scope (now (formals .entry)) a ⌝ }
 {
     let at = image::argument_at(image, l, a);
@@ -68,7 +68,7 @@ pub fn resolve_creg(
     formals: &[u64; 16],
     a: u64,
 ) -> Argument
-    requires { ⌜ Stands (now image) l (now qubits) (now bits) scope (now formals) × (a < l .arguments) × T (classicalArgumentOk (now image) a) ⌝ }
+    requires { ⌜ ScopeContext (now image) l (now qubits) (now bits) scope (now formals) × (a < l .arguments) × T (classicalArgumentOk (now image) a) ⌝ }
     ensures { λ r. ⌜ r ≡ classicalArgument (now (image .entry)) a ⌝ }
 {
     let at = image::argument_at(image, l, a);
@@ -95,8 +95,8 @@ pub fn qubits_in(
     n: u64,
     i: u64,
 ) -> [u64; 16]
-    requires { ⌜ Stands (now image) l (now qubits) (now bits) scope (now formals) × Called (now image) l scope a n × (i < rounds (now image) scope (range a n)) ⌝ }
-    ensures { λ r. ⌜ QubitsAre (now (image .entry)) scope (now (formals .entry)) a n i r ⌝ }
+    requires { ⌜ ScopeContext (now image) l (now qubits) (now bits) scope (now formals) × CallArguments (now image) l scope a n × (i < rounds (now image) scope (range a n)) ⌝ }
+    ensures { λ r. ⌜ RoundQubits (now (image .entry)) scope (now (formals .entry)) a n i r ⌝ }
 {
     let mut found = [0u64; 16];
     let mut j = 0u64;

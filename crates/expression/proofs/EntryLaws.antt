@@ -20,7 +20,7 @@ use Rattle.model.specs.Evaluate.{unary, binary, valueOf, evaluate}
 use Rattle.model.proofs.All.{test}
 use Rattle.model.proofs.EvaluateLaws.{operand, node}
 use Rattle.image.proofs.KindLaws.{entry-is}
-use Rattle.expression.specs.Operands.{Formed, NoValue}
+use Rattle.expression.specs.Operands.{AcceptedExpression, NoValue}
 use Rattle.expression.specs.Table.{Constant}
 
 module _ (image : List ℕ) (v : ℕ) (op : ℕ → Bool) (p a b : ℕ) where
@@ -61,13 +61,13 @@ module _ (image : List ℕ) (v : ℕ) (op : ℕ → Bool) (p a b : ℕ) where
   kinds (suc (suc (suc (suc (suc (suc (suc (suc (suc (suc (suc (suc (suc (suc (suc zero))))))))))))))) t = one 15 (omega arith) (omega arith) (test 0 _ t)
   kinds (suc (suc (suc (suc (suc (suc (suc (suc (suc (suc (suc (suc (suc (suc (suc (suc n)))))))))))))))) t = absurd t
 
-module _ (image : List ℕ) (e : ℕ) (f : Formed image e) where
+module _ (image : List ℕ) (e : ℕ) (f : AcceptedExpression image e) where
   pub inside : e < expressions image
   unfolding expressionOk
   inside = ltb→lt e (expressions image) (test 0 _ (f .formed))
 
 -- an entry as its words were read
-module _ (image : List ℕ) (values : List Value) (e : ℕ) (f : Formed image e) (p kind a b : ℕ) (ep : p ≡ expressionAt image e) (ek : kind ≡ word image p) (ea : a ≡ word image (p + 1)) (eb : b ≡ word image (p + 2)) where
+module _ (image : List ℕ) (values : List Value) (e : ℕ) (f : AcceptedExpression image e) (p kind a b : ℕ) (ep : p ≡ expressionAt image e) (ek : kind ≡ word image p) (ea : a ≡ word image (p + 1)) (eb : b ≡ word image (p + 2)) where
   read : expression image e ≡ expressionOf kind a b
   read = entry-is image e p kind a b ep ek ea eb
 
@@ -78,7 +78,7 @@ module _ (image : List ℕ) (values : List Value) (e : ℕ) (f : Formed image e)
   value-is = node image (f .variables) values 32 e (f .formed) .1 ∙ ap (valueOf values (evaluate image values 32)) read
 
   -- an operand is an accepted entry of smaller number
-  pub below : (i : ℕ) → T (operand image (f .variables) values 32 e i) → (i < e) × Formed image i
+  pub below : (i : ℕ) → T (operand image (f .variables) values 32 e i) → (i < e) × AcceptedExpression image i
   below i t = (ltb→lt i e (test 0 _ t), record { variables = f .variables; few = f .few; formed = test 1 _ t })
 
 -- ---- the value of an entry with operands
@@ -151,7 +151,7 @@ leaf-constant xs ys f g a b (suc zero) h = refl
 leaf-constant xs ys f g a b (suc (suc zero)) h = refl
 leaf-constant xs ys f g a b (suc (suc (suc n))) h = absurd (omega arith)
 
-module _ (image : List ℕ) (e : ℕ) (f : Formed image e) (p kind a b : ℕ) (ep : p ≡ expressionAt image e) (ek : kind ≡ word image p) (ea : a ≡ word image (p + 1)) (eb : b ≡ word image (p + 2)) where
+module _ (image : List ℕ) (e : ℕ) (f : AcceptedExpression image e) (p kind a b : ℕ) (ep : p ≡ expressionAt image e) (ek : kind ≡ word image p) (ea : a ≡ word image (p + 1)) (eb : b ≡ word image (p + 2)) where
   alike : (xs ys : List Value) → valueOf xs (evaluate image xs 32) (expressionOf kind a b) ≡ valueOf ys (evaluate image ys 32) (expressionOf kind a b) → evaluate image xs 32 e ≡ evaluate image ys 32 e
   alike xs ys h = value-is image xs e f p kind a b ep ek ea eb ∙ h ∙ sym (value-is image ys e f p kind a b ep ek ea eb)
 

@@ -30,7 +30,7 @@ use Rattle.writer.specs.declared.LinearizeErrorKind.{LinearizeErrorKind}
 use Rattle.writer.specs.declared.LinearizeErrorKind.the-variants as kind
 use Rattle.writer.specs.declared.Linearized.the-variants as linearized
 use Rattle.writer.specs.Promise.{SoundAngles}
-use Rattle.expression.specs.Operands.{NoValue, Refuses, Given}
+use Rattle.expression.specs.Operands.{NoValue, RefusalOf, ParametersGiven}
 
 -- sixteen angles, one of them put in anew
 put-sound : (found : List Value) (i : ℕ) (x : Value) → i < 16 → SoundAngles found → Sound x → SoundAngles (set found i x)
@@ -42,19 +42,19 @@ put-sound found i x l s h = record { full = length-set found i x ∙ s .full; ea
 
 -- ---- what is told of each refusal
 
-pub refuses-division : (r : Evaluation) (p : ℕ) → r ≡ evaluation.DivideByZero → Refuses r p (kind.DivideByZero p)
+pub refuses-division : (r : Evaluation) (p : ℕ) → r ≡ evaluation.DivideByZero → RefusalOf r p (kind.DivideByZero p)
 unfolding also
 refuses-division r p e = record { why = DivideByZero p; lacks = λ later. rw e refl; told = λ t. refl }
 
-pub refuses-float : (r : Evaluation) (p : ℕ) (f : Float) → r ≡ evaluation.ApproximateFail f → Refuses r p (kind.ApproximateFail p f)
+pub refuses-float : (r : Evaluation) (p : ℕ) (f : Float) → r ≡ evaluation.ApproximateFail f → RefusalOf r p (kind.ApproximateFail p f)
 unfolding also
 refuses-float r p f e = record { why = ApproximateFail p (floatBits f); lacks = λ later. rw e refl; told = λ t. refl }
 
-pub refuses-function : (r : Evaluation) (p : ℕ) → r ≡ evaluation.FunctionOfFloats → Refuses r p (kind.FunctionOfFloats p)
+pub refuses-function : (r : Evaluation) (p : ℕ) → r ≡ evaluation.FunctionOfFloats → RefusalOf r p (kind.FunctionOfFloats p)
 unfolding also
 refuses-function r p e = record { why = FunctionOfFloats p; lacks = λ later. rw e refl; told = λ t. refl }
 
-pub refuses-overflow : (r : Evaluation) (p : ℕ) → OneOf (0 ∷ 2 ∷ []) (tagOf the-type r) → NoValue r → Refuses r p (kind.NumericalOverflow p)
+pub refuses-overflow : (r : Evaluation) (p : ℕ) → OneOf (0 ∷ 2 ∷ []) (tagOf the-type r) → NoValue r → RefusalOf r p (kind.NumericalOverflow p)
 unfolding also
 refuses-overflow (evaluation.Value x) p k n = absurd (n x refl)
 refuses-overflow evaluation.Overflow p k n = record { why = NumericalOverflow p; lacks = λ later. refl; told = λ t. refl }
@@ -128,11 +128,11 @@ module _ (image : List ℕ) (angles : List Value) (f : ℕ → ℕ) where
     front = rw (add-one i) (one-more 0 i i (take i found) x (omega arith) (k .front) (ap (evaluate image angles 32) (sym q) ∙ sym (t .is) ∙ h) ∙ ap have (sym (take-suc-set found i x (omega (arith, k .sound .full)))));
   }
 
-  pub front-done : (i n : ℕ) (found : List Value) (at : Position) → i ≤ n → n ≤ i → Front i found → Given (values 0 n) n at (linearized.Done at) found
+  pub front-done : (i n : ℕ) (found : List Value) (at : Position) → i ≤ n → n ≤ i → Front i found → ParametersGiven (values 0 n) n at (linearized.Done at) found
   front-done i n found at h l k = record { sound = k .sound; ends = (refl, subst (λ (m : ℕ). values 0 m ≡ have (take m found)) (le-antisymm h l) (k .front)) }
 
-  pub front-refuses : (i n e p : ℕ) (found : List Value) (r : Evaluation) (why : LinearizeErrorKind) (at : Position) → i < n → Front i found → e ≡ f i → p ≡ expressionAt image e → EvaluatesTo (evaluate image angles 32 e) r → Refuses r p why
-      → Given (values 0 n) n at (linearized.Refused (record { kind = why; at = at })) found
+  pub front-refuses : (i n e p : ℕ) (found : List Value) (r : Evaluation) (why : LinearizeErrorKind) (at : Position) → i < n → Front i found → e ≡ f i → p ≡ expressionAt image e → EvaluatesTo (evaluate image angles 32 e) r → RefusalOf r p why
+      → ParametersGiven (values 0 n) n at (linearized.Refused (record { kind = why; at = at })) found
   front-refuses i n e p found r why at l k q qp t h =
       let lacks : (later : Values) → also (valued i) (expressionAt image (f i)) later ≡ lack (h .why) = λ later. sym (rw (sym q, sym (t .is), sym qp) refl) ∙ h .lacks later in
       record { sound = k .sound; ends = (refl, (h .why, refuses-behind 0 i n i (take i found) (h .why) l (omega arith) (k .front) lacks, h .told)) }

@@ -16,7 +16,7 @@ use Rattle.value.specs.Value.{Sound, value}
 use Rattle.value.specs.Promise.{EvaluatesTo}
 use Rattle.model.specs.Image.{expressions}
 use Rattle.model.specs.Evaluate.{evaluate}
-use Rattle.expression.specs.Table.{denominatorOf, partAt, signOf, putPart, valueAt, putValue, constantAt, keptAt, Constant, Fixed, Stored, Keeps}
+use Rattle.expression.specs.Table.{denominatorOf, partAt, signOf, putPart, valueAt, putValue, constantAt, keptAt, Constant, ConstantsKept, ValueStored, ValuesKept}
 
 -- ---- three words
 
@@ -137,10 +137,10 @@ value-set t k v p a b c d e f =
 
 -- ---- values that are kept
 
-pub mark-length : {known known′ : List Bool} {t t′ : List ℕ} {e : ℕ} {x : Value} {n : ℕ} → Stored known t e x known′ t′ → length t ≡ n → length (set t′ (7 * e) 1) ≡ n
+pub mark-length : {known known′ : List Bool} {t t′ : List ℕ} {e : ℕ} {x : Value} {n : ℕ} → ValueStored known t e x known′ t′ → length t ≡ n → length (set t′ (7 * e) 1) ≡ n
 mark-length {t′ = t′} {e} s q = length-set t′ (7 * e) 1 ∙ s .same ∙ q
 
-pub stored : (known : List Bool) (t t2 : List ℕ) (e : ℕ) (x : Value) → 7 * e + 6 < length t → Sound x → t2 ≡ putValue t (7 * e + 1) x → Stored known t e x (set known e true) t2
+pub stored : (known : List Bool) (t t2 : List ℕ) (e : ℕ) (x : Value) → 7 * e + 6 < length t → Sound x → t2 ≡ putValue t (7 * e + 1) x → ValueStored known t e x (set known e true) t2
 stored known t t2 e x h s q =
     record {
       marked = refl;
@@ -151,33 +151,33 @@ stored known t t2 e x h s q =
     }
 
 -- no entry is marked in words that are all 0
-pub fixed-none : (image : List ℕ) (n : ℕ) → 7 * expressions image ≤ n → Fixed image (replicate n 0)
+pub fixed-none : (image : List ℕ) (n : ℕ) → 7 * expressions image ≤ n → ConstantsKept image (replicate n 0)
 fixed-none image n h = record { room = subst (λ (k : ℕ). 7 * expressions image ≤ k) (sym (length-replicate n 0)) h; each = λ e l m. absurd (none e l m); sound = λ e l m. absurd (none e l m) }
   where
     none : (e : ℕ) → e < expressions image → constantAt (replicate n 0) e ≡ 1 → ⊥
     none e l m = let z : ℕ = 0 in let q : getD (replicate n 0) (7 * e) 0 ≡ z = getD-replicate n (7 * e) 0 0 (omega arith) in omega arith
 
 -- what is marked as a constant is one
-pub fixed-constant : (image t : List ℕ) (e : ℕ) → Fixed image t → e < expressions image → constantAt t e ≡ 1 → Constant image e
+pub fixed-constant : (image t : List ℕ) (e : ℕ) → ConstantsKept image t → e < expressions image → constantAt t e ≡ 1 → Constant image e
 fixed-constant image t e f h m xs ys = f .each e h m xs ∙ sym (f .each e h m ys)
 
 module _ (image : List ℕ) (angles : List Value) where
-  pub keeps-none : (t : List ℕ) → expressions image ≤ 2728 → Fixed image t → Keeps image angles (replicate 2728 false) t
+  pub keeps-none : (t : List ℕ) → expressions image ≤ 2728 → ConstantsKept image t → ValuesKept image angles (replicate 2728 false) t
   keeps-none t few f = record { fixed = f; each = λ e l k. absurd (none e l k); sound = λ e l k. absurd (none e l k) }
     where
       none : (e : ℕ) → e < expressions image → getD (replicate 2728 false) e false ≡ true → ⊥
       none e l k = subst T (sym (sym (getD-replicate 2728 e false false (omega arith)) ∙ k)) tt
 
   -- a value that is known, or a constant's, is an entry's
-  pub known-value : (known : List Bool) (t : List ℕ) (e : ℕ) (x : Value) → Keeps image angles known t → e < expressions image → getD known e false ≡ true → x ≡ keptAt t e → EvaluatesTo (evaluate image angles 32 e) (evaluation.Value x)
+  pub known-value : (known : List Bool) (t : List ℕ) (e : ℕ) (x : Value) → ValuesKept image angles known t → e < expressions image → getD known e false ≡ true → x ≡ keptAt t e → EvaluatesTo (evaluate image angles 32 e) (evaluation.Value x)
   known-value known t e x k h m q = record { is = ap evaluation.Value q ∙ sym (k .each e h m); sound = rw q (k .sound e h m) }
 
-  pub constant-value : (t : List ℕ) (e : ℕ) (x : Value) → Fixed image t → e < expressions image → constantAt t e ≡ 1 → x ≡ keptAt t e → EvaluatesTo (evaluate image angles 32 e) (evaluation.Value x)
+  pub constant-value : (t : List ℕ) (e : ℕ) (x : Value) → ConstantsKept image t → e < expressions image → constantAt t e ≡ 1 → x ≡ keptAt t e → EvaluatesTo (evaluate image angles 32 e) (evaluation.Value x)
   constant-value t e x f h m q = record { is = ap evaluation.Value q ∙ sym (f .each e h m angles); sound = rw q (f .sound e h m) }
 
   module _ (known : List Bool) (t : List ℕ) (e : ℕ) where
     -- one more value is known
-    pub keeps-more : (x : Value) (known′ : List Bool) (t′ : List ℕ) (r : Evaluation) → Keeps image angles known t → EvaluatesTo (evaluate image angles 32 e) r → r ≡ evaluation.Value x → Stored known t e x known′ t′ → Keeps image angles known′ t′
+    pub keeps-more : (x : Value) (known′ : List Bool) (t′ : List ℕ) (r : Evaluation) → ValuesKept image angles known t → EvaluatesTo (evaluate image angles 32 e) r → r ≡ evaluation.Value x → ValueStored known t e x known′ t′ → ValuesKept image angles known′ t′
     keeps-more x known′ t′ r k v q s =
         record {
           fixed = record { room = subst (λ (n : ℕ). 7 * expressions image ≤ n) (sym (s .same)) (k .fixed .room); each = λ i l m. constant i l m (eqb i e) refl .0; sound = λ i l m. constant i l m (eqb i e) refl .1 };
@@ -212,7 +212,7 @@ module _ (image : List ℕ) (angles : List Value) where
     stands i = value-set t (7 * e) 1 (7 * i + 1) (λ m. omega arith) (λ m. omega arith) (λ m. omega arith) (λ m. omega arith) (λ m. omega arith) (λ m. omega arith)
 
     -- the value that is kept is marked as a constant's
-    pub keeps-constant : (x : Value) → Keeps image angles known t → EvaluatesTo (evaluate image angles 32 e) (evaluation.Value x) → keptAt t e ≡ x → Constant image e → Keeps image angles known (set t (7 * e) 1)
+    pub keeps-constant : (x : Value) → ValuesKept image angles known t → EvaluatesTo (evaluate image angles 32 e) (evaluation.Value x) → keptAt t e ≡ x → Constant image e → ValuesKept image angles known (set t (7 * e) 1)
     keeps-constant x k v q c =
         record {
           fixed = record { room = subst (λ (n : ℕ). 7 * expressions image ≤ n) (sym (length-set t (7 * e) 1)) (k .fixed .room); each = λ i l m. constant i l m (eqb i e) refl .0; sound = λ i l m. constant i l m (eqb i e) refl .1 };

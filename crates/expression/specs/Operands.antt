@@ -17,25 +17,25 @@ use Rattle.writer.specs.declared.Position.{Position}
 use Rattle.writer.specs.declared.LinearizeErrorKind.{LinearizeErrorKind}
 use Rattle.writer.specs.declared.Linearized.{Linearized}
 use Rattle.writer.specs.declared.Linearized.the-variants as linearized
-use Rattle.writer.specs.Promise.{SoundAngles, answerTo}
+use Rattle.writer.specs.Promise.{SoundAngles, refusalAnswer}
 
 -- an entry of a kind whose operands have the values x and y
-pub record OverTwo (kind : ℕ) (x y : Value) (r : Evaluation) : Type 0 where
+pub record BinaryResult (kind : ℕ) (x y : Value) (r : Evaluation) : Type 0 where
   pub told : (values : List Value) (operand : ℕ → Evaluation) (a b : ℕ) → operand a ≡ evaluation.Value x → operand b ≡ evaluation.Value y → r ≡ valueOf values operand (expressionOf kind a b)
   pub sound : SoundEvaluation r
 
 -- one whose only operand has the value x
-pub record OverOne (kind : ℕ) (x : Value) (r : Evaluation) : Type 0 where
+pub record UnaryResult (kind : ℕ) (x : Value) (r : Evaluation) : Type 0 where
   pub told : (values : List Value) (operand : ℕ → Evaluation) (a b : ℕ) → operand a ≡ evaluation.Value x → r ≡ valueOf values operand (expressionOf kind a b)
   pub sound : SoundEvaluation r
 
 -- one without operands, where the parameters have these values
-pub record OverNone (values : List Value) (kind a : ℕ) (r : Evaluation) : Type 0 where
+pub record LeafResult (values : List Value) (kind a : ℕ) (r : Evaluation) : Type 0 where
   pub told : (operand : ℕ → Evaluation) (b : ℕ) → r ≡ valueOf values operand (expressionOf kind a b)
   pub sound : SoundEvaluation r
 
 -- an expression that the check accepts: of at most 32 levels, with some variables that a gate may have
-pub record Formed (image : List ℕ) (e : ℕ) : Type 0 where
+pub record AcceptedExpression (image : List ℕ) (e : ℕ) : Type 0 where
   pub variables : ℕ
   pub few : variables ≤ 16
   pub formed : T (expressionOk image variables 32 e)
@@ -45,22 +45,22 @@ abbrev pub NoValue : Evaluation → Type 0
 NoValue r = (x : Value) → ¬ (r ≡ evaluation.Value x)
 
 -- one of an expression at a place, and what is told of it
-pub record Refuses (r : Evaluation) (place : ℕ) (kind : LinearizeErrorKind) : Type 0 where
+pub record RefusalOf (r : Evaluation) (place : ℕ) (kind : LinearizeErrorKind) : Type 0 where
   pub why : Refusal
   pub lacks : (later : Values) → also r place later ≡ lack why
-  pub told : (t : List ℕ) → answerTo kind t ≡ refused t why
+  pub told : (t : List ℕ) → refusalAnswer kind t ≡ refused t why
 
 -- the n words from a place on name accepted expressions
-pub record Named (image : List ℕ) (place n : ℕ) : Type 0 where
+pub record NamesExpressions (image : List ℕ) (place n : ℕ) : Type 0 where
   pub few : n ≤ 16
   pub near : place + n ≤ 16384
-  pub each : (i : ℕ) → i < n → Formed image (word image (place + i))
+  pub each : (i : ℕ) → i < n → AcceptedExpression image (word image (place + i))
 
 -- the values of n expressions stand in front of some angles, or the first of them is refused; nothing is written
 abbrev pub Ends : Values → ℕ → List Value → Position → Linearized → Type 0
 Ends vs n angles at (linearized.Done p) = (p ≡ at) × (vs ≡ have (take n angles))
-Ends vs n angles at (linearized.Refused e) = (e .at ≡ at) × ((x : Refusal) × (vs ≡ lack x) × ((t : List ℕ) → answerTo (e .kind) t ≡ refused t x))
+Ends vs n angles at (linearized.Refused e) = (e .at ≡ at) × ((x : Refusal) × (vs ≡ lack x) × ((t : List ℕ) → refusalAnswer (e .kind) t ≡ refused t x))
 
-pub record Given (vs : Values) (n : ℕ) (at : Position) (r : Linearized) (angles : List Value) : Type 0 where
+pub record ParametersGiven (vs : Values) (n : ℕ) (at : Position) (r : Linearized) (angles : List Value) : Type 0 where
   pub sound : SoundAngles angles
   pub ends : Ends vs n angles at r

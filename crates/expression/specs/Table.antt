@@ -52,19 +52,19 @@ abbrev pub Constant : List ℕ → ℕ → Type 0
 Constant image e = (xs ys : List Value) → evaluate image xs 32 e ≡ evaluate image ys 32 e
 
 -- what is marked as a constant has its value, and there is room for all
-pub record Fixed (image table : List ℕ) : Type 0 where
+pub record ConstantsKept (image table : List ℕ) : Type 0 where
   pub room : 7 * expressions image ≤ length table
   pub each : (e : ℕ) → e < expressions image → constantAt table e ≡ 1 → (xs : List Value) → evaluate image xs 32 e ≡ evaluation.Value (keptAt table e)
   pub sound : (e : ℕ) → e < expressions image → constantAt table e ≡ 1 → Sound (keptAt table e)
 
 -- what is marked as known has its value with the parameters at hand
-pub record Keeps (image : List ℕ) (angles : List Value) (known : List Bool) (table : List ℕ) : Type 0 where
-  pub fixed : Fixed image table
+pub record ValuesKept (image : List ℕ) (angles : List Value) (known : List Bool) (table : List ℕ) : Type 0 where
+  pub fixed : ConstantsKept image table
   pub each : (e : ℕ) → e < expressions image → getD known e false ≡ true → evaluate image angles 32 e ≡ evaluation.Value (keptAt table e)
   pub sound : (e : ℕ) → e < expressions image → getD known e false ≡ true → Sound (keptAt table e)
 
 -- a value is kept as entry e's, which is known then; the others stand as they stood
-pub record Stored (known : List Bool) (table : List ℕ) (e : ℕ) (x : Value) (known′ : List Bool) (table′ : List ℕ) : Type 0 where
+pub record ValueStored (known : List Bool) (table : List ℕ) (e : ℕ) (x : Value) (known′ : List Bool) (table′ : List ℕ) : Type 0 where
   pub marked : known′ ≡ set known e true
   pub same : length table′ ≡ length table
   pub constants : (i : ℕ) → constantAt table′ i ≡ constantAt table i

@@ -19,9 +19,9 @@ ghost use Rattle.model.specs.Image.{word};
 ghost use Rattle.model.specs.Evaluate.{evaluate, zeroValue};
 ghost use Rattle.model.specs.Steps.{parameterValues};
 ghost use Rattle.writer.specs.Promise.{SoundAngles};
-ghost use Rattle.image.specs.Layout.{Laid};
-ghost use Rattle.expression.specs.Table.{denominatorOf, partAt, valueAt, signOf, putPart, putValue, anglesIn, Constant, Fixed, Stored, Keeps};
-ghost use Rattle.expression.specs.Operands.{OverTwo, OverOne, OverNone, Formed, NoValue, Refuses, Named, Given};
+ghost use Rattle.image.specs.Layout.{LayoutOf};
+ghost use Rattle.expression.specs.Table.{denominatorOf, partAt, valueAt, signOf, putPart, putValue, anglesIn, Constant, ConstantsKept, ValueStored, ValuesKept};
+ghost use Rattle.expression.specs.Operands.{BinaryResult, UnaryResult, LeafResult, AcceptedExpression, NoValue, RefusalOf, NamesExpressions, ParametersGiven};
 
 // ---- angles in words: an array of numbers can be lent, an array of angles cannot
 
@@ -102,7 +102,7 @@ pub fn values_in(words: &[u64; 96]) -> [Value; 16]
 // The value of an entry of a kind from 0 to 3, which has no operand.
 fn leaf(variables: &[u64; 96], kind: u64, a: u64) -> Evaluation
     requires { ⌜ SoundAngles (anglesIn (now variables)) × (kind < 4) × ((kind ≡ 1) → a < 2 ^ 32) × ((kind ≡ 3) → a < 16) ⌝ }
-    ensures { λ r. ⌜ OverNone (anglesIn (now (variables .entry))) kind a r ⌝ }
+    ensures { λ r. ⌜ LeafResult (anglesIn (now (variables .entry))) kind a r ⌝ }
 {
     match kind {
         0 => Evaluation::Value(Value::pi()),
@@ -115,7 +115,7 @@ fn leaf(variables: &[u64; 96], kind: u64, a: u64) -> Evaluation
 // The operation of a kind from 4 to 8 on two angles.
 fn binary(kind: u64, x: Value, y: Value) -> Evaluation
     requires { ⌜ Sound x × Sound y × (4 ≤ kind) × (kind < 9) ⌝ }
-    ensures { λ r. ⌜ OverTwo kind x y r ⌝ }
+    ensures { λ r. ⌜ BinaryResult kind x y r ⌝ }
 {
     match kind {
         4 => x.checked_add(y),
@@ -129,7 +129,7 @@ fn binary(kind: u64, x: Value, y: Value) -> Evaluation
 // The operation of a kind from 9 to 15 on one angle.
 fn unary(kind: u64, x: Value) -> Evaluation
     requires { ⌜ Sound x × (9 ≤ kind) × (kind < 16) ⌝ }
-    ensures { λ r. ⌜ OverOne kind x r ⌝ }
+    ensures { λ r. ⌜ UnaryResult kind x r ⌝ }
 {
     match kind {
         9 => x.checked_neg(),
@@ -147,7 +147,7 @@ fn unary(kind: u64, x: Value) -> Evaluation
 // A value is kept as an entry's, which is known from now on.
 fn keep(known: &mut [bool; 2728], table: &mut [u64], e: u64, x: Value)
     requires { ⌜ (e < 2728) × (7 * e + 6 < length (now table)) × Sound x ⌝ }
-    ensures { λ r. ⌜ Stored (now (known .entry)) (now (table .entry)) e x (now (known .exit)) (now (table .exit)) ⌝ }
+    ensures { λ r. ⌜ ValueStored (now (known .entry)) (now (table .entry)) e x (now (known .exit)) (now (table .exit)) ⌝ }
 {
     put_value(table, 7 * e + 1, x);
     let i = e as usize;
@@ -156,7 +156,7 @@ fn keep(known: &mut [bool; 2728], table: &mut [u64], e: u64, x: Value)
 
 // Whether an entry is a constant for all that is known of its operands: no parameter goes into it.
 fn is_constant(image: &[u64], l: Layout, table: &[u64], e: u64) -> bool
-    requires { ⌜ Laid (now image) l × Formed (now image) e × Fixed (now image) (now table) ⌝ }
+    requires { ⌜ LayoutOf (now image) l × AcceptedExpression (now image) e × ConstantsKept (now image) (now table) ⌝ }
     ensures { λ r. ⌜ ((r ≡ true) → Constant (now (image .entry)) e) ⌝ }
 {
     let at = image::expression_at(image, l, e);
@@ -184,8 +184,8 @@ fn worked_out(
     table: &mut [u64],
     e: u64,
 ) -> Evaluation
-    requires { ⌜ Laid (now image) l × SoundAngles (anglesIn (now variables)) × Formed (now image) e × Keeps (now image) (anglesIn (now variables)) (now known) (now table) ⌝ }
-    ensures { λ r. ⌜ EvaluatesTo (evaluate (now (image .entry)) (anglesIn (now (variables .entry))) 32 e) r × Keeps (now (image .entry)) (anglesIn (now (variables .entry))) (now (known .exit)) (now (table .exit)) ⌝ }
+    requires { ⌜ LayoutOf (now image) l × SoundAngles (anglesIn (now variables)) × AcceptedExpression (now image) e × ValuesKept (now image) (anglesIn (now variables)) (now known) (now table) ⌝ }
+    ensures { λ r. ⌜ EvaluatesTo (evaluate (now (image .entry)) (anglesIn (now (variables .entry))) 32 e) r × ValuesKept (now (image .entry)) (anglesIn (now (variables .entry))) (now (known .exit)) (now (table .exit)) ⌝ }
 {
     let at = image::expression_at(image, l, e);
     let kind = image::word(image, at);
@@ -217,8 +217,8 @@ fn evaluate(
     table: &mut [u64],
     e: u64,
 ) -> Evaluation
-    requires { ⌜ Laid (now image) l × SoundAngles (anglesIn (now variables)) × Formed (now image) e × Keeps (now image) (anglesIn (now variables)) (now known) (now table) ⌝ }
-    ensures { λ r. ⌜ EvaluatesTo (evaluate (now (image .entry)) (anglesIn (now (variables .entry))) 32 e) r × Keeps (now (image .entry)) (anglesIn (now (variables .entry))) (now (known .exit)) (now (table .exit)) ⌝ }
+    requires { ⌜ LayoutOf (now image) l × SoundAngles (anglesIn (now variables)) × AcceptedExpression (now image) e × ValuesKept (now image) (anglesIn (now variables)) (now known) (now table) ⌝ }
+    ensures { λ r. ⌜ EvaluatesTo (evaluate (now (image .entry)) (anglesIn (now (variables .entry))) 32 e) r × ValuesKept (now (image .entry)) (anglesIn (now (variables .entry))) (now (known .exit)) (now (table .exit)) ⌝ }
 {
     let i = e as usize;
     if known[i] {
@@ -246,8 +246,8 @@ fn evaluate_anew(
     table: &mut [u64],
     e: u64,
 ) -> Evaluation
-    requires { ⌜ Laid (now image) l × SoundAngles (anglesIn (now variables)) × Formed (now image) e × Fixed (now image) (now table) ⌝ }
-    ensures { λ r. ⌜ EvaluatesTo (evaluate (now (image .entry)) (anglesIn (now (variables .entry))) 32 e) r × Fixed (now (image .entry)) (now (table .exit)) ⌝ }
+    requires { ⌜ LayoutOf (now image) l × SoundAngles (anglesIn (now variables)) × AcceptedExpression (now image) e × ConstantsKept (now image) (now table) ⌝ }
+    ensures { λ r. ⌜ EvaluatesTo (evaluate (now (image .entry)) (anglesIn (now (variables .entry))) 32 e) r × ConstantsKept (now (image .entry)) (now (table .exit)) ⌝ }
 {
     let i = e as usize;
     if table[7 * i] == 1 {
@@ -284,7 +284,7 @@ pub fn zero() -> Value
 // Why a run ends at an expression at a place that has no angle.
 fn refusal(r: Evaluation, place: u64) -> LinearizeErrorKind
     requires { ⌜ NoValue r ⌝ }
-    ensures { λ kind. ⌜ Refuses r place kind ⌝ }
+    ensures { λ kind. ⌜ RefusalOf r place kind ⌝ }
 {
     match r {
         Evaluation::DivideByZero => LinearizeErrorKind::DivideByZero(place),
@@ -305,8 +305,8 @@ pub fn parameters(
     given: &mut [u64],
     at: Position,
 ) -> Linearized
-    requires { ⌜ Laid (now image) l × SoundAngles (anglesIn (now variables)) × Named (now image) place n × Fixed (now image) (now table) × SoundAngles (anglesIn (now given)) × (6 * n ≤ length (now given)) ⌝ }
-    ensures { λ r. ⌜ Given (parameterValues (now (image .entry)) (anglesIn (now (variables .entry))) (map (λ i. word (now (image .entry)) (place + i)) (range 0 n))) n at r (anglesIn (now (given .exit))) × Fixed (now (image .entry)) (now (table .exit)) ⌝ }
+    requires { ⌜ LayoutOf (now image) l × SoundAngles (anglesIn (now variables)) × NamesExpressions (now image) place n × ConstantsKept (now image) (now table) × SoundAngles (anglesIn (now given)) × (6 * n ≤ length (now given)) ⌝ }
+    ensures { λ r. ⌜ ParametersGiven (parameterValues (now (image .entry)) (anglesIn (now (variables .entry))) (map (λ i. word (now (image .entry)) (place + i)) (range 0 n))) n at r (anglesIn (now (given .exit))) × ConstantsKept (now (image .entry)) (now (table .exit)) ⌝ }
 {
     let mut i = 0;
     while i < n {

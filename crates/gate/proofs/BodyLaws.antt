@@ -19,12 +19,12 @@ use Rattle.model.proofs.StepsSound.{Declared, all-below}
 use Rattle.model.proofs.TraceLaws.{under, opening-under}
 use Rattle.image.specs.declared.Layout.{Layout}
 use Rattle.gate.specs.declared.Call.{Call}
-use Rattle.argument.specs.Frames.{standing, formalsOf, Stands, QubitsAre}
-use Rattle.gate.specs.Running.{plainSteps, Calls, callSteps}
+use Rattle.argument.specs.Frames.{scopeFrame, formalsOf, ScopeContext, RoundQubits}
+use Rattle.gate.specs.Running.{plainSteps, CallStatement, callSteps}
 
 -- ---- a round of a call
 
-module _ {image : List ℕ} {l : Layout} {qs bs : List ℕ} {scope : ℕ} {formals : List ℕ} (st : Stands image l qs bs scope formals) {s : ℕ} {call : Call} (c : Calls image l scope s call) where
+module _ {image : List ℕ} {l : Layout} {qs bs : List ℕ} {scope : ℕ} {formals : List ℕ} (st : ScopeContext image l qs bs scope formals) {s : ℕ} {call : Call} (c : CallStatement image l scope s call) where
   -- what it says of its gate
   arguments-are : call .arguments ≡ gateArguments image (call .gate)
   arguments-are = ap (λ (x : Call). x .arguments) (c .told) ∙ sym (ap (λ (x : Call). gateArguments image (x .gate)) (c .told))
@@ -39,11 +39,11 @@ module _ {image : List ℕ} {l : Layout} {qs bs : List ℕ} {scope : ℕ} {forma
   place-is = ap (λ (x : Call). x .place) (c .told)
 
   -- the frame that it opens a body with
-  module _ {i : ℕ} {q : List ℕ} (k : QubitsAre image scope formals (call .argument) (call .arguments) i q) where
-    new-qubits : take (gateArguments image (call .gate)) q ≡ map (qubitIn image (standing image scope [] formals) i) (range (call .argument) (call .arguments))
+  module _ {i : ℕ} {q : List ℕ} (k : RoundQubits image scope formals (call .argument) (call .arguments) i q) where
+    new-qubits : take (gateArguments image (call .gate)) q ≡ map (qubitIn image (scopeFrame image scope [] formals) i) (range (call .argument) (call .arguments))
     new-qubits = ap (λ (n : ℕ). take n q) (sym arguments-are) ∙ k .front
 
-    pub opened-stands : i < rounds image scope (range (call .argument) (call .arguments)) → Stands image l qs bs (suc (call .gate)) q
+    pub opened-stands : i < rounds image scope (range (call .argument) (call .arguments)) → ScopeContext image l qs bs (suc (call .gate)) q
     unfolding formalsOf
     opened-stands h =
         record {
@@ -57,23 +57,23 @@ module _ {image : List ℕ} {l : Layout} {qs bs : List ℕ} {scope : ℕ} {forma
             omega arith,
             length-take (gateArguments image (call .gate)) q ∙ omega (arith, arguments-are, c .arguments-fit .few, k .full),
             subst (Declared image (st .accepted)) (sym new-qubits)
-                (all-below image (st .accepted) (standing image scope [] formals) (st .ready) i (range (call .argument) (call .arguments)) (all-All _ _ (c .arguments-fit .each)) (c .arguments-fit .match) h),
+                (all-below image (st .accepted) (scopeFrame image scope [] formals) (st .ready) i (range (call .argument) (call .arguments)) (all-All _ _ (c .arguments-fit .each)) (c .arguments-fit .match) h),
           );
         }
 
     -- the round's steps: those of the opened gate under the call's pair of words
     pub body-round : (left : ℕ) (angles new : List Value) → ¬ (call .body ≡ 0)
-        → map (under (scope ∷ call .place ∷ [])) (openGate image (opening image left) (standing image (suc (call .gate)) new q) (call .gate))
-        ≡ visitGate image (opening image left) (standing image scope angles formals) s (call .gate) (range (call .argument) (call .arguments)) (take (call .parameters) new) i
+        → map (under (scope ∷ call .place ∷ [])) (openGate image (opening image left) (scopeFrame image (suc (call .gate)) new q) (call .gate))
+        ≡ visitGate image (opening image left) (scopeFrame image scope angles formals) s (call .gate) (range (call .argument) (call .arguments)) (take (call .parameters) new) i
     unfolding visitGate pushFrame formalsOf variables qubitIn
     body-round left angles new h =
-        sym (opening-under (scope ∷ call .place ∷ []) image left (standing image (suc (call .gate)) new q) (call .gate))
+        sym (opening-under (scope ∷ call .place ∷ []) image left (scopeFrame image (suc (call .gate)) new q) (call .gate))
         ∙ rw (ne-eqb (gateBody image (call .gate)) 0 (λ e. h (body-is ∙ e)), new-qubits, parameters-are, place-is) refl
 
   -- an opaque gate's rounds
   pub opaque-rounds : (left : ℕ) (angles : List Value) (xs : List Value) → call .body ≡ 0
-      → inRounds (rounds image scope (range (call .argument) (call .arguments))) (writeOpaque image (standing image scope [] formals) (call .gate) (range (call .argument) (call .arguments)) xs)
-      ≡ callSteps image left (standing image scope angles formals) s call xs
+      → inRounds (rounds image scope (range (call .argument) (call .arguments))) (writeOpaque image (scopeFrame image scope [] formals) (call .gate) (range (call .argument) (call .arguments)) xs)
+      ≡ callSteps image left (scopeFrame image scope angles formals) s call xs
   unfolding visitGate writeOpaque qubitIn
   opaque-rounds left angles xs h =
       ap (inRounds (rounds image scope (range (call .argument) (call .arguments)))) (fun-ext λ i. rw (eq-eqb (gateBody image (call .gate)) 0 (sym body-is ∙ h)) refl)
@@ -125,7 +125,7 @@ module _ (image : List ℕ) (acc : Accepted image) where
 
 module _ (image : List ℕ) (g left : ℕ) (angles : List Value) (q : List ℕ) where
   abbrev opened : Frame
-  opened = standing image (suc g) angles q
+  opened = scopeFrame image (suc g) angles q
 
   pub cut-steps : left ≡ 0 → _≡_ {A = List Step} (write [] (Record.Opaque g [] (take (gateArguments image g) q)) ∷ []) (openGate image (opening image left) opened g)
   unfolding openGate opening formalsOf
@@ -142,5 +142,5 @@ module _ (image : List ℕ) (g left : ℕ) (angles : List Value) (q : List ℕ) 
       ∙ rw (← run) refl ∙ ap (λ (k : ℕ). openGate image (opening image k) opened g) e
 
 -- a gate has at most 16 arguments
-pub few-arguments : {image : List ℕ} {l : Layout} {qs bs : List ℕ} {g : ℕ} {formals : List ℕ} → Stands image l qs bs (suc g) formals → g < l .gates → gateArguments image g ≤ 16
+pub few-arguments : {image : List ℕ} {l : Layout} {qs bs : List ℕ} {g : ℕ} {formals : List ℕ} → ScopeContext image l qs bs (suc g) formals → g < l .gates → gateArguments image g ≤ 16
 few-arguments {image} {g = g} st h = accepted.few-arguments (st .accepted) g (omega (arith, h, st .laid .gates-is))

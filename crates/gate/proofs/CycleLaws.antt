@@ -12,15 +12,15 @@ use Rattle.model.specs.Steps.{Frame, Step, qubitIn, pushFrame, writeOpaque, vis
 use Rattle.model.proofs.Facts.{PlainFacts}
 use Rattle.image.specs.declared.Layout.{Layout}
 use Rattle.image.specs.declared.Span.{Span}
-use Rattle.image.specs.Layout.{Holds}
+use Rattle.image.specs.Layout.{StatementsOf}
 use Rattle.image.proofs.KindLaws.{words-are}
 use Rattle.writer.specs.declared.Position.{Position}
-use Rattle.expression.specs.Table.{anglesIn, Fixed}
+use Rattle.expression.specs.Table.{anglesIn, ConstantsKept}
 use Rattle.gate.specs.declared.Call.{Call}
 use Rattle.writer.specs.declared.Linearized.{Linearized}
-use Rattle.writer.specs.Promise.{Open, Wrote, SoundAngles}
-use Rattle.argument.specs.Frames.{standing, QubitsAre}
-use Rattle.gate.specs.Running.{Ready, Ran, plainSteps, Calls, callSteps}
+use Rattle.writer.specs.Promise.{InOutput, WroteSteps, SoundAngles}
+use Rattle.argument.specs.Frames.{scopeFrame, RoundQubits}
+use Rattle.gate.specs.Running.{RunContext, RanSteps, plainSteps, CallStatement, callSteps}
 use Rattle.writer.specs.declared.Linearized.the-variants as linearized
 use Rattle.statement.proofs.LoopLaws.{Looped, wrote-open}
 use Rattle.gate.proofs.RanLaws.{ran-wrote}
@@ -49,25 +49,25 @@ leaf-steps image left frame s h =
     rw e (no-call image (λ r v t. []) left frame s (word image p) (word image (p + 1)) (word image (p + 2)) (word image (p + 3)) (word image (p + 4)) h)
 
 -- the caller's angles do not show in a call's rounds
-pub call-frame : (image : List ℕ) (left scope : ℕ) (angles : List Value) (formals : List ℕ) (s : ℕ) (call : Call) (xs : List Value) → callSteps image left (standing image scope [] formals) s call xs ≡ callSteps image left (standing image scope angles formals) s call xs
+pub call-frame : (image : List ℕ) (left scope : ℕ) (angles : List Value) (formals : List ℕ) (s : ℕ) (call : Call) (xs : List Value) → callSteps image left (scopeFrame image scope [] formals) s call xs ≡ callSteps image left (scopeFrame image scope angles formals) s call xs
 unfolding visitGate writeOpaque pushFrame qubitIn
 call-frame image left scope angles formals s call xs = refl
 
-pub holds-body : (image : List ℕ) (g : ℕ) {l : Layout} {r : Span} → Holds image l (g + 1) r → scopeStatements image (suc g) ≡ range (r .first) (r .count)
+pub holds-body : (image : List ℕ) (g : ℕ) {l : Layout} {r : Span} → StatementsOf image l (g + 1) r → scopeStatements image (suc g) ≡ range (r .first) (r .count)
 holds-body image g h = rw (add-one g) at (h .statements-are)
 
 module _ {image : List ℕ} {l : Layout} {qs bs : List ℕ} where
   -- where a loop over statements or rounds has come to
-  pub ready-on : {scope : ℕ} {table table′ variables formals out trace out′ trace′ : List ℕ} {at now : Position} {g : ℕ → List Step} {n i : ℕ} → Ready image l qs bs table scope variables formals out trace at → Looped g n out at i out′ now → trace′ ≡ trace → Fixed image table′
-      → Ready image l qs bs table′ scope variables formals out′ trace′ now
+  pub ready-on : {scope : ℕ} {table table′ variables formals out trace out′ trace′ : List ℕ} {at now : Position} {g : ℕ → List Step} {n i : ℕ} → RunContext image l qs bs table scope variables formals out trace at → Looped g n out at i out′ now → trace′ ≡ trace → ConstantsKept image table′
+      → RunContext image l qs bs table′ scope variables formals out′ trace′ now
   ready-on r k e f =
       record { stands = r .stands; fixed = f; angles = r .angles; opens = k .opens; room = subst (λ (t : List ℕ). 256 ≤ length t) (sym e) (r .room); deep = omega (arith, r .deep, k .level) }
 
   -- where a call opens a gate
   pub ready-opened : {scope s i n : ℕ} {call : Call} {table table′ variables formals angles q out trace out′ trace′ : List ℕ} {at now deep : Position} {g : ℕ → List Step}
-      → Ready image l qs bs table scope variables formals out trace at → Calls image l scope s call → SoundAngles (anglesIn angles) → QubitsAre image scope formals (call .argument) (call .arguments) i q
-      → n ≡ rounds image scope (range (call .argument) (call .arguments)) → i < n → Looped g n out at i out′ now → trace′ ≡ trace → deep ≡ record { records = now .records; words = now .words; trace = at .trace + 2 } → Fixed image table′
-      → Ready image l qs bs table′ (suc (call .gate)) angles q out′ trace′ deep
+      → RunContext image l qs bs table scope variables formals out trace at → CallStatement image l scope s call → SoundAngles (anglesIn angles) → RoundQubits image scope formals (call .argument) (call .arguments) i q
+      → n ≡ rounds image scope (range (call .argument) (call .arguments)) → i < n → Looped g n out at i out′ now → trace′ ≡ trace → deep ≡ record { records = now .records; words = now .words; trace = at .trace + 2 } → ConstantsKept image table′
+      → RunContext image l qs bs table′ (suc (call .gate)) angles q out′ trace′ deep
   ready-opened {i = i} r c a k e h lo t d f =
       record {
         fixed = f;
@@ -79,23 +79,23 @@ module _ {image : List ℕ} {l : Layout} {qs bs : List ℕ} where
       }
 
   -- where a body runs a statement
-  pub ready-in-body : {g : ℕ} {table variables formals out trace : List ℕ} {at : Position} → Ready image l qs bs table (suc g) variables formals out trace at → Ready image l qs bs table (g + 1) variables formals out trace at
+  pub ready-in-body : {g : ℕ} {table variables formals out trace : List ℕ} {at : Position} → RunContext image l qs bs table (suc g) variables formals out trace at → RunContext image l qs bs table (g + 1) variables formals out trace at
   ready-in-body {g} r = rw (add-one g) r
 
-  pub facts-in-body : {g i : ℕ} {table variables formals out trace : List ℕ} {at : Position} {r : Span} → Ready image l qs bs table (suc g) variables formals out trace at → g < l .gates → Holds image l (g + 1) r → i < r .count → PlainFacts image (g + 1) (statement image (r .first + i))
+  pub facts-in-body : {g i : ℕ} {table variables formals out trace : List ℕ} {at : Position} {r : Span} → RunContext image l qs bs table (suc g) variables formals out trace at → g < l .gates → StatementsOf image l (g + 1) r → i < r .count → PlainFacts image (g + 1) (statement image (r .first + i))
   facts-in-body {g} {i} {r = r} d h k lt = rw (add-one g) (body-facts image (d .stands .accepted) g (r .first) (r .count) i (omega (arith, h, d .stands .laid .gates-is)) (holds-body image g k) lt)
 
 pub step-in-body : (image : List ℕ) (g left : ℕ) (angles : List Value) (q : List ℕ) (first i : ℕ) → PlainFacts image (g + 1) (statement image (first + i))
-    → plainSteps image (left - 1) (standing image (g + 1) angles q) (first + i) ≡ bodyStatement image g left angles q first i
-step-in-body image g left angles q first i f = rw (add-one g) (statement-steps image (suc g) (left - 1) (standing image (suc g) angles q) (first + i) (rw (add-one g) at f))
+    → plainSteps image (left - 1) (scopeFrame image (g + 1) angles q) (first + i) ≡ bodyStatement image g left angles q first i
+step-in-body image g left angles q first i f = rw (add-one g) (statement-steps image (suc g) (left - 1) (scopeFrame image (suc g) angles q) (first + i) (rw (add-one g) at f))
 
 -- ---- after what is done
 
-pub ran-open : {ss : List Step} {out out′ trace trace′ : List ℕ} {at p : Position} {r : Linearized} → Open out at → Ran ss out at trace r out′ trace′ → r ≡ linearized.Done p → Open out′ p
+pub ran-open : {ss : List Step} {out out′ trace trace′ : List ℕ} {at p : Position} {r : Linearized} → InOutput out at → RanSteps ss out at trace r out′ trace′ → r ≡ linearized.Done p → InOutput out′ p
 ran-open o w e = wrote-open o (ran-wrote w e .0)
 
 pub ready-wrote : {image : List ℕ} {l : Layout} {qs bs : List ℕ} {scope : ℕ} {ss : List Step} {table variables formals out out′ trace : List ℕ} {at p : Position} {r : Linearized}
-    → Ready image l qs bs table scope variables formals out trace at → Wrote ss out at r out′ → r ≡ linearized.Done p → Ready image l qs bs table scope variables formals out′ trace p
+    → RunContext image l qs bs table scope variables formals out trace at → WroteSteps ss out at r out′ → r ≡ linearized.Done p → RunContext image l qs bs table scope variables formals out′ trace p
 ready-wrote {ss = ss} {out} {out′} {at = at} {p} d w e =
-    let v : Wrote ss out at (linearized.Done p) out′ = rw e at w in
+    let v : WroteSteps ss out at (linearized.Done p) out′ = rw e at w in
     record { stands = d .stands; fixed = d .fixed; angles = d .angles; opens = wrote-open (d .opens) v; room = d .room; deep = omega (arith, d .deep, v .level) }

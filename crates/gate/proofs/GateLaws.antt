@@ -16,9 +16,9 @@ use Rattle.model.proofs.Facts.{PlainFacts}
 use Rattle.image.specs.declared.Layout.{Layout}
 use Rattle.image.proofs.KindLaws.{gate-is, words-are}
 use Rattle.gate.specs.declared.Call.{Call}
-use Rattle.argument.specs.Frames.{standing, Stands}
-use Rattle.unitary.specs.Named.{namedAt, Listed}
-use Rattle.gate.specs.Running.{nested, plainSteps, callOf, Calls, callSteps}
+use Rattle.argument.specs.Frames.{scopeFrame, ScopeContext}
+use Rattle.unitary.specs.Named.{namedAt, ListedExpressions}
+use Rattle.gate.specs.Running.{nested, plainSteps, callOf, CallStatement, callSteps}
 use Rattle.unitary.proofs.GivenLaws.{listed-values}
 use Rattle.gate.proofs.StatementLaws.{few-variables}
 
@@ -36,7 +36,7 @@ named-is image p n = parameters-from image p 0 n ∙ ap (λ (m : ℕ). map (para
 
 -- ---- what the check says
 
-module _ {image : List ℕ} {l : Layout} {qs bs : List ℕ} {scope : ℕ} {formals : List ℕ} (st : Stands image l qs bs scope formals) where
+module _ {image : List ℕ} {l : Layout} {qs bs : List ℕ} {scope : ℕ} {formals : List ℕ} (st : ScopeContext image l qs bs scope formals) where
   below : (g : ℕ) → g < gates image → (scope : ℕ) → T (downward image scope g) → g < nested scope
   unfolding downward
   below g h zero d = omega (arith, st .accepted .fewGates)
@@ -60,9 +60,9 @@ module _ {image : List ℕ} {l : Layout} {qs bs : List ℕ} {scope : ℕ} {forma
       known-gate = omega (arith, call-facts .0, call-facts .1, st .laid .gates-is, st .laid .whole, st .laid .short)
 
       module _ {call : Call} (e : call ≡ callOf image s) where
-        pub calls : Calls image l scope s call
+        pub calls : CallStatement image l scope s call
         calls =
-            subst (Calls image l scope s) (sym e) (record {
+            subst (CallStatement image l scope s) (sym e) (record {
               told = refl;
               known = known-gate .0;
               downward = below gate (call-facts .0) scope (call-facts .3);
@@ -75,9 +75,9 @@ module _ {image : List ℕ} {l : Layout} {qs bs : List ℕ} {scope : ℕ} {forma
               };
             })
 
-        pub named-listed : Listed image (variables image scope) (call .named) (call .parameters)
+        pub named-listed : ListedExpressions image (variables image scope) (call .named) (call .parameters)
         named-listed =
-            subst (λ (c : Call). Listed image (variables image scope) (c .named) (c .parameters)) (sym e) (record {
+            subst (λ (c : Call). ListedExpressions image (variables image scope) (c .named) (c .parameters)) (sym e) (record {
               few = (few-parameters (st .accepted) gate (call-facts .0), few-variables image (st .accepted) scope _ (st .ready));
               near = omega (arith, call-facts .1, st .laid .whole, st .laid .short);
               each = subst (λ (es : List ℕ). T (all (expressionOk image (variables image scope) 32) es)) (sym (named-is image (word image (at + 2)) (gateParameters image gate)))
@@ -88,13 +88,13 @@ module _ {image : List ℕ} {l : Layout} {qs bs : List ℕ} {scope : ℕ} {forma
 
     module _ {call : Call} (e : call ≡ callOf image s) (left : ℕ) (angles : List Value) where
       abbrev frame : Frame
-      frame = standing image scope angles formals
+      frame = scopeFrame image scope angles formals
 
       gate-steps : plainSteps image left frame s ≡ withValues image frame (namedAt image (call .named) (call .parameters)) (callSteps image left frame s call)
       unfolding visitPlain
       gate-steps = rw (is-call, e, named-is image (word image (at + 2)) (gateParameters image gate)) refl
 
-      module _ (li : Listed image (variables image scope) (call .named) (call .parameters)) where
+      module _ (li : ListedExpressions image (variables image scope) (call .named) (call .parameters)) where
         pub gate-given : {xs : List Value} → parameterValues image angles (namedAt image (call .named) (call .parameters)) ≡ have xs → plainSteps image left frame s ≡ callSteps image left frame s call xs
         unfolding withValues given
         gate-given h = gate-steps ∙ rw (listed-values image (variables image scope) angles li ∙ h) refl

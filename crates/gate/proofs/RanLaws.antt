@@ -20,13 +20,13 @@ use Rattle.writer.specs.declared.LinearizeErrorKind.the-variants as kind
 use Rattle.writer.specs.declared.LinearizeError.{LinearizeError}
 use Rattle.writer.specs.declared.Linearized.{Linearized}
 use Rattle.writer.specs.declared.Linearized.the-variants as linearized
-use Rattle.writer.specs.Promise.{answerTo, answerOf, Wrote}
-use Rattle.gate.specs.Running.{Ran}
+use Rattle.writer.specs.Promise.{refusalAnswer, runAnswerOf, WroteSteps}
+use Rattle.gate.specs.Running.{RanSteps}
 use Rattle.statement.proofs.LoopLaws.{not-done, Looped, looped-next, looped-done}
 
 -- ---- without calls
 
-no-calls : (k : LinearizeErrorKind) → traceOf (answerTo k []) ≡ []
+no-calls : (k : LinearizeErrorKind) → traceOf (refusalAnswer k []) ≡ []
 unfolding traceOf
 no-calls (kind.DivideByZero p) = refl
 no-calls (kind.ApproximateFail p f) = refl
@@ -37,40 +37,40 @@ no-calls kind.OutputFull = refl
 no-calls (kind.Rejected c) = refl
 no-calls kind.ShortTrace = refl
 
-quiet : (r : Linearized) → traceOf (answerOf r []) ≡ []
+quiet : (r : Linearized) → traceOf (runAnswerOf r []) ≡ []
 unfolding traceOf
 quiet (linearized.Done p) = refl
 quiet (linearized.Refused e) = no-calls (e .kind)
 
-pub wrote-ran : {ss : List Step} {out out′ : List ℕ} {at : Position} {r : Linearized} (trace : List ℕ) → Wrote ss out at r out′ → Ran ss out at trace r out′ trace
+pub wrote-ran : {ss : List Step} {out out′ : List ℕ} {at : Position} {r : Linearized} (trace : List ℕ) → WroteSteps ss out at r out′ → RanSteps ss out at trace r out′ trace
 wrote-ran {at = at} {r} trace w =
     record { calls = []; plays = w .plays; tracing = rw (quiet r) refl; level = rw (quiet r) (w .level ∙ sym (add-zero (at .trace))) }
 
 -- steps that are done leave the trace as it was
-pub ran-wrote : {ss : List Step} {out out′ trace trace′ : List ℕ} {at p : Position} {r : Linearized} → Ran ss out at trace r out′ trace′ → r ≡ linearized.Done p → Wrote ss out at (linearized.Done p) out′ × (trace′ ≡ trace)
+pub ran-wrote : {ss : List Step} {out out′ trace trace′ : List ℕ} {at p : Position} {r : Linearized} → RanSteps ss out at trace r out′ trace′ → r ≡ linearized.Done p → WroteSteps ss out at (linearized.Done p) out′ × (trace′ ≡ trace)
 unfolding traceOf
 ran-wrote {ss} {out} {out′} {trace} {trace′} {at} {p} w e =
-    let v : Ran ss out at trace (linearized.Done p) out′ trace′ = rw e at w in
+    let v : RanSteps ss out at trace (linearized.Done p) out′ trace′ = rw e at w in
     (record { plays = v .plays; level = v .level ∙ add-zero (at .trace) }, v .tracing)
 
 -- ---- loops
 
 module _ (g : ℕ → List Step) (n : ℕ) {out : List ℕ} {at : Position} {i : ℕ} {out′ : List ℕ} {now : Position} (l : Looped g n out at i out′ now) where
-  pub ran-next : {ss : List Step} {out″ trace trace′ : List ℕ} {r : Linearized} {p : Position} → i < n → ss ≡ g i → Ran ss out′ now trace r out″ trace′ → r ≡ linearized.Done p → Looped g n out at (i + 1) out″ p × (trace′ ≡ trace)
+  pub ran-next : {ss : List Step} {out″ trace trace′ : List ℕ} {r : Linearized} {p : Position} → i < n → ss ≡ g i → RanSteps ss out′ now trace r out″ trace′ → r ≡ linearized.Done p → Looped g n out at (i + 1) out″ p × (trace′ ≡ trace)
   ran-next h f w e = let v = ran-wrote w e in (looped-next g n l h f refl (v .0), v .1)
 
-  pub ran-stop : {ss : List Step} {out″ trace trace′ : List ℕ} {r : Linearized} {e : LinearizeError} {m : ℕ} → i < n → ss ≡ g i → Ran ss out′ now trace r out″ trace′ → r ≡ linearized.Refused e → n ≡ m
-      → Ran (inRounds m g) out at trace (linearized.Refused e) out″ trace′
+  pub ran-stop : {ss : List Step} {out″ trace trace′ : List ℕ} {r : Linearized} {e : LinearizeError} {m : ℕ} → i < n → ss ≡ g i → RanSteps ss out′ now trace r out″ trace′ → r ≡ linearized.Refused e → n ≡ m
+      → RanSteps (inRounds m g) out at trace (linearized.Refused e) out″ trace′
   ran-stop {out″ = out″} {trace} {trace′} {e = x} h f w e d =
-      let v : Ran (g i) out′ now trace (linearized.Refused x) out″ trace′ = rw (f, e) at w in
+      let v : RanSteps (g i) out′ now trace (linearized.Refused x) out″ trace′ = rw (f, e) at w in
       rw (← d) (record {
         calls = v .calls;
         plays = going-stopped (l .going) (flatMap g (range (i + 1) (n - (i + 1)))) (rounds-next g i n h) (v .plays) (not-done (x .kind) (v .calls));
-        tracing = v .tracing ∙ ap (λ (k : ℕ). sets trace k (traceOf (answerTo (x .kind) (v .calls)))) (l .level);
-        level = v .level ∙ ap (λ (k : ℕ). k + length (traceOf (answerTo (x .kind) (v .calls)))) (l .level);
+        tracing = v .tracing ∙ ap (λ (k : ℕ). sets trace k (traceOf (refusalAnswer (x .kind) (v .calls)))) (l .level);
+        level = v .level ∙ ap (λ (k : ℕ). k + length (traceOf (refusalAnswer (x .kind) (v .calls)))) (l .level);
       })
 
-  pub ran-done : {trace : List ℕ} {m : ℕ} → n ≤ i → n ≡ m → Ran (inRounds m g) out at trace (linearized.Done now) out′ trace
+  pub ran-done : {trace : List ℕ} {m : ℕ} → n ≤ i → n ≡ m → RanSteps (inRounds m g) out at trace (linearized.Done now) out′ trace
   ran-done {trace} h d = wrote-ran trace (looped-done g n l h d)
 
 -- ---- calls
@@ -111,7 +111,7 @@ play-inner n (write t r ∷ ss) = go (leb (length (encode r)) n) (play-inner (n 
 
 -- a refusal's answer with the caller's pair in front
 module _ (u : List ℕ) where
-  deeper-answer : (k : LinearizeErrorKind) (t : List ℕ) → answerTo k (u ++ t) ≡ underAnswer u (answerTo k t)
+  deeper-answer : (k : LinearizeErrorKind) (t : List ℕ) → refusalAnswer k (u ++ t) ≡ underAnswer u (refusalAnswer k t)
   unfolding underAnswer
   deeper-answer (kind.DivideByZero p) t = refl
   deeper-answer (kind.ApproximateFail p f) t = refl
@@ -122,7 +122,7 @@ module _ (u : List ℕ) where
   deeper-answer (kind.Rejected c) t = refl
   deeper-answer kind.ShortTrace t = refl
 
-  deeper-trace : (k : LinearizeErrorKind) (t : List ℕ) → Inner (answerTo k t) → traceOf (answerTo k (u ++ t)) ≡ u ++ traceOf (answerTo k t)
+  deeper-trace : (k : LinearizeErrorKind) (t : List ℕ) → Inner (refusalAnswer k t) → traceOf (refusalAnswer k (u ++ t)) ≡ u ++ traceOf (refusalAnswer k t)
   unfolding traceOf
   deeper-trace (kind.DivideByZero p) t h = refl
   deeper-trace (kind.ApproximateFail p f) t h = refl
@@ -135,19 +135,19 @@ module _ (u : List ℕ) where
 
 -- a call that comes back, and one that is refused: its pair of words stands in front
 module _ {ss : List Step} {out out′ trace trace′ : List ℕ} {now deep : Position} {r : Linearized} {k : ℕ}
-    (w : Ran ss out deep trace r out′ trace′) (d : deep ≡ record { records = now .records; words = now .words; trace = k + 2 }) (level : k ≡ now .trace) where
-  pub ran-returned : (u : List ℕ) {p next : Position} → r ≡ linearized.Done p → next ≡ record { records = p .records; words = p .words; trace = k } → Wrote (map (under u) ss) out now (linearized.Done next) out′ × (trace′ ≡ trace)
+    (w : RanSteps ss out deep trace r out′ trace′) (d : deep ≡ record { records = now .records; words = now .words; trace = k + 2 }) (level : k ≡ now .trace) where
+  pub ran-returned : (u : List ℕ) {p next : Position} → r ≡ linearized.Done p → next ≡ record { records = p .records; words = p .words; trace = k } → WroteSteps (map (under u) ss) out now (linearized.Done next) out′ × (trace′ ≡ trace)
   unfolding underAnswer
   ran-returned u e f =
       let v = ran-wrote w e in
       (record { plays = rw f (plays-under u (rw d at (v .0 .plays))); level = ap (λ (x : Position). x .trace) f ∙ level }, v .1)
 
-  pub ran-refused : (a b : ℕ) {x : LinearizeError} {trace″ : List ℕ} → r ≡ linearized.Refused x → trace″ ≡ sets trace′ k (a ∷ b ∷ []) → Ran (map (under (a ∷ b ∷ [])) ss) out now trace (linearized.Refused x) out′ trace″
+  pub ran-refused : (a b : ℕ) {x : LinearizeError} {trace″ : List ℕ} → r ≡ linearized.Refused x → trace″ ≡ sets trace′ k (a ∷ b ∷ []) → RanSteps (map (under (a ∷ b ∷ [])) ss) out now trace (linearized.Refused x) out′ trace″
   ran-refused a b {x} {trace″} e f =
       let here : Position = record { records = now .records; words = now .words; trace = k + 2 } in
-      let v : Ran ss out here trace (linearized.Refused x) out′ trace′ = rw (d, e) at w in
-      let t = traceOf (answerTo (x .kind) (v .calls)) in
-      let inner : Inner (answerTo (x .kind) (v .calls)) = subst Inner (sym (v .plays .answers)) (play-inner _ ss) in
+      let v : RanSteps ss out here trace (linearized.Refused x) out′ trace′ = rw (d, e) at w in
+      let t = traceOf (refusalAnswer (x .kind) (v .calls)) in
+      let inner : Inner (refusalAnswer (x .kind) (v .calls)) = subst Inner (sym (v .plays .answers)) (play-inner _ ss) in
       let longer = deeper-trace (a ∷ b ∷ []) (x .kind) (v .calls) inner in
       record {
         calls = a ∷ b ∷ v .calls;
@@ -157,49 +157,49 @@ module _ {ss : List Step} {out out′ trace trace′ : List ℕ} {now deep : Pos
       }
 
 -- a body is entered
-pub ran-enter : (t : List ℕ) (g : ℕ) {ss : List Step} {out out′ trace trace′ : List ℕ} {at : Position} {r : Linearized} → Ran ss out at trace r out′ trace′ → Ran (enter t g ∷ ss) out at trace r out′ trace′
+pub ran-enter : (t : List ℕ) (g : ℕ) {ss : List Step} {out out′ trace trace′ : List ℕ} {at : Position} {r : Linearized} → RanSteps ss out at trace r out′ trace′ → RanSteps (enter t g ∷ ss) out at trace r out′ trace′
 ran-enter t g w = record { calls = w .calls; plays = plays-enter t g (w .plays); tracing = w .tracing; level = w .level }
 
 -- the lengths of both slices stay
-pub ran-lengths : {ss : List Step} {out out′ trace trace′ : List ℕ} {at : Position} {r : Linearized} → Ran ss out at trace r out′ trace′ → (length out′ ≡ length out) × (length trace′ ≡ length trace)
-ran-lengths {trace = trace} {at = at} {r} w = (w .plays .same, ap length (w .tracing) ∙ length-sets trace (at .trace) (traceOf (answerOf r (w .calls))))
+pub ran-lengths : {ss : List Step} {out out′ trace trace′ : List ℕ} {at : Position} {r : Linearized} → RanSteps ss out at trace r out′ trace′ → (length out′ ≡ length out) × (length trace′ ≡ length trace)
+ran-lengths {trace = trace} {at = at} {r} w = (w .plays .same, ap length (w .tracing) ∙ length-sets trace (at .trace) (traceOf (runAnswerOf r (w .calls))))
 
 -- the same steps, and the same trace, under other names
 module _ {ss : List Step} {out out′ trace trace′ : List ℕ} {at : Position} {r : Linearized} where
-  pub ran-steps : {others : List Step} → ss ≡ others → Ran ss out at trace r out′ trace′ → Ran others out at trace r out′ trace′
+  pub ran-steps : {others : List Step} → ss ≡ others → RanSteps ss out at trace r out′ trace′ → RanSteps others out at trace r out′ trace′
   ran-steps e w = rw (← e) w
 
-  pub ran-from : {trace₀ : List ℕ} → trace ≡ trace₀ → Ran ss out at trace r out′ trace′ → Ran ss out at trace₀ r out′ trace′
+  pub ran-from : {trace₀ : List ℕ} → trace ≡ trace₀ → RanSteps ss out at trace r out′ trace′ → RanSteps ss out at trace₀ r out′ trace′
   ran-from e w = rw (← e) w
 
-  pub ran-still : {trace″ : List ℕ} → trace″ ≡ trace′ → Ran ss out at trace r out′ trace′ → Ran ss out at trace r out′ trace″
+  pub ran-still : {trace″ : List ℕ} → trace″ ≡ trace′ → RanSteps ss out at trace r out′ trace′ → RanSteps ss out at trace r out′ trace″
   ran-still e w = rw e w
 
-pub wrote-steps : {ss ss′ : List Step} {out out′ : List ℕ} {at : Position} {r : Linearized} → ss ≡ ss′ → Wrote ss out at r out′ → Wrote ss′ out at r out′
+pub wrote-steps : {ss ss′ : List Step} {out out′ : List ℕ} {at : Position} {r : Linearized} → ss ≡ ss′ → WroteSteps ss out at r out′ → WroteSteps ss′ out at r out′
 wrote-steps e w = rw (← e) w
 
 -- ---- one after the other
 
 module _ {s : List Step} {out out₁ : List ℕ} {at : Position} {r₁ : Linearized} where
-  pub wrote-then : {ss : List Step} {trace out₂ trace₂ : List ℕ} {p : Position} {r : Linearized} → Wrote s out at r₁ out₁ → r₁ ≡ linearized.Done p → Ran ss out₁ p trace r out₂ trace₂ → Ran (s ++ ss) out at trace r out₂ trace₂
+  pub wrote-then : {ss : List Step} {trace out₂ trace₂ : List ℕ} {p : Position} {r : Linearized} → WroteSteps s out at r₁ out₁ → r₁ ≡ linearized.Done p → RanSteps ss out₁ p trace r out₂ trace₂ → RanSteps (s ++ ss) out at trace r out₂ trace₂
   wrote-then {trace = trace} {p = p} {r} w e k =
-      let v : Wrote s out at (linearized.Done p) out₁ = rw e at w in
+      let v : WroteSteps s out at (linearized.Done p) out₁ = rw e at w in
       record {
         calls = k .calls;
         plays = plays-append (v .plays) (k .plays);
-        tracing = k .tracing ∙ ap (λ (n : ℕ). sets trace n (traceOf (answerOf r (k .calls)))) (v .level);
-        level = k .level ∙ ap (λ (n : ℕ). n + length (traceOf (answerOf r (k .calls)))) (v .level);
+        tracing = k .tracing ∙ ap (λ (n : ℕ). sets trace n (traceOf (runAnswerOf r (k .calls)))) (v .level);
+        level = k .level ∙ ap (λ (n : ℕ). n + length (traceOf (runAnswerOf r (k .calls)))) (v .level);
       }
 
-  pub ran-stops : (ss : List Step) {trace trace₁ : List ℕ} {x : LinearizeError} → Ran s out at trace r₁ out₁ trace₁ → r₁ ≡ linearized.Refused x → Ran (s ++ ss) out at trace (linearized.Refused x) out₁ trace₁
+  pub ran-stops : (ss : List Step) {trace trace₁ : List ℕ} {x : LinearizeError} → RanSteps s out at trace r₁ out₁ trace₁ → r₁ ≡ linearized.Refused x → RanSteps (s ++ ss) out at trace (linearized.Refused x) out₁ trace₁
   ran-stops ss {trace} {trace₁} {x} w e =
-      let v : Ran s out at trace (linearized.Refused x) out₁ trace₁ = rw e at w in
+      let v : RanSteps s out at trace (linearized.Refused x) out₁ trace₁ = rw e at w in
       record { calls = v .calls; plays = plays-stopped ss (v .plays) (not-done (x .kind) (v .calls)); tracing = v .tracing; level = v .level }
 
-  pub wrote-stops : (ss : List Step) (trace : List ℕ) {x : LinearizeError} → Wrote s out at r₁ out₁ → r₁ ≡ linearized.Refused x → Ran (s ++ ss) out at trace (linearized.Refused x) out₁ trace
+  pub wrote-stops : (ss : List Step) (trace : List ℕ) {x : LinearizeError} → WroteSteps s out at r₁ out₁ → r₁ ≡ linearized.Refused x → RanSteps (s ++ ss) out at trace (linearized.Refused x) out₁ trace
   wrote-stops ss trace {x} w e =
-      let v : Wrote s out at (linearized.Refused x) out₁ = rw e at w in
+      let v : WroteSteps s out at (linearized.Refused x) out₁ = rw e at w in
       wrote-ran trace (record { plays = plays-stopped ss (v .plays) (not-done (x .kind) []); level = v .level })
 
-pub ran-then : {s ss : List Step} {out out₁ : List ℕ} {at : Position} {r₁ : Linearized} {trace trace₁ out₂ : List ℕ} {p : Position} {r : Linearized} → Ran s out at trace r₁ out₁ trace₁ → r₁ ≡ linearized.Done p → Wrote ss out₁ p r out₂ → Ran (s ++ ss) out at trace r out₂ trace₁
+pub ran-then : {s ss : List Step} {out out₁ : List ℕ} {at : Position} {r₁ : Linearized} {trace trace₁ out₂ : List ℕ} {p : Position} {r : Linearized} → RanSteps s out at trace r₁ out₁ trace₁ → r₁ ≡ linearized.Done p → WroteSteps ss out₁ p r out₂ → RanSteps (s ++ ss) out at trace r out₂ trace₁
 ran-then {trace = trace} w e k = let v = ran-wrote w e in ran-still (v .1) (wrote-then (v .0) refl (wrote-ran trace k))

@@ -20,14 +20,14 @@ use Rattle.model.proofs.Accepted.{Accepted, few-parameters}
 use Rattle.model.proofs.StepsSound.{FrameOk}
 use Rattle.model.proofs.Facts.{PlainFacts, no-kind}
 use Rattle.image.specs.declared.Layout.{Layout}
-use Rattle.image.specs.Layout.{Laid}
+use Rattle.image.specs.Layout.{LayoutOf}
 use Rattle.image.proofs.KindLaws.{u-is, cx-is, barrier-is, measure-is, reset-is, words-are}
 use Rattle.writer.specs.declared.Position.{Position}
 use Rattle.writer.specs.declared.Linearized.{Linearized}
 use Rattle.gate.specs.declared.Call.{Call}
-use Rattle.writer.specs.Promise.{SoundAngles, Wrote}
-use Rattle.argument.specs.Frames.{standing, Stands}
-use Rattle.unitary.specs.Named.{namedAt, Listed}
+use Rattle.writer.specs.Promise.{SoundAngles, WroteSteps}
+use Rattle.argument.specs.Frames.{scopeFrame, ScopeContext}
+use Rattle.unitary.specs.Named.{namedAt, ListedExpressions}
 use Rattle.gate.specs.Running.{plainSteps, callOf}
 
 -- ---- kinds
@@ -51,7 +51,7 @@ pub known-gate : (image : List ℕ) {p q g n : ℕ} → p ≡ q → g ≡ word i
 known-gate image {p} {q} {g} {n} e f h = subst (λ (x : ℕ). x < n) (sym (read-at image 1 e f)) h
 
 -- an entry ends within the image
-module _ {image : List ℕ} {l : Layout} (laid : Laid image l) where
+module _ {image : List ℕ} {l : Layout} (laid : LayoutOf image l) where
   pub near-statement : (s : ℕ) {p : ℕ} → s < l .all → p ≡ statementAt image s → p + 5 ≤ 8192
   near-statement s h e = omega (arith, laid .all-is, laid .whole, laid .short)
 
@@ -71,8 +71,8 @@ call-is image s ep eg eat ei en ek ea em eb =
     λ x. record { place = ep x; gate = g x; named = named x; parameters = parameters x; argument = argument x; arguments = arguments x; body = body x }
 
 -- a gate that is not opened, with the number of its qubits
-pub cut-is : (g : ℕ) (qubits : List ℕ) {m n : ℕ} {out out′ : List ℕ} {at : Position} {r : Linearized} → m ≡ n → Wrote (write [] (Record.Opaque g [] (take m qubits)) ∷ []) out at r out′ → Wrote (write [] (Record.Opaque g [] (take n qubits)) ∷ []) out at r out′
-cut-is g qubits {m} {n} {out} {out′} {at} {r} e w = subst (λ (k : ℕ). Wrote (write [] (Record.Opaque g [] (take k qubits)) ∷ []) out at r out′) e w
+pub cut-is : (g : ℕ) (qubits : List ℕ) {m n : ℕ} {out out′ : List ℕ} {at : Position} {r : Linearized} → m ≡ n → WroteSteps (write [] (Record.Opaque g [] (take m qubits)) ∷ []) out at r out′ → WroteSteps (write [] (Record.Opaque g [] (take n qubits)) ∷ []) out at r out′
+cut-is g qubits {m} {n} {out} {out′} {at} {r} e w = subst (λ (k : ℕ). WroteSteps (write [] (Record.Opaque g [] (take k qubits)) ∷ []) out at r out′) e w
 
 -- ---- angles of a U
 
@@ -92,7 +92,7 @@ three image p =
 
 -- ---- a statement that opens no gate, by its first words
 
-module _ {image : List ℕ} {l : Layout} {qs bs : List ℕ} {scope : ℕ} {formals : List ℕ} (st : Stands image l qs bs scope formals) (s : ℕ) {p k a b : ℕ}
+module _ {image : List ℕ} {l : Layout} {qs bs : List ℕ} {scope : ℕ} {formals : List ℕ} (st : ScopeContext image l qs bs scope formals) (s : ℕ) {p k a b : ℕ}
     (ep : p ≡ statementAt image s) (ek : k ≡ word image p) (ea : a ≡ word image (p + 1)) (eb : b ≡ word image (p + 2)) (f : PlainFacts image scope (statement image s)) where
   known : {x : Statement} → statement image s ≡ x → PlainFacts image scope x
   known e = subst (PlainFacts image scope) e f
@@ -119,7 +119,7 @@ module _ {image : List ℕ} {l : Layout} {qs bs : List ℕ} {scope : ℕ} {forma
 
   -- what its acceptance says
 
-  pub u-needs : {q : ℕ} → s < l .all → k ≡ 1 → q ≡ word image (p + 4) → Listed image (variables image scope) (p + 1) 3 × (q < l .arguments) × T (argumentOk image scope q)
+  pub u-needs : {q : ℕ} → s < l .all → k ≡ 1 → q ≡ word image (p + 4) → ListedExpressions image (variables image scope) (p + 1) 3 × (q < l .arguments) × T (argumentOk image scope q)
   u-needs h e eq =
       let g = known (u-statement e eq) in (
         record {
@@ -147,28 +147,28 @@ module _ {image : List ℕ} {l : Layout} {qs bs : List ℕ} {scope : ℕ} {forma
 
   module _ (angles : List Value) {out out′ : List ℕ} {at : Position} {r : Linearized} where
     pub u-leaf : {q : ℕ} → k ≡ 1 → q ≡ word image (p + 4)
-        → Wrote (withValues image (standing image scope angles formals) (namedAt image (p + 1) 3) (λ xs. inRounds (rounds image scope (q ∷ [])) (writeU image (standing image scope angles formals) q xs))) out at r out′
-        → Wrote (plainSteps image 0 (standing image scope angles formals) s) out at r out′
+        → WroteSteps (withValues image (scopeFrame image scope angles formals) (namedAt image (p + 1) 3) (λ xs. inRounds (rounds image scope (q ∷ [])) (writeU image (scopeFrame image scope angles formals) q xs))) out at r out′
+        → WroteSteps (plainSteps image 0 (scopeFrame image scope angles formals) s) out at r out′
     unfolding visitPlain
     u-leaf e eq w = rw (u-statement e eq) (rw (three image p) at w)
 
-    pub cx-leaf : k ≡ 2 → Wrote (inRounds (rounds image scope (a ∷ b ∷ [])) (writeCX image (standing image scope [] formals) a b)) out at r out′
-        → Wrote (plainSteps image 0 (standing image scope angles formals) s) out at r out′
+    pub cx-leaf : k ≡ 2 → WroteSteps (inRounds (rounds image scope (a ∷ b ∷ [])) (writeCX image (scopeFrame image scope [] formals) a b)) out at r out′
+        → WroteSteps (plainSteps image 0 (scopeFrame image scope angles formals) s) out at r out′
     unfolding visitPlain writeCX qubitIn
     cx-leaf e w = rw (cx-statement e) w
 
-    pub barrier-leaf : k ≡ 4 → Wrote (write [] (Record.Barrier (rising (flatMap (argumentQubits image (standing image scope [] formals)) (range a b)))) ∷ []) out at r out′
-        → Wrote (plainSteps image 0 (standing image scope angles formals) s) out at r out′
+    pub barrier-leaf : k ≡ 4 → WroteSteps (write [] (Record.Barrier (rising (flatMap (argumentQubits image (scopeFrame image scope [] formals)) (range a b)))) ∷ []) out at r out′
+        → WroteSteps (plainSteps image 0 (scopeFrame image scope angles formals) s) out at r out′
     unfolding visitPlain argumentQubits qubitIn
     barrier-leaf e w = rw (barrier-statement e) w
 
-    pub measure-leaf : k ≡ 5 → Wrote (inRounds (largest (argumentSize image scope a ∷ classicalArgumentSize image b ∷ [])) (writeMeasure image (standing image scope [] formals) a b)) out at r out′
-        → Wrote (plainSteps image 0 (standing image scope angles formals) s) out at r out′
+    pub measure-leaf : k ≡ 5 → WroteSteps (inRounds (largest (argumentSize image scope a ∷ classicalArgumentSize image b ∷ [])) (writeMeasure image (scopeFrame image scope [] formals) a b)) out at r out′
+        → WroteSteps (plainSteps image 0 (scopeFrame image scope angles formals) s) out at r out′
     unfolding visitPlain writeMeasure qubitIn
     measure-leaf e w = rw (measure-statement e) w
 
-    pub reset-leaf : ¬ (k ≡ 1) → ¬ (k ≡ 2) → ¬ (word image (statementAt image s) ≡ 3) → ¬ (k ≡ 4) → ¬ (k ≡ 5) → Wrote (inRounds (rounds image scope (a ∷ [])) (writeReset image (standing image scope [] formals) a)) out at r out′
-        → Wrote (plainSteps image 0 (standing image scope angles formals) s) out at r out′
+    pub reset-leaf : ¬ (k ≡ 1) → ¬ (k ≡ 2) → ¬ (word image (statementAt image s) ≡ 3) → ¬ (k ≡ 4) → ¬ (k ≡ 5) → WroteSteps (inRounds (rounds image scope (a ∷ [])) (writeReset image (scopeFrame image scope [] formals) a)) out at r out′
+        → WroteSteps (plainSteps image 0 (scopeFrame image scope angles formals) s) out at r out′
     unfolding visitPlain writeReset qubitIn
     reset-leaf n1 n2 n3 n4 n5 w = rw (reset-statement n1 n2 n3 n4 n5) w
 

@@ -15,9 +15,9 @@ use Rattle.image.specs.declared.Layout.{Layout}
 use Rattle.writer.specs.declared.Position.{Position}
 use Rattle.writer.specs.declared.Linearized.{Linearized}
 use Rattle.gate.specs.declared.Call.{Call}
-use Rattle.writer.specs.Promise.{placeAt, positionOf, answerOf, Open, SoundAngles}
-use Rattle.expression.specs.Table.{anglesIn, Fixed}
-use Rattle.argument.specs.Frames.{Stands, Called}
+use Rattle.writer.specs.Promise.{placeAt, positionOf, runAnswerOf, InOutput, SoundAngles}
+use Rattle.expression.specs.Table.{anglesIn, ConstantsKept}
+use Rattle.argument.specs.Frames.{ScopeContext, CallArguments}
 
 -- the calls that may nest in a scope: each goes to a gate of smaller number
 abbrev pub nested : ℕ → ℕ
@@ -25,20 +25,20 @@ nested zero = 128
 nested (suc g) = g
 
 -- where statements of a scope are run: a frame's angles and qubits are lent, the table holds constants, and the trace has room for every call that may nest
-pub record Ready (image : List ℕ) (l : Layout) (qubits bits table : List ℕ) (scope : ℕ) (variables formals out trace : List ℕ) (at : Position) : Type 0 where
-  pub stands : Stands image l qubits bits scope formals
-  pub fixed : Fixed image table
+pub record RunContext (image : List ℕ) (l : Layout) (qubits bits table : List ℕ) (scope : ℕ) (variables formals out trace : List ℕ) (at : Position) : Type 0 where
+  pub stands : ScopeContext image l qubits bits scope formals
+  pub fixed : ConstantsKept image table
   pub angles : SoundAngles (anglesIn variables)
-  pub opens : Open out at
+  pub opens : InOutput out at
   pub room : 256 ≤ length trace
   pub deep : at .trace + 2 * nested scope ≤ 256
 
 -- some steps were played. Where they were refused, the calls on the stack stand in the trace from the position's words on.
-pub record Ran (ss : List Step) (out : List ℕ) (at : Position) (trace : List ℕ) (r : Linearized) (out′ trace′ : List ℕ) : Type 0 where
+pub record RanSteps (ss : List Step) (out : List ℕ) (at : Position) (trace : List ℕ) (r : Linearized) (out′ trace′ : List ℕ) : Type 0 where
   pub calls : List ℕ
-  pub plays : Plays ss (placeAt out at) (placeAt out′ (positionOf r)) (answerOf r calls)
-  pub tracing : trace′ ≡ sets trace (at .trace) (traceOf (answerOf r calls))
-  pub level : positionOf r .trace ≡ at .trace + length (traceOf (answerOf r calls))
+  pub plays : Plays ss (placeAt out at) (placeAt out′ (positionOf r)) (runAnswerOf r calls)
+  pub tracing : trace′ ≡ sets trace (at .trace) (traceOf (runAnswerOf r calls))
+  pub level : positionOf r .trace ≡ at .trace + length (traceOf (runAnswerOf r calls))
 
 -- the steps of a statement that is no conditional, with bodies opened so many deep
 abbrev pub plainSteps : List ℕ → ℕ → Steps.Frame → ℕ → List Step
@@ -62,12 +62,12 @@ callOf image s =
     }
 
 -- statement s is this call, and the check accepted it
-pub record Calls (image : List ℕ) (l : Layout) (scope s : ℕ) (call : Call) : Type 0 where
+pub record CallStatement (image : List ℕ) (l : Layout) (scope s : ℕ) (call : Call) : Type 0 where
   pub told : call ≡ callOf image s
   pub known : call .gate < l .gates
   pub downward : call .gate < nested scope
   pub few : call .parameters ≤ 16
-  pub arguments-fit : Called image l scope (call .argument) (call .arguments)
+  pub arguments-fit : CallArguments image l scope (call .argument) (call .arguments)
 
 -- its rounds, with its angles
 abbrev pub callSteps : List ℕ → ℕ → Steps.Frame → ℕ → Call → List Value → List Step

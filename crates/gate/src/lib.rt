@@ -11,11 +11,11 @@ ghost use Rattle.model.specs.Image.{word, statement, statementAt, gateArguments
 ghost use Rattle.model.specs.Records.{Record};
 ghost use Rattle.model.specs.Steps.{write, openGate, opening};
 ghost use Rattle.model.proofs.Facts.{PlainFacts};
-ghost use Rattle.image.specs.Layout.{Laid};
-ghost use Rattle.writer.specs.Promise.{SoundAngles, Open, Wrote};
-ghost use Rattle.expression.specs.Table.{anglesIn, Fixed};
-ghost use Rattle.argument.specs.Frames.{standing, Stands};
-ghost use Rattle.gate.specs.Running.{Ready, Ran, plainSteps, callOf, Calls, callSteps};
+ghost use Rattle.image.specs.Layout.{LayoutOf};
+ghost use Rattle.writer.specs.Promise.{SoundAngles, InOutput, WroteSteps};
+ghost use Rattle.expression.specs.Table.{anglesIn, ConstantsKept};
+ghost use Rattle.argument.specs.Frames.{scopeFrame, ScopeContext};
+ghost use Rattle.gate.specs.Running.{RunContext, RanSteps, plainSteps, callOf, CallStatement, callSteps};
 
 // The sixteen angles and sixteen qubits that a gate's body has at most, an angle in six words.
 pub struct Frame {
@@ -42,8 +42,8 @@ fn write_cut(
     out: &mut [u64],
     at: Position,
 ) -> Linearized
-    requires { ⌜ Laid (now image) l × (length formals ≡ 16) × (g < l .gates) × (gateArguments (now image) g ≤ 16) × Open (now out) at ⌝ }
-    ensures { λ r. ⌜ Wrote (write [] (Record.Opaque g [] (take (gateArguments (now (image .entry)) g) formals)) ∷ []) (now (out .entry)) at r (now (out .exit)) ⌝ }
+    requires { ⌜ LayoutOf (now image) l × (length formals ≡ 16) × (g < l .gates) × (gateArguments (now image) g ≤ 16) × InOutput (now out) at ⌝ }
+    ensures { λ r. ⌜ WroteSteps (write [] (Record.Opaque g [] (take (gateArguments (now (image .entry)) g) formals)) ∷ []) (now (out .entry)) at r (now (out .exit)) ⌝ }
 {
     let gate = image::gate_at(image, l, g);
     let angle = expression::zero();
@@ -65,8 +65,8 @@ fn visit_leaf(
     out: &mut [u64],
     at: Position,
 ) -> Linearized
-    requires { ⌜ Stands (now image) l (now qubits) (now bits) scope (now formals) × Fixed (now image) (now table) × SoundAngles (anglesIn (now variables)) × (s < l .all) × PlainFacts (now image) scope (statement (now image) s) × ¬ (word (now image) (statementAt (now image) s) ≡ 3) × Open (now out) at ⌝ }
-    ensures { λ r. ⌜ Wrote (plainSteps (now (image .entry)) 0 (standing (now (image .entry)) scope (anglesIn (now (variables .entry))) (now (formals .entry))) s) (now (out .entry)) at r (now (out .exit)) × Fixed (now (image .entry)) (now (table .exit)) ⌝ }
+    requires { ⌜ ScopeContext (now image) l (now qubits) (now bits) scope (now formals) × ConstantsKept (now image) (now table) × SoundAngles (anglesIn (now variables)) × (s < l .all) × PlainFacts (now image) scope (statement (now image) s) × ¬ (word (now image) (statementAt (now image) s) ≡ 3) × InOutput (now out) at ⌝ }
+    ensures { λ r. ⌜ WroteSteps (plainSteps (now (image .entry)) 0 (scopeFrame (now (image .entry)) scope (anglesIn (now (variables .entry))) (now (formals .entry))) s) (now (out .entry)) at r (now (out .exit)) × ConstantsKept (now (image .entry)) (now (table .exit)) ⌝ }
 {
     let place = image::statement_at(image, l, s);
     let kind = image::word(image, place);
@@ -107,7 +107,7 @@ pub struct Call {
 
 // The call that is statement s.
 fn call_at(image: &[u64], l: Layout, s: u64) -> Call
-    requires { ⌜ Laid (now image) l × (s < l .all) × (word (now image) (statementAt (now image) s + 1) < l .gates) × (word (now image) (statementAt (now image) s + 2) ≤ 8192) ⌝ }
+    requires { ⌜ LayoutOf (now image) l × (s < l .all) × (word (now image) (statementAt (now image) s + 1) < l .gates) × (word (now image) (statementAt (now image) s + 2) ≤ 8192) ⌝ }
     ensures { λ r. ⌜ r ≡ callOf (now (image .entry)) s ⌝ }
 {
     let place = image::statement_at(image, l, s);
@@ -151,8 +151,8 @@ pub fn visit_statement(
     trace: &mut [u64],
     at: Position,
 ) -> Linearized
-    requires { ⌜ Ready (now image) l (now qubits) (now bits) (now table) scope (now variables) (now formals) (now out) (now trace) at × (s < l .all) × PlainFacts (now image) scope (statement (now image) s) ⌝ }
-    ensures { λ r. ⌜ Ran (plainSteps (now (image .entry)) left (standing (now (image .entry)) scope (anglesIn (now (variables .entry))) (now (formals .entry))) s) (now (out .entry)) at (now (trace .entry)) r (now (out .exit)) (now (trace .exit)) × Fixed (now (image .entry)) (now (table .exit)) ⌝ }
+    requires { ⌜ RunContext (now image) l (now qubits) (now bits) (now table) scope (now variables) (now formals) (now out) (now trace) at × (s < l .all) × PlainFacts (now image) scope (statement (now image) s) ⌝ }
+    ensures { λ r. ⌜ RanSteps (plainSteps (now (image .entry)) left (scopeFrame (now (image .entry)) scope (anglesIn (now (variables .entry))) (now (formals .entry))) s) (now (out .entry)) at (now (trace .entry)) r (now (out .exit)) (now (trace .exit)) × ConstantsKept (now (image .entry)) (now (table .exit)) ⌝ }
 {
     if image::word(image, image::statement_at(image, l, s)) == 3 {
         return visit_gate(
@@ -202,8 +202,8 @@ fn visit_gate(
     trace: &mut [u64],
     at: Position,
 ) -> Linearized
-    requires { ⌜ Ready (now image) l (now qubits) (now bits) (now table) scope (now variables) (now formals) (now out) (now trace) at × (s < l .all) × PlainFacts (now image) scope (statement (now image) s) × (word (now image) (statementAt (now image) s) ≡ 3) ⌝ }
-    ensures { λ r. ⌜ Ran (plainSteps (now (image .entry)) left (standing (now (image .entry)) scope (anglesIn (now (variables .entry))) (now (formals .entry))) s) (now (out .entry)) at (now (trace .entry)) r (now (out .exit)) (now (trace .exit)) × Fixed (now (image .entry)) (now (table .exit)) ⌝ }
+    requires { ⌜ RunContext (now image) l (now qubits) (now bits) (now table) scope (now variables) (now formals) (now out) (now trace) at × (s < l .all) × PlainFacts (now image) scope (statement (now image) s) × (word (now image) (statementAt (now image) s) ≡ 3) ⌝ }
+    ensures { λ r. ⌜ RanSteps (plainSteps (now (image .entry)) left (scopeFrame (now (image .entry)) scope (anglesIn (now (variables .entry))) (now (formals .entry))) s) (now (out .entry)) at (now (trace .entry)) r (now (out .exit)) (now (trace .exit)) × ConstantsKept (now (image .entry)) (now (table .exit)) ⌝ }
 {
     let call = call_at(image, l, s);
     let mut given = [0u64; 96];
@@ -254,8 +254,8 @@ fn visit_rounds(
     trace: &mut [u64],
     at: Position,
 ) -> Linearized
-    requires { ⌜ Ready (now image) l (now qubits) (now bits) (now table) scope angles (now formals) (now out) (now trace) at × Calls (now image) l scope s call ⌝ }
-    ensures { λ r. ⌜ Ran (callSteps (now (image .entry)) left (standing (now (image .entry)) scope [] (now (formals .entry))) s call (take (call .parameters) (anglesIn angles))) (now (out .entry)) at (now (trace .entry)) r (now (out .exit)) (now (trace .exit)) × Fixed (now (image .entry)) (now (table .exit)) ⌝ }
+    requires { ⌜ RunContext (now image) l (now qubits) (now bits) (now table) scope angles (now formals) (now out) (now trace) at × CallStatement (now image) l scope s call ⌝ }
+    ensures { λ r. ⌜ RanSteps (callSteps (now (image .entry)) left (scopeFrame (now (image .entry)) scope [] (now (formals .entry))) s call (take (call .parameters) (anglesIn angles))) (now (out .entry)) at (now (trace .entry)) r (now (out .exit)) (now (trace .exit)) × ConstantsKept (now (image .entry)) (now (table .exit)) ⌝ }
 {
     if call.body == 0 {
         let values = expression::values_in(&angles);
@@ -331,8 +331,8 @@ fn open_gate(
     trace: &mut [u64],
     at: Position,
 ) -> Linearized
-    requires { ⌜ Ready (now image) l (now qubits) (now bits) (now table) (suc g) (frame .angles) (frame .qubits) (now out) (now trace) at × (g < l .gates) ⌝ }
-    ensures { λ r. ⌜ Ran (openGate (now (image .entry)) (opening (now (image .entry)) left) (standing (now (image .entry)) (suc g) (anglesIn (frame .angles)) (frame .qubits)) g) (now (out .entry)) at (now (trace .entry)) r (now (out .exit)) (now (trace .exit)) × Fixed (now (image .entry)) (now (table .exit)) ⌝ }
+    requires { ⌜ RunContext (now image) l (now qubits) (now bits) (now table) (suc g) (frame .angles) (frame .qubits) (now out) (now trace) at × (g < l .gates) ⌝ }
+    ensures { λ r. ⌜ RanSteps (openGate (now (image .entry)) (opening (now (image .entry)) left) (scopeFrame (now (image .entry)) (suc g) (anglesIn (frame .angles)) (frame .qubits)) g) (now (out .entry)) at (now (trace .entry)) r (now (out .exit)) (now (trace .exit)) × ConstantsKept (now (image .entry)) (now (table .exit)) ⌝ }
 {
     let angles = frame.angles;
     let formals = frame.qubits;

@@ -10,13 +10,13 @@ use lib.Seq.{getD-set-same, getD-set-other}
 use Rattle.model.specs.Lists.{range, sum}
 use Rattle.model.proofs.Ranges.{sum-next}
 use Rattle.model.proofs.StepsSound.{sum-below}
-use Rattle.image.specs.Firsts.{Firsts}
+use Rattle.image.specs.Firsts.{RegisterStarts}
 
 module _ (size : ℕ → ℕ) where
-  pub firsts-none : (table : List ℕ) → Firsts size 0 table
+  pub firsts-none : (table : List ℕ) → RegisterStarts size 0 table
   firsts-none table = record { fits = zero-le; each = λ r h. absurd (omega arith) }
 
-  pub firsts-next : (i total : ℕ) (table : List ℕ) → i < length table → total ≡ sum (map size (range 0 i)) → Firsts size i table → Firsts size (i + 1) (set table i total)
+  pub firsts-next : (i total : ℕ) (table : List ℕ) → i < length table → total ≡ sum (map size (range 0 i)) → RegisterStarts size i table → RegisterStarts size (i + 1) (set table i total)
   firsts-next i total table h t f = record { fits = omega (arith, length-set table i total); each = λ r l. go r (eq-or-lt-of-le (omega arith)) }
     where
       go : (r : ℕ) → (r ≡ i) ⊎ (r < i) → getD (set table i total) r 0 ≡ sum (map size (range 0 r))

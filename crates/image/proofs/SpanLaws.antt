@@ -9,9 +9,9 @@ use Rattle.model.specs.Image.{word, allStatements, gateAt, bodyStart, bodyLengt
 use Rattle.model.specs.Check.{gateOk}
 use Rattle.model.proofs.All.{test}
 use Rattle.image.specs.declared.Layout.{Layout}
-use Rattle.image.specs.Layout.{Laid, Gated, Holds}
+use Rattle.image.specs.Layout.{LayoutOf, GatesAccepted, StatementsOf}
 
-pub holds-main : (image : List ℕ) (l : Layout) (scope : ℕ) → Laid image l → scope ≡ 0 → Holds image l scope (record { first = 0; count = l .main })
+pub holds-main : (image : List ℕ) (l : Layout) (scope : ℕ) → LayoutOf image l → scope ≡ 0 → StatementsOf image l scope (record { first = 0; count = l .main })
 unfolding scopeStatements
 holds-main image l scope laid z =
     record {
@@ -19,7 +19,7 @@ holds-main image l scope laid z =
       listed = omega (arith, laid .main-is, laid .all-is);
     }
 
-pub holds-body : (image : List ℕ) (l : Layout) (scope p a b : ℕ) → Laid image l → Gated image → scope ≤ l .gates → ¬ (scope ≡ 0) → p ≡ gateAt image (scope - 1) → a ≡ word image (p + 3) → b ≡ word image (p + 4) → Holds image l scope (record { first = a; count = b })
+pub holds-body : (image : List ℕ) (l : Layout) (scope p a b : ℕ) → LayoutOf image l → GatesAccepted image → scope ≤ l .gates → ¬ (scope ≡ 0) → p ≡ gateAt image (scope - 1) → a ≡ word image (p + 3) → b ≡ word image (p + 4) → StatementsOf image l scope (record { first = a; count = b })
 unfolding scopeStatements gateOk
 holds-body image l zero p a b laid known h z ep ea eb = absurd (z refl)
 holds-body image l (suc g) p a b laid known h z ep ea eb =

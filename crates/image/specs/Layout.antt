@@ -14,7 +14,7 @@ use Rattle.image.specs.declared.Contents.{Contents}
 use Rattle.image.specs.declared.Contents.the-variants as contents
 
 -- the layout has the image's counts, and the image is as long as they say
-pub record Laid (image : List ℕ) (l : Layout) : Type 0 where
+pub record LayoutOf (image : List ℕ) (l : Layout) : Type 0 where
   pub quantum-is : l .quantum ≡ quantumRegisters image
   pub classical-is : l .classical ≡ classicalRegisters image
   pub gates-is : l .gates ≡ gates image
@@ -29,13 +29,13 @@ pub record Laid (image : List ℕ) (l : Layout) : Type 0 where
 
 abbrev pub ReadAs : List ℕ → Contents → Type 0
 ReadAs image contents.Wrong = contentsOk image ≡ false
-ReadAs image (contents.Right l) = (contentsOk image ≡ true) × Laid image l
+ReadAs image (contents.Right l) = (contentsOk image ≡ true) × LayoutOf image l
 
 -- every gate entry is well formed
-pub record Gated (image : List ℕ) : Type 0 where
+pub record GatesAccepted (image : List ℕ) : Type 0 where
   pub each : (g : ℕ) → g < gates image → T (gateOk image g)
 
 -- the statements of a scope, each of which the image has
-pub record Holds (image : List ℕ) (l : Layout) (scope : ℕ) (r : Span) : Type 0 where
+pub record StatementsOf (image : List ℕ) (l : Layout) (scope : ℕ) (r : Span) : Type 0 where
   pub statements-are : scopeStatements image scope ≡ range (r .first) (r .count)
   pub listed : r .first + r .count ≤ l .all

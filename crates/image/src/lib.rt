@@ -6,8 +6,8 @@ ghost use Prim.Native.Nat.{_+_, _<_, _≤_, min, max};
 ghost use Rattle.model.specs.Lists.{range, sum};
 ghost use Rattle.model.specs.Image.{word, gateAt, statementAt, argumentAt, parameterAt, expressionAt, argumentSize, classicalArgumentSize, rounds};
 ghost use Rattle.image.specs.Answer.{verdictOf, numberIn, placeIn};
-ghost use Rattle.image.specs.Layout.{Laid, ReadAs, Gated, Holds};
-ghost use Rattle.image.specs.Firsts.{Firsts};
+ghost use Rattle.image.specs.Layout.{LayoutOf, ReadAs, GatesAccepted, StatementsOf};
+ghost use Rattle.image.specs.Firsts.{RegisterStarts};
 
 // The counts of an image.
 pub struct Layout {
@@ -116,7 +116,7 @@ pub fn read_contents(image: &[u64]) -> Contents
 
 // The place of a gate entry.
 pub fn gate_at(image: &[u64], l: Layout, g: u64) -> u64
-    requires { ⌜ Laid (now image) l × (g ≤ 8192) ⌝ }
+    requires { ⌜ LayoutOf (now image) l × (g ≤ 8192) ⌝ }
     ensures { λ r. ⌜ r ≡ gateAt (now (image .entry)) g ⌝ }
 {
     9 + l.quantum + l.classical + 5 * g
@@ -124,7 +124,7 @@ pub fn gate_at(image: &[u64], l: Layout, g: u64) -> u64
 
 // The place of a statement.
 pub fn statement_at(image: &[u64], l: Layout, s: u64) -> u64
-    requires { ⌜ Laid (now image) l × (s ≤ 8192) ⌝ }
+    requires { ⌜ LayoutOf (now image) l × (s ≤ 8192) ⌝ }
     ensures { λ r. ⌜ r ≡ statementAt (now (image .entry)) s ⌝ }
 {
     9 + l.quantum + l.classical + 5 * l.gates + 5 * s
@@ -132,7 +132,7 @@ pub fn statement_at(image: &[u64], l: Layout, s: u64) -> u64
 
 // The place of an argument.
 pub fn argument_at(image: &[u64], l: Layout, a: u64) -> u64
-    requires { ⌜ Laid (now image) l × (a ≤ 8192) ⌝ }
+    requires { ⌜ LayoutOf (now image) l × (a ≤ 8192) ⌝ }
     ensures { λ r. ⌜ r ≡ argumentAt (now (image .entry)) a ⌝ }
 {
     9 + l.quantum + l.classical + 5 * l.gates + 5 * l.all + 2 * a
@@ -140,7 +140,7 @@ pub fn argument_at(image: &[u64], l: Layout, a: u64) -> u64
 
 // The place of a parameter.
 pub fn parameter_at(image: &[u64], l: Layout, p: u64) -> u64
-    requires { ⌜ Laid (now image) l × (p ≤ 8192) ⌝ }
+    requires { ⌜ LayoutOf (now image) l × (p ≤ 8192) ⌝ }
     ensures { λ r. ⌜ r ≡ parameterAt (now (image .entry)) p ⌝ }
 {
     9 + l.quantum + l.classical + 5 * l.gates + 5 * l.all + 2 * l.arguments + p
@@ -148,7 +148,7 @@ pub fn parameter_at(image: &[u64], l: Layout, p: u64) -> u64
 
 // The place of an expression.
 pub fn expression_at(image: &[u64], l: Layout, e: u64) -> u64
-    requires { ⌜ Laid (now image) l × (e ≤ 8192) ⌝ }
+    requires { ⌜ LayoutOf (now image) l × (e ≤ 8192) ⌝ }
     ensures { λ r. ⌜ r ≡ expressionAt (now (image .entry)) e ⌝ }
 {
     9 + l.quantum + l.classical + 5 * l.gates + 5 * l.all + 2 * l.arguments + l.parameters + 3 * e
@@ -167,7 +167,7 @@ pub fn put(table: &mut [u64], i: usize, x: u64)
 // Where each of n registers starts whose sizes stand from a place on: their first qubits, or bits, in one pass.
 pub fn first_of_each(image: &[u64], at: u64, n: u64, firsts: &mut [u64])
     requires { ⌜ (at ≤ 16384) × (n ≤ length (now firsts)) × (sum (map (λ i. word (now image) (at + i)) (range 0 n)) ≤ 4096) ⌝ }
-    ensures { λ r. ⌜ Firsts (λ i. word (now (image .entry)) (at + i)) n (now (firsts .exit)) ⌝ }
+    ensures { λ r. ⌜ RegisterStarts (λ i. word (now (image .entry)) (at + i)) n (now (firsts .exit)) ⌝ }
 {
     let mut total = 0u64;
     let mut r = 0u64;
@@ -181,7 +181,7 @@ pub fn first_of_each(image: &[u64], at: u64, n: u64, firsts: &mut [u64])
 // ---- sizes
 
 pub fn argument_size(image: &[u64], l: Layout, scope: u64, a: u64) -> u64
-    requires { ⌜ Laid (now image) l × (a ≤ 8192) ⌝ }
+    requires { ⌜ LayoutOf (now image) l × (a ≤ 8192) ⌝ }
     ensures { λ r. ⌜ r ≡ argumentSize (now (image .entry)) scope a ⌝ }
 {
     if scope != 0 {
@@ -195,7 +195,7 @@ pub fn argument_size(image: &[u64], l: Layout, scope: u64, a: u64) -> u64
 }
 
 pub fn classical_argument_size(image: &[u64], l: Layout, a: u64) -> u64
-    requires { ⌜ Laid (now image) l × (a ≤ 8192) ⌝ }
+    requires { ⌜ LayoutOf (now image) l × (a ≤ 8192) ⌝ }
     ensures { λ r. ⌜ r ≡ classicalArgumentSize (now (image .entry)) a ⌝ }
 {
     let at = argument_at(image, l, a);
@@ -214,7 +214,7 @@ pub fn larger(x: u64, y: u64) -> u64
 
 // The largest size of some arguments, 0 of none: the rounds of a statement.
 pub fn rounds_of(image: &[u64], l: Layout, scope: u64, a: u64, n: u64) -> u64
-    requires { ⌜ Laid (now image) l × (a + n ≤ 8192) ⌝ }
+    requires { ⌜ LayoutOf (now image) l × (a + n ≤ 8192) ⌝ }
     ensures { λ r. ⌜ r ≡ rounds (now (image .entry)) scope (range a n) ⌝ }
 {
     let mut most = 0u64;
@@ -239,8 +239,8 @@ pub struct Span {
 
 // The statements of a scope.
 pub fn statements_of(image: &[u64], l: Layout, scope: u64) -> Span
-    requires { ⌜ Laid (now image) l × Gated (now image) × (scope ≤ l .gates) ⌝ }
-    ensures { λ r. ⌜ Holds (now (image .entry)) l scope r ⌝ }
+    requires { ⌜ LayoutOf (now image) l × GatesAccepted (now image) × (scope ≤ l .gates) ⌝ }
+    ensures { λ r. ⌜ StatementsOf (now (image .entry)) l scope r ⌝ }
 {
     if scope == 0 {
         return Span {

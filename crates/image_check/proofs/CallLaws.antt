@@ -8,10 +8,10 @@ use lib.Dec.{T, leb→le, ltb→lt}
 use Rattle.model.specs.Image.{word, gates, arguments, parameters, gateAt, gateParameters, gateArguments}
 use Rattle.model.proofs.All.{test}
 use Rattle.image.specs.declared.Layout.{Layout}
-use Rattle.image.specs.Layout.{Laid}
+use Rattle.image.specs.Layout.{LayoutOf}
 use Rattle.image_check.specs.Statements.{callFits}
 
-module _ (image : List ℕ) (l : Layout) (s g p a : ℕ) (laid : Laid image l) (ok : callFits image s g p a ≡ true) where
+module _ (image : List ℕ) (l : Layout) (s g p a : ℕ) (laid : LayoutOf image l) (ok : callFits image s g p a ≡ true) where
   told : T (callFits image s g p a)
   told = subst T (sym ok) tt
 

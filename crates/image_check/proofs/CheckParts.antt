@@ -14,7 +14,7 @@ use Rattle.model.specs.Check.{Verdict, fine, bad, orElse, firstBad, quantumRegi
 use Rattle.image_entries.specs.declared.Fault.{Fault}
 use Rattle.image.specs.declared.Layout.{Layout}
 use Rattle.image_entries.specs.Faults.{verdictOfFault, registerFlaw}
-use Rattle.image.specs.Layout.{Laid, Gated}
+use Rattle.image.specs.Layout.{LayoutOf, GatesAccepted}
 use Rattle.image_check.proofs.NumberLaws.{Known, check-known}
 
 -- a fault, or none
@@ -36,12 +36,12 @@ module _ (image : List ℕ) (l : Layout) where
   abbrev pub classicalPart : Verdict
   classicalPart = firstBad (registerFlaw (λ i. word image (9 + l .quantum + i))) (λ i. 9 + l .quantum + i) (range 0 (l .classical))
 
-  registers-read : Laid image l → registers image ≡ orElse quantumPart classicalPart
+  registers-read : LayoutOf image l → registers image ≡ orElse quantumPart classicalPart
   unfolding registers quantumRegisterFlaw classicalRegisterFlaw registerFlaw firstQubit firstBit
   registers-read h = sym (rw (h .quantum-is, h .classical-is) refl)
 
   -- the four parts in their turn
-  pub in-turn : Laid image l → orElse quantumPart (orElse classicalPart (orElse (gateEntries image) (statementEntries image))) ≡ orElse (registers image) (orElse (gateEntries image) (statementEntries image))
+  pub in-turn : LayoutOf image l → orElse quantumPart (orElse classicalPart (orElse (gateEntries image) (statementEntries image))) ≡ orElse (registers image) (orElse (gateEntries image) (statementEntries image))
   in-turn h = grouped quantumPart classicalPart (orElse (gateEntries image) (statementEntries image)) ∙ ap (λ (v : Verdict). orElse v (orElse (gateEntries image) (statementEntries image))) (sym (registers-read h))
     where
       grouped : (a b c : Verdict) → orElse a (orElse b c) ≡ orElse (orElse a b) c
@@ -49,7 +49,7 @@ module _ (image : List ℕ) (l : Layout) where
       grouped (bad n p) b c = refl
 
 -- without a bad gate entry every one is well formed
-pub gated : (image : List ℕ) → gateEntries image ≡ fine → Gated image
+pub gated : (image : List ℕ) → gateEntries image ≡ fine → GatesAccepted image
 unfolding gateEntries gateFlaw
 gated image e = record { each = λ g h. passes 0 _ (range-All {P = λ g. gateFlaw image g ≡ 0} 0 (gates image) g (none-bad _ _ _ e) (omega arith) (omega arith)) tt }
 

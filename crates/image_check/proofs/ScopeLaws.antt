@@ -8,10 +8,10 @@ use lib.Dec.{ltb, leb→le}
 use Rattle.model.specs.Image.{gates, variables}
 use Rattle.model.specs.Check.{gateOk, downward}
 use Rattle.model.proofs.All.{test}
-use Rattle.image.specs.Layout.{Gated}
+use Rattle.image.specs.Layout.{GatesAccepted}
 
 module _ (image : List ℕ) where
-  pub variables-few : Gated image → (scope n : ℕ) → n ≡ gates image → scope ≤ n → variables image scope ≤ 16
+  pub variables-few : GatesAccepted image → (scope n : ℕ) → n ≡ gates image → scope ≤ n → variables image scope ≤ 16
   unfolding variables gateOk
   variables-few known zero n e h = omega arith
   variables-few known (suc g) n e h = leb→le _ 16 (test 0 _ (known .each g (omega arith)))

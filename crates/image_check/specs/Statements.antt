@@ -7,14 +7,14 @@ use Rattle.model.specs.Lists.{every}
 use Rattle.model.specs.Image.{gates, arguments, parameters, gateParameters, gateArguments}
 use Rattle.model.specs.Check.{fits, unused}
 use Rattle.image.specs.declared.Layout.{Layout}
-use Rattle.image.specs.Layout.{Laid, Gated}
-use Rattle.image_entries.specs.Judging.{Judged}
+use Rattle.image.specs.Layout.{LayoutOf, GatesAccepted}
+use Rattle.image_entries.specs.Judging.{JudgementTables}
 
 -- what is known where the statements of a scope are judged
-pub record Ready (image : List ℕ) (l : Layout) (levels reaches : List ℕ) (scope : ℕ) : Type 0 where
-  pub laid : Laid image l
-  pub judged : Judged image (l .expressions) levels reaches
-  pub gated : Gated image
+pub record CheckContext (image : List ℕ) (l : Layout) (levels reaches : List ℕ) (scope : ℕ) : Type 0 where
+  pub laid : LayoutOf image l
+  pub judged : JudgementTables image (l .expressions) levels reaches
+  pub gated : GatesAccepted image
   pub within : scope ≤ l .gates
 
 -- what document 01 asks first of a call of gate g as statement s, from parameter p and argument a on

@@ -10,10 +10,10 @@ ghost use Rattle.model.specs.Lists.{all};
 ghost use Rattle.model.specs.Image.{U, CX, Gate, Barrier, Measure, Reset, statement, statementAt, scopeStatements};
 ghost use Rattle.model.specs.Check.{firstBad, expressionOk, downward, conditionalFlaw, plainFlaw, flaw, registers, gateEntries, statementEntries, check, firstOf, inConditional, orElse};
 ghost use Rattle.image.specs.Answer.{verdictOf};
-ghost use Rattle.image.specs.Layout.{Laid, Gated};
+ghost use Rattle.image.specs.Layout.{LayoutOf, GatesAccepted};
 ghost use Rattle.image_entries.specs.Faults.{verdictOfFault};
-ghost use Rattle.image_entries.specs.Judging.{Judged};
-ghost use Rattle.image_check.specs.Statements.{Ready, callFits};
+ghost use Rattle.image_entries.specs.Judging.{JudgementTables};
+ghost use Rattle.image_check.specs.Statements.{CheckContext, callFits};
 
 // ---- statements
 
@@ -38,7 +38,7 @@ fn angles_ok(
     phi: u64,
     lambda: u64,
 ) -> bool
-    requires { ⌜ Laid (now image) l × Judged (now image) (l .expressions) (now levels) (now reaches) × (v ≤ 16) ⌝ }
+    requires { ⌜ LayoutOf (now image) l × JudgementTables (now image) (l .expressions) (now levels) (now reaches) × (v ≤ 16) ⌝ }
     ensures { λ r. ⌜ r ≡ all (expressionOk (now (image .entry)) v 32) (theta ∷ phi ∷ lambda ∷ []) ⌝ }
 {
     if !image_entries::expression_ok(image, l, levels, reaches, v, theta) {
@@ -62,7 +62,7 @@ fn u_flaw(
     lambda: u64,
     q: u64,
 ) -> u64
-    requires { ⌜ Ready (now image) l (now levels) (now reaches) scope ⌝ }
+    requires { ⌜ CheckContext (now image) l (now levels) (now reaches) scope ⌝ }
     ensures { λ r. ⌜ ((s : ℕ) → r ≡ plainFlaw (now (image .entry)) (λ r v t. 4) scope s (U theta phi lambda q)) ⌝ }
 {
     let n = l.expressions;
@@ -91,7 +91,7 @@ fn u_flaw(
 
 // What is wrong with CX as statement s: 4, 5 or 7.
 fn cx_flaw(image: &[u64], l: Layout, scope: u64, s: u64, a: u64, b: u64) -> u64
-    requires { ⌜ Laid (now image) l × (scope ≤ l .gates) × (s ≤ 8192) ⌝ }
+    requires { ⌜ LayoutOf (now image) l × (scope ≤ l .gates) × (s ≤ 8192) ⌝ }
     ensures { λ r. ⌜ r ≡ plainFlaw (now (image .entry)) (λ r v t. 4) scope s (CX a b) ⌝ }
 {
     if !image_entries::unused_after(image, l, s, 3) {
@@ -117,7 +117,7 @@ fn cx_flaw(image: &[u64], l: Layout, scope: u64, s: u64, a: u64, b: u64) -> u64
 
 // Whether a call of gate g as statement s has numbers and runs in range, and no unused word.
 fn call_fits(image: &[u64], l: Layout, s: u64, g: u64, p: u64, a: u64) -> bool
-    requires { ⌜ Laid (now image) l × (s ≤ 8192) ⌝ }
+    requires { ⌜ LayoutOf (now image) l × (s ≤ 8192) ⌝ }
     ensures { λ r. ⌜ r ≡ callFits (now (image .entry)) s g p a ⌝ }
 {
     if !image_entries::unused_after(image, l, s, 4) {
@@ -162,7 +162,7 @@ fn call_flaw(
     p: u64,
     a: u64,
 ) -> u64
-    requires { ⌜ Ready (now image) l (now levels) (now reaches) scope × (s ≤ 8192) ⌝ }
+    requires { ⌜ CheckContext (now image) l (now levels) (now reaches) scope × (s ≤ 8192) ⌝ }
     ensures { λ r. ⌜ r ≡ plainFlaw (now (image .entry)) (λ r v t. 4) scope s (Gate g p a) ⌝ }
 {
     if !call_fits(image, l, s, g, p, a) {
@@ -186,7 +186,7 @@ fn call_flaw(
 
 // What is wrong with a barrier as statement s: 4 or 5.
 fn barrier_flaw(image: &[u64], l: Layout, scope: u64, s: u64, a: u64, n: u64) -> u64
-    requires { ⌜ Laid (now image) l × (scope ≤ l .gates) × (s ≤ 8192) ⌝ }
+    requires { ⌜ LayoutOf (now image) l × (scope ≤ l .gates) × (s ≤ 8192) ⌝ }
     ensures { λ r. ⌜ r ≡ plainFlaw (now (image .entry)) (λ r v t. 4) scope s (Barrier a n) ⌝ }
 {
     if !image_entries::unused_after(image, l, s, 3) {
@@ -204,7 +204,7 @@ fn barrier_flaw(image: &[u64], l: Layout, scope: u64, s: u64, a: u64, n: u64) ->
 
 // What is wrong with a measurement as statement s: 4, 5 or 7.
 fn measure_flaw(image: &[u64], l: Layout, scope: u64, s: u64, q: u64, c: u64) -> u64
-    requires { ⌜ Laid (now image) l × (scope ≤ l .gates) × (s ≤ 8192) ⌝ }
+    requires { ⌜ LayoutOf (now image) l × (scope ≤ l .gates) × (s ≤ 8192) ⌝ }
     ensures { λ r. ⌜ r ≡ plainFlaw (now (image .entry)) (λ r v t. 4) scope s (Measure q c) ⌝ }
 {
     if scope != 0 {
@@ -233,7 +233,7 @@ fn measure_flaw(image: &[u64], l: Layout, scope: u64, s: u64, q: u64, c: u64) ->
 
 // What is wrong with a reset as statement s: 4 or 5.
 fn reset_flaw(image: &[u64], l: Layout, scope: u64, s: u64, q: u64) -> u64
-    requires { ⌜ Laid (now image) l × (scope ≤ l .gates) × (s ≤ 8192) ⌝ }
+    requires { ⌜ LayoutOf (now image) l × (scope ≤ l .gates) × (s ≤ 8192) ⌝ }
     ensures { λ r. ⌜ r ≡ plainFlaw (now (image .entry)) (λ r v t. 4) scope s (Reset q) ⌝ }
 {
     if scope != 0 {
@@ -254,7 +254,7 @@ fn reset_flaw(image: &[u64], l: Layout, scope: u64, s: u64, q: u64) -> u64
 
 // What is wrong with statement s, which an if may hold: an if itself is of no kind allowed there.
 fn plain_flaw(image: &[u64], l: Layout, levels: &[u64], reaches: &[u64], scope: u64, s: u64) -> u64
-    requires { ⌜ Ready (now image) l (now levels) (now reaches) scope × (s ≤ 8192) ⌝ }
+    requires { ⌜ CheckContext (now image) l (now levels) (now reaches) scope × (s ≤ 8192) ⌝ }
     ensures { λ r. ⌜ r ≡ plainFlaw (now (image .entry)) (λ r v t. 4) scope s (statement (now (image .entry)) s) ⌝ }
 {
     let at = image::statement_at(image, l, s);
@@ -276,7 +276,7 @@ fn plain_flaw(image: &[u64], l: Layout, levels: &[u64], reaches: &[u64], scope: 
 
 // Whether an if may hold statement t.
 fn held(image: &[u64], l: Layout, t: u64) -> bool
-    requires { ⌜ Laid (now image) l × (t ≤ 8192) ⌝ }
+    requires { ⌜ LayoutOf (now image) l × (t ≤ 8192) ⌝ }
     ensures { λ r. ⌜ r ≡ inConditional (now (image .entry)) (statement (now (image .entry)) t) ⌝ }
 {
     let kind = image::word(image, image::statement_at(image, l, t));
@@ -297,7 +297,7 @@ fn conditional_flaw(
     r: u64,
     t: u64,
 ) -> u64
-    requires { ⌜ Ready (now image) l (now levels) (now reaches) scope × (s ≤ 8192) ⌝ }
+    requires { ⌜ CheckContext (now image) l (now levels) (now reaches) scope × (s ≤ 8192) ⌝ }
     ensures { λ n. ⌜ ((v : ℕ) → n ≡ conditionalFlaw (now (image .entry)) scope s r v t) ⌝ }
 {
     if scope != 0 {
@@ -330,7 +330,7 @@ fn statement_flaw(
     scope: u64,
     s: u64,
 ) -> u64
-    requires { ⌜ Ready (now image) l (now levels) (now reaches) scope × (s ≤ 8192) ⌝ }
+    requires { ⌜ CheckContext (now image) l (now levels) (now reaches) scope × (s ≤ 8192) ⌝ }
     ensures { λ r. ⌜ r ≡ flaw (now (image .entry)) scope s ⌝ }
 {
     let at = image::statement_at(image, l, s);
@@ -344,7 +344,7 @@ fn statement_flaw(
 
 // The first bad statement of a scope.
 fn scope_fault(image: &[u64], l: Layout, levels: &[u64], reaches: &[u64], scope: u64) -> Fault
-    requires { ⌜ Ready (now image) l (now levels) (now reaches) scope ⌝ }
+    requires { ⌜ CheckContext (now image) l (now levels) (now reaches) scope ⌝ }
     ensures { λ r. ⌜ verdictOfFault r ≡ firstBad (λ s. flaw (now (image .entry)) scope s) (statementAt (now (image .entry))) (scopeStatements (now (image .entry)) scope) ⌝ }
 {
     let span = image::statements_of(image, l, scope);
@@ -367,7 +367,7 @@ fn scope_fault(image: &[u64], l: Layout, levels: &[u64], reaches: &[u64], scope:
 
 // The first bad statement: main's in order, then the bodies' by gate number.
 fn statements_fault(image: &[u64], l: Layout, levels: &[u64], reaches: &[u64]) -> Fault
-    requires { ⌜ Laid (now image) l × Judged (now image) (l .expressions) (now levels) (now reaches) × Gated (now image) ⌝ }
+    requires { ⌜ LayoutOf (now image) l × JudgementTables (now image) (l .expressions) (now levels) (now reaches) × GatesAccepted (now image) ⌝ }
     ensures { λ r. ⌜ verdictOfFault r ≡ statementEntries (now (image .entry)) ⌝ }
 {
     let n = l.gates;
@@ -387,7 +387,7 @@ fn statements_fault(image: &[u64], l: Layout, levels: &[u64], reaches: &[u64]) -
 
 // The first bad statement, with tables for a few expressions.
 fn few_expressions_fault(image: &[u64], l: Layout) -> Fault
-    requires { ⌜ Laid (now image) l × Gated (now image) × (l .expressions ≤ 128) ⌝ }
+    requires { ⌜ LayoutOf (now image) l × GatesAccepted (now image) × (l .expressions ≤ 128) ⌝ }
     ensures { λ r. ⌜ verdictOfFault r ≡ statementEntries (now (image .entry)) ⌝ }
 {
     let mut levels = [0u64; 128];
@@ -398,7 +398,7 @@ fn few_expressions_fault(image: &[u64], l: Layout) -> Fault
 
 // The same with tables for as many expressions as an image may have.
 fn many_expressions_fault(image: &[u64], l: Layout) -> Fault
-    requires { ⌜ Laid (now image) l × Gated (now image) ⌝ }
+    requires { ⌜ LayoutOf (now image) l × GatesAccepted (now image) ⌝ }
     ensures { λ r. ⌜ verdictOfFault r ≡ statementEntries (now (image .entry)) ⌝ }
 {
     let mut levels = [0u64; 2728];
@@ -409,7 +409,7 @@ fn many_expressions_fault(image: &[u64], l: Layout) -> Fault
 
 // The first bad statement, once the expressions are judged: a small program should not pay for clearing the long tables.
 fn judged_fault(image: &[u64], l: Layout) -> Fault
-    requires { ⌜ Laid (now image) l × Gated (now image) ⌝ }
+    requires { ⌜ LayoutOf (now image) l × GatesAccepted (now image) ⌝ }
     ensures { λ r. ⌜ verdictOfFault r ≡ statementEntries (now (image .entry)) ⌝ }
 {
     if l.expressions <= 128 {
@@ -422,7 +422,7 @@ fn judged_fault(image: &[u64], l: Layout) -> Fault
 
 // The first fault of an image whose contents are right.
 fn first_fault(image: &[u64], l: Layout) -> Fault
-    requires { ⌜ Laid (now image) l ⌝ }
+    requires { ⌜ LayoutOf (now image) l ⌝ }
     ensures { λ r. ⌜ verdictOfFault r ≡ orElse (registers (now (image .entry))) (orElse (gateEntries (now (image .entry))) (statementEntries (now (image .entry)))) ⌝ }
 {
     let quantum = image_entries::register_fault(image, 9, l.quantum);

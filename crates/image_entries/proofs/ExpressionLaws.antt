@@ -15,7 +15,7 @@ use Rattle.model.specs.Lists.{every}
 use Rattle.model.specs.Image.{Expr, Pi, Real, Int, Var, Binary, Unary, expressionOf, word, expression, expressionAt, expressions, parameter, parameterAt}
 use Rattle.model.specs.Check.{entryOk, expressionOk}
 use Rattle.model.proofs.All.{All, nil, cons, and-T, T-and}
-use Rattle.image_entries.specs.Judging.{accepts, Judged, leafFits, wordsOk, Tells}
+use Rattle.image_entries.specs.Judging.{accepts, JudgementTables, leafFits, wordsOk, JudgementIs}
 use Rattle.image.proofs.KindLaws.{entry-is}
 
 -- ---- what a level and a reach accept
@@ -48,7 +48,7 @@ module _ (x p y q : ℕ) where
   both-facts v k t = let s = and-T (accepts x p v k) _ t in (accepted x p v k (s .0), accepted y q v k (s .1))
 
   over-none : (level reach : ℕ) → level ≡ 0 → ((k : ℕ) → k < 32 → 1 ≤ x → x ≤ k → 1 ≤ y → y ≤ k → ⊥)
-      → Tells level reach (λ v k. accepts x p v k && accepts y q v k)
+      → JudgementIs level reach (λ v k. accepts x p v k && accepts y q v k)
   over-none level reach z h =
       record {
         right = λ v k hv hk.
@@ -58,18 +58,18 @@ module _ (x p y q : ℕ) where
       }
 
   -- one is not well formed
-  pub over-left : x ≡ 0 → Tells x p (λ v k. accepts x p v k && accepts y q v k)
+  pub over-left : x ≡ 0 → JudgementIs x p (λ v k. accepts x p v k && accepts y q v k)
   over-left z = over-none x p z (λ k h i j m n. omega arith)
 
-  pub over-right : y ≡ 0 → Tells y q (λ v k. accepts x p v k && accepts y q v k)
+  pub over-right : y ≡ 0 → JudgementIs y q (λ v k. accepts x p v k && accepts y q v k)
   over-right z = over-none y q z (λ k h i j m n. omega arith)
 
   -- one has all the levels that there may be
-  pub over-deep : (level : ℕ) → level ≡ max x y → 32 ≤ level → Tells 0 0 (λ v k. accepts x p v k && accepts y q v k)
+  pub over-deep : (level : ℕ) → level ≡ max x y → 32 ≤ level → JudgementIs 0 0 (λ v k. accepts x p v k && accepts y q v k)
   over-deep level d l = over-none 0 0 refl (λ k h i j m n. omega arith)
 
   pub over-joined : (level reach : ℕ) → level ≡ max x y → reach ≡ max p q → (x ≡ 0 → ⊥) → (y ≡ 0 → ⊥)
-      → Tells (level + 1) reach (λ v k. accepts x p v k && accepts y q v k)
+      → JudgementIs (level + 1) reach (λ v k. accepts x p v k && accepts y q v k)
   over-joined level reach d e h g =
       record {
         right = λ v k hv hk.
@@ -107,11 +107,11 @@ leaf-words (suc (suc (suc (suc j)))) a b v =
 
 module _ (kind a b : ℕ) where
   -- its third word is not 0
-  pub leaf-second : (b ≡ 0 → ⊥) → Tells 0 0 (λ v k. wordsOk kind a b v (λ i. false))
+  pub leaf-second : (b ≡ 0 → ⊥) → JudgementIs 0 0 (λ v k. wordsOk kind a b v (λ i. false))
   leaf-second h = record { right = λ v k hv hk. leaf-words kind a b v ∙ rw (ne-eqb b 0 h) (and-false (leafFits v kind a)) }
 
   -- its second word may not stand there
-  pub leaf-unfit : leafFits 16 kind a ≡ false → Tells 0 0 (λ v k. wordsOk kind a b v (λ i. false))
+  pub leaf-unfit : leafFits 16 kind a ≡ false → JudgementIs 0 0 (λ v k. wordsOk kind a b v (λ i. false))
   leaf-unfit h = record { right = λ v k hv hk. leaf-words kind a b v ∙ rw (fewer kind v hv h) refl }
     where
       fewer : (kind v : ℕ) → v ≤ 16 → leafFits 16 kind a ≡ false → leafFits v kind a ≡ false
@@ -122,7 +122,7 @@ module _ (kind a b : ℕ) where
       fewer (suc (suc (suc (suc j)))) v hv h = refl
 
   -- any but a variable
-  pub leaf-constant : b ≡ 0 → leafFits 16 kind a ≡ true → (kind ≡ 3 → ⊥) → Tells 1 0 (λ v k. wordsOk kind a b v (λ i. false))
+  pub leaf-constant : b ≡ 0 → leafFits 16 kind a ≡ true → (kind ≡ 3 → ⊥) → JudgementIs 1 0 (λ v k. wordsOk kind a b v (λ i. false))
   leaf-constant z h n =
       record {
         right = λ v k hv hk.
@@ -137,7 +137,7 @@ module _ (kind a b : ℕ) where
       same (suc (suc (suc zero))) v h n = absurd (n refl)
       same (suc (suc (suc (suc j)))) v h n = h
 
-  pub leaf-variable : b ≡ 0 → kind ≡ 3 → Tells 1 (a + 1) (λ v k. wordsOk kind a b v (λ i. false))
+  pub leaf-variable : b ≡ 0 → kind ≡ 3 → JudgementIs 1 (a + 1) (λ v k. wordsOk kind a b v (λ i. false))
   leaf-variable z e =
       record {
         right = λ v k hv hk.
@@ -215,13 +215,13 @@ module _ (image : List ℕ) (e : ℕ) where
           ∙ entry-words (expressionAt image e) v (operandOk v k) (ap (λ (p : ℕ). word image (p + 1)) (sym at-is) ∙ sym a-is) (ap (λ (p : ℕ). word image (p + 2)) (sym at-is) ∙ sym b-is) (expression image e)
           ∙ ap (entryOk (kind ∷ a ∷ b ∷ []) v (operandOk v k) 0) its-words)
 
-      pub judged-leaf : (level reach : ℕ) → kind < 4 → Tells level reach (λ v k. wordsOk kind a b v (λ i. false)) → Tells level reach (λ v k. expressionOk image v (suc k) e)
+      pub judged-leaf : (level reach : ℕ) → kind < 4 → JudgementIs level reach (λ v k. wordsOk kind a b v (λ i. false)) → JudgementIs level reach (λ v k. expressionOk image v (suc k) e)
       judged-leaf level reach h t = record { right = λ v k hv hk. by-words v k ∙ leaf-kind a b v (operandOk v k) kind h ∙ t .right v k hv hk }
 
-      pub judged-unknown : 16 ≤ kind → Tells 0 0 (λ v k. expressionOk image v (suc k) e)
+      pub judged-unknown : 16 ≤ kind → JudgementIs 0 0 (λ v k. expressionOk image v (suc k) e)
       judged-unknown h = record { right = λ v k hv hk. by-words v k ∙ unknown-kind a b v (operandOk v k) kind h }
 
-      pub judged-unused : 9 ≤ kind → kind < 16 → (b ≡ 0 → ⊥) → Tells 0 0 (λ v k. expressionOk image v (suc k) e)
+      pub judged-unused : 9 ≤ kind → kind < 16 → (b ≡ 0 → ⊥) → JudgementIs 0 0 (λ v k. expressionOk image v (suc k) e)
       unfolding every
       judged-unused l h z =
           record {
@@ -229,7 +229,7 @@ module _ (image : List ℕ) (e : ℕ) where
           }
 
       -- over operands that the tables tell of
-      module _ (levels reaches : List ℕ) (told : Judged image e levels reaches) where
+      module _ (levels reaches : List ℕ) (told : JudgementTables image e levels reaches) where
         abbrev leveled : ℕ → ℕ
         leveled i = cond (ltb i e) (getD levels i 0) 0
 
@@ -245,7 +245,7 @@ module _ (image : List ℕ) (e : ℕ) where
             go false t = refl
 
         pub judged-binary : (x p y q level reach : ℕ) → 4 ≤ kind → kind < 9 → x ≡ leveled a → p ≡ reached a → y ≡ leveled b → q ≡ reached b
-            → Tells level reach (λ v k. accepts x p v k && accepts y q v k) → Tells level reach (λ v k. expressionOk image v (suc k) e)
+            → JudgementIs level reach (λ v k. accepts x p v k && accepts y q v k) → JudgementIs level reach (λ v k. expressionOk image v (suc k) e)
         unfolding every
         judged-binary x p y q level reach l h x-is p-is y-is q-is t =
             record {
@@ -255,7 +255,7 @@ module _ (image : List ℕ) (e : ℕ) where
             }
 
         pub judged-unary : (x p level reach : ℕ) → 9 ≤ kind → kind < 16 → b ≡ 0 → x ≡ leveled a → p ≡ reached a
-            → Tells level reach (λ v k. accepts x p v k && accepts x p v k) → Tells level reach (λ v k. expressionOk image v (suc k) e)
+            → JudgementIs level reach (λ v k. accepts x p v k && accepts x p v k) → JudgementIs level reach (λ v k. expressionOk image v (suc k) e)
         unfolding every
         judged-unary x p level reach l h z x-is p-is t =
             record {
@@ -265,12 +265,12 @@ module _ (image : List ℕ) (e : ℕ) where
             }
 
 -- ---- the tables
-pub judged-none : (image levels reaches : List ℕ) → Judged image 0 levels reaches
+pub judged-none : (image levels reaches : List ℕ) → JudgementTables image 0 levels reaches
 judged-none image levels reaches = record { levels-fit = zero-le; reaches-fit = zero-le; right = λ e h. absurd (omega arith) }
 
 -- one entry more
-pub judged-next : (image : List ℕ) (e level reach : ℕ) (levels reaches : List ℕ) → e < length levels → e < length reaches → Judged image e levels reaches
-    → Tells level reach (λ v k. expressionOk image v (suc k) e) → Judged image (e + 1) (set levels e level) (set reaches e reach)
+pub judged-next : (image : List ℕ) (e level reach : ℕ) (levels reaches : List ℕ) → e < length levels → e < length reaches → JudgementTables image e levels reaches
+    → JudgementIs level reach (λ v k. expressionOk image v (suc k) e) → JudgementTables image (e + 1) (set levels e level) (set reaches e reach)
 unfolding expressionOk
 judged-next image e level reach levels reaches hl hr j t =
     record {
@@ -289,7 +289,7 @@ judged-next image e level reach levels reaches hl hr j t =
         rw (getD-set-other levels e i level 0 (λ d. omega arith), getD-set-other reaches e i reach 0 (λ d. omega arith)) (j .right i l v k hv hk)
 
 -- what the tables tell of one entry
-module _ (image : List ℕ) (v e n : ℕ) (levels reaches : List ℕ) (told : Judged image n levels reaches) (few : v ≤ 16) (inside : e < n) where
+module _ (image : List ℕ) (v e n : ℕ) (levels reaches : List ℕ) (told : JudgementTables image n levels reaches) (few : v ≤ 16) (inside : e < n) where
   pub told-reach : 1 ≤ getD levels e 0 → getD levels e 0 ≤ 32 → leb (getD reaches e 0) v ≡ expressionOk image v 32 e
   told-reach p q = sym (told .right e inside v 32 few (omega arith) ∙ rw (le-leb 1 (getD levels e 0) p, le-leb (getD levels e 0) 32 q) refl)
 

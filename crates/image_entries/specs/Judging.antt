@@ -13,7 +13,7 @@ abbrev pub accepts : ℕ → ℕ → ℕ → ℕ → Bool
 accepts level reach v k = leb 1 level && (leb level k && leb reach v)
 
 -- the tables tell of each of n expressions whether it is well formed to k levels with v variables
-pub record Judged (image : List ℕ) (n : ℕ) (levels reaches : List ℕ) : Type 0 where
+pub record JudgementTables (image : List ℕ) (n : ℕ) (levels reaches : List ℕ) : Type 0 where
   -- each table has a word for each
   pub levels-fit : n ≤ length levels
   pub reaches-fit : n ≤ length reaches
@@ -28,5 +28,5 @@ abbrev pub wordsOk : ℕ → ℕ → ℕ → ℕ → (ℕ → Bool) → Bool
 wordsOk kind a b v operand = entryOk (kind ∷ a ∷ b ∷ []) v operand 0 (expressionOf kind a b)
 
 -- a level and a reach tell whether an entry is well formed with v variables, its operands having at most k levels
-pub record Tells (level reach : ℕ) (ok : ℕ → ℕ → Bool) : Type 0 where
+pub record JudgementIs (level reach : ℕ) (ok : ℕ → ℕ → Bool) : Type 0 where
   pub right : (v k : ℕ) → v ≤ 16 → k < 32 → ok v k ≡ accepts level reach v (suc k)

@@ -9,9 +9,9 @@ ghost use Prim.Native.Nat.{_+_, _-_, _<_, _≤_, suc};
 ghost use Rattle.model.specs.Lists.{range, every, all};
 ghost use Rattle.model.specs.Image.{word, parameter, variables, argumentSize};
 ghost use Rattle.model.specs.Check.{firstBad, gateOk, expressionOk, argumentOk, classicalArgumentOk, unused, matching, gateEntries};
-ghost use Rattle.image.specs.Layout.{Laid};
+ghost use Rattle.image.specs.Layout.{LayoutOf};
 ghost use Rattle.image_entries.specs.Faults.{verdictOfFault, registerFlaw};
-ghost use Rattle.image_entries.specs.Judging.{accepts, Judged, leafFits, wordsOk, Tells};
+ghost use Rattle.image_entries.specs.Judging.{accepts, JudgementTables, leafFits, wordsOk, JudgementIs};
 
 // A number of document 01 with its place; number 0 is nothing wrong.
 pub struct Fault {
@@ -87,7 +87,7 @@ fn gate_words_ok(body: u64, start: u64, length: u64, main: u64, all: u64) -> boo
 }
 
 fn gate_ok(image: &[u64], l: Layout, g: u64) -> bool
-    requires { ⌜ Laid (now image) l × (g < l .gates) ⌝ }
+    requires { ⌜ LayoutOf (now image) l × (g < l .gates) ⌝ }
     ensures { λ r. ⌜ r ≡ gateOk (now (image .entry)) g ⌝ }
 {
     let at = image::gate_at(image, l, g);
@@ -108,7 +108,7 @@ fn gate_ok(image: &[u64], l: Layout, g: u64) -> bool
 
 // The first bad gate entry.
 pub fn gate_fault(image: &[u64], l: Layout) -> Fault
-    requires { ⌜ Laid (now image) l ⌝ }
+    requires { ⌜ LayoutOf (now image) l ⌝ }
     ensures { λ r. ⌜ verdictOfFault r ≡ gateEntries (now (image .entry)) ⌝ }
 {
     let n = l.gates;
@@ -146,7 +146,7 @@ fn leaf_fits(kind: u64, a: u64) -> bool
 
 // An entry of three words, none of which is an operand.
 fn leaf(kind: u64, a: u64, b: u64) -> Judgement
-    ensures { λ r. ⌜ Tells (r .level) (r .reach) (λ v k. wordsOk kind a b v (λ i. false)) ⌝ }
+    ensures { λ r. ⌜ JudgementIs (r .level) (r .reach) (λ v k. wordsOk kind a b v (λ i. false)) ⌝ }
 {
     if b == 0 {
         if leaf_fits(kind, a) {
@@ -159,7 +159,7 @@ fn leaf(kind: u64, a: u64, b: u64) -> Judgement
 
 // An entry over two operands.
 fn over(x: Judgement, y: Judgement) -> Judgement
-    ensures { λ r. ⌜ Tells (r .level) (r .reach) (λ v k. accepts (x .level) (x .reach) v k && accepts (y .level) (y .reach) v k) ⌝ }
+    ensures { λ r. ⌜ JudgementIs (r .level) (r .reach) (λ v k. accepts (x .level) (x .reach) v k && accepts (y .level) (y .reach) v k) ⌝ }
 {
     if x.level == 0 {
         return x;
@@ -197,8 +197,8 @@ fn operand(levels: &[u64], reaches: &[u64], e: u64, a: u64) -> Judgement
 
 // Expression e, from the tables' entries of smaller numbers.
 fn judge(image: &[u64], l: Layout, levels: &[u64], reaches: &[u64], e: u64) -> Judgement
-    requires { ⌜ Laid (now image) l × Judged (now image) e (now levels) (now reaches) × (e < l .expressions) ⌝ }
-    ensures { λ r. ⌜ Tells (r .level) (r .reach) (λ v k. expressionOk (now (image .entry)) v (suc k) e) ⌝ }
+    requires { ⌜ LayoutOf (now image) l × JudgementTables (now image) e (now levels) (now reaches) × (e < l .expressions) ⌝ }
+    ensures { λ r. ⌜ JudgementIs (r .level) (r .reach) (λ v k. expressionOk (now (image .entry)) v (suc k) e) ⌝ }
 {
     let at = image::expression_at(image, l, e);
     let kind = image::word(image, at);
@@ -222,8 +222,8 @@ fn judge(image: &[u64], l: Layout, levels: &[u64], reaches: &[u64], e: u64) -> J
 
 // Judges each expression once, in ascending order: an operand has a smaller number than its user.
 pub fn judge_expressions(image: &[u64], l: Layout, levels: &mut [u64], reaches: &mut [u64])
-    requires { ⌜ Laid (now image) l × (l .expressions ≤ length (now levels)) × (l .expressions ≤ length (now reaches)) ⌝ }
-    ensures { λ r. ⌜ Judged (now (image .entry)) (l .expressions) (now (levels .exit)) (now (reaches .exit)) ⌝ }
+    requires { ⌜ LayoutOf (now image) l × (l .expressions ≤ length (now levels)) × (l .expressions ≤ length (now reaches)) ⌝ }
+    ensures { λ r. ⌜ JudgementTables (now (image .entry)) (l .expressions) (now (levels .exit)) (now (reaches .exit)) ⌝ }
 {
     let n = l.expressions;
     let mut e = 0u64;
@@ -245,7 +245,7 @@ pub fn expression_ok(
     v: u64,
     e: u64,
 ) -> bool
-    requires { ⌜ Laid (now image) l × Judged (now image) (l .expressions) (now levels) (now reaches) × (v ≤ 16) ⌝ }
+    requires { ⌜ LayoutOf (now image) l × JudgementTables (now image) (l .expressions) (now levels) (now reaches) × (v ≤ 16) ⌝ }
     ensures { λ r. ⌜ r ≡ expressionOk (now (image .entry)) v 32 e ⌝ }
 {
     if e < l.expressions {
@@ -268,7 +268,7 @@ pub fn parameters_ok(
     p: u64,
     n: u64,
 ) -> bool
-    requires { ⌜ Laid (now image) l × Judged (now image) (l .expressions) (now levels) (now reaches) × (v ≤ 16) × (p + n ≤ 8192) ⌝ }
+    requires { ⌜ LayoutOf (now image) l × JudgementTables (now image) (l .expressions) (now levels) (now reaches) × (v ≤ 16) × (p + n ≤ 8192) ⌝ }
     ensures { λ r. ⌜ r ≡ all (λ i. expressionOk (now (image .entry)) v 32 (parameter (now (image .entry)) i)) (range p n) ⌝ }
 {
     let mut i = 0u64;
@@ -287,7 +287,7 @@ pub fn parameters_ok(
 
 // The parameters at hand in a scope.
 pub fn variables_of(image: &[u64], l: Layout, scope: u64) -> u64
-    requires { ⌜ Laid (now image) l × (scope ≤ l .gates) ⌝ }
+    requires { ⌜ LayoutOf (now image) l × (scope ≤ l .gates) ⌝ }
     ensures { λ r. ⌜ r ≡ variables (now (image .entry)) scope ⌝ }
 {
     if scope == 0 {
@@ -297,7 +297,7 @@ pub fn variables_of(image: &[u64], l: Layout, scope: u64) -> u64
 }
 
 pub fn argument_ok(image: &[u64], l: Layout, scope: u64, a: u64) -> bool
-    requires { ⌜ Laid (now image) l × (scope ≤ l .gates) × (a ≤ 8192) ⌝ }
+    requires { ⌜ LayoutOf (now image) l × (scope ≤ l .gates) × (a ≤ 8192) ⌝ }
     ensures { λ r. ⌜ r ≡ argumentOk (now (image .entry)) scope a ⌝ }
 {
     let at = image::argument_at(image, l, a);
@@ -316,7 +316,7 @@ pub fn argument_ok(image: &[u64], l: Layout, scope: u64, a: u64) -> bool
 }
 
 pub fn classical_argument_ok(image: &[u64], l: Layout, a: u64) -> bool
-    requires { ⌜ Laid (now image) l × (a ≤ 8192) ⌝ }
+    requires { ⌜ LayoutOf (now image) l × (a ≤ 8192) ⌝ }
     ensures { λ r. ⌜ r ≡ classicalArgumentOk (now (image .entry)) a ⌝ }
 {
     let at = image::argument_at(image, l, a);
@@ -328,7 +328,7 @@ pub fn classical_argument_ok(image: &[u64], l: Layout, a: u64) -> bool
 }
 
 pub fn arguments_ok(image: &[u64], l: Layout, scope: u64, a: u64, n: u64) -> bool
-    requires { ⌜ Laid (now image) l × (scope ≤ l .gates) × (a + n ≤ 8192) ⌝ }
+    requires { ⌜ LayoutOf (now image) l × (scope ≤ l .gates) × (a + n ≤ 8192) ⌝ }
     ensures { λ r. ⌜ r ≡ all (argumentOk (now (image .entry)) scope) (range a n) ⌝ }
 {
     let mut i = 0u64;
@@ -343,7 +343,7 @@ pub fn arguments_ok(image: &[u64], l: Layout, scope: u64, a: u64, n: u64) -> boo
 }
 
 pub fn sizes_match(image: &[u64], l: Layout, scope: u64, a: u64, n: u64) -> bool
-    requires { ⌜ Laid (now image) l × (a + n ≤ 8192) ⌝ }
+    requires { ⌜ LayoutOf (now image) l × (a + n ≤ 8192) ⌝ }
     ensures { λ r. ⌜ r ≡ matching (map (argumentSize (now (image .entry)) scope) (range a n)) ⌝ }
 {
     let most = image::rounds_of(image, l, scope, a, n);
@@ -395,7 +395,7 @@ fn unused_words(image: &[u64], at: u64, n: u64) -> bool
 
 // Whether the words of statement s after its first n are 0.
 pub fn unused_after(image: &[u64], l: Layout, s: u64, n: u64) -> bool
-    requires { ⌜ Laid (now image) l × (s ≤ 8192) × (n ≤ 5) ⌝ }
+    requires { ⌜ LayoutOf (now image) l × (s ≤ 8192) × (n ≤ 5) ⌝ }
     ensures { λ r. ⌜ r ≡ unused (now (image .entry)) s n ⌝ }
 {
     unused_words(image, image::statement_at(image, l, s), n)

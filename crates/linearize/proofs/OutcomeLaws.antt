@@ -30,8 +30,8 @@ use Rattle.writer.specs.declared.LinearizeErrorKind.{LinearizeErrorKind}
 use Rattle.writer.specs.declared.LinearizeErrorKind.the-variants as kind
 use Rattle.writer.specs.declared.Linearized.{Linearized}
 use Rattle.writer.specs.declared.Linearized.the-variants as linearized
-use Rattle.writer.specs.Promise.{answerTo, answerOf, positionOf}
-use Rattle.gate.specs.Running.{Ran}
+use Rattle.writer.specs.Promise.{refusalAnswer, runAnswerOf, positionOf}
+use Rattle.gate.specs.Running.{RanSteps}
 use Rattle.linearize.specs.Linearizes as promise
 use Rattle.linearize.specs.Linearizes.{refusedWith, Linearizes}
 
@@ -55,7 +55,7 @@ module _ (image : List ℕ) (depth : ℕ) (out trace : List ℕ) {r : Linearized
       }
 
 -- a refusal's trace is the words that stand in front of the trace
-told-trace : (k : LinearizeErrorKind) (calls : List ℕ) → answerTo k (traceOf (answerTo k calls)) ≡ answerTo k calls
+told-trace : (k : LinearizeErrorKind) (calls : List ℕ) → refusalAnswer k (traceOf (refusalAnswer k calls)) ≡ refusalAnswer k calls
 unfolding traceOf
 told-trace (kind.DivideByZero p) c = refl
 told-trace (kind.ApproximateFail p f) c = refl
@@ -66,7 +66,7 @@ told-trace kind.OutputFull c = refl
 told-trace (kind.Rejected v) c = refl
 told-trace kind.ShortTrace c = refl
 
-told : (r : Linearized) (calls : List ℕ) → answerOf r (traceOf (answerOf r calls)) ≡ answerOf r calls
+told : (r : Linearized) (calls : List ℕ) → runAnswerOf r (traceOf (runAnswerOf r calls)) ≡ runAnswerOf r calls
 unfolding traceOf
 told (linearized.Done p) c = refl
 told (linearized.Refused e) c = told-trace (e .kind) c
@@ -77,21 +77,21 @@ module _ (image : List ℕ) (depth : ℕ) (out trace : List ℕ) where
   unfolding runs accepted
   plays-steps e h = rw (le-ltb (length trace) 256 h, e) refl
 
-  pub accepted-run : {r : Linearized} {out′ trace′ : List ℕ} {at : Position} → check image ≡ fine → 256 ≤ length trace → at ≡ record { records = 0; words = 0; trace = 0 } → Ran (steps image depth) out at trace r out′ trace′
+  pub accepted-run : {r : Linearized} {out′ trace′ : List ℕ} {at : Position} → check image ≡ fine → 256 ≤ length trace → at ≡ record { records = 0; words = 0; trace = 0 } → RanSteps (steps image depth) out at trace r out′ trace′
       → Linearizes image depth out trace r out′ trace′
   unfolding linearize
   accepted-run {r} {out′} {trace′} {at} e h z w =
-      let v : Ran (steps image depth) out (record { records = 0; words = 0; trace = 0 }) trace r out′ trace′ = rw z at w in
+      let v : RanSteps (steps image depth) out (record { records = 0; words = 0; trace = 0 }) trace r out′ trace′ = rw z at w in
       let p = plays-all (steps image depth) (v .plays) in
       let x = runs image depth (length out) (length trace) in
       let same = plays-steps e h in
-      let answers : answerOf r (v .calls) ≡ x .answer = p .0 ∙ ap (λ (y : Played). y .answer) (sym same) in
-      let t : List ℕ = traceOf (answerOf r (v .calls)) in
+      let answers : runAnswerOf r (v .calls) ≡ x .answer = p .0 ∙ ap (λ (y : Played). y .answer) (sym same) in
+      let t : List ℕ = traceOf (runAnswerOf r (v .calls)) in
       let short : 0 + length t ≤ length trace = omega (arith, claims image depth out trace .traces, ap (λ (a : Answer). length (traceOf a)) answers) in
       let left : trace′ ≡ laidOver t trace = v .tracing ∙ sets-eq t trace 0 short ∙ ap (λ (n : ℕ). t ++ drop n trace) (zero-add (length t)) in
       let count : positionOf r .trace ≡ length t = v .level ∙ zero-add (length t) in
       let front : take (positionOf r .trace) trace′ ≡ t = ap₂ take count left ∙ take-append-seam t (drop (length t) trace) in
-      let answer : answerOf r (take (positionOf r .trace) trace′) ≡ x .answer = ap (answerOf r) front ∙ told r (v .calls) ∙ answers in
+      let answer : runAnswerOf r (take (positionOf r .trace) trace′) ≡ x .answer = ap (runAnswerOf r) front ∙ told r (v .calls) ∙ answers in
       linearizes image depth out trace λ i. record {
         answer = answer i;
         records = (p .1 ∙ ap (λ (y : Played). length (y .written)) (sym same)) i;

@@ -16,19 +16,19 @@ use Rattle.model.specs.Run.{play}
 use Rattle.model.proofs.PlayLaws.{plays-stop}
 use Rattle.model.proofs.Accepted.{Accepted}
 use Rattle.image.specs.declared.Layout.{Layout}
-use Rattle.image.specs.Layout.{Laid}
-use Rattle.image.specs.Firsts.{Firsts}
+use Rattle.image.specs.Layout.{LayoutOf}
+use Rattle.image.specs.Firsts.{RegisterStarts}
 use Rattle.writer.specs.declared.Linearized.{Linearized}
 use Rattle.writer.specs.declared.Linearized.the-variants as linearized
 use Rattle.statement.proofs.LoopLaws.{wrote-open}
 use Rattle.image.proofs.KindLaws.{if-at, plain-facts-at}
-use Rattle.argument.specs.Frames.{standing, formalsOf, Stands}
-use Rattle.expression.specs.Table.{Fixed}
+use Rattle.argument.specs.Frames.{scopeFrame, formalsOf, ScopeContext}
+use Rattle.expression.specs.Table.{ConstantsKept}
 use Rattle.expression.proofs.AngleLaws.{zeros-sound}
 use Rattle.writer.specs.declared.Position.{Position}
-use Rattle.writer.specs.Promise.{Open, Wrote}
-use Rattle.gate.specs.Running.{Ready, plainSteps}
-use Rattle.linearize.specs.Tabled.{Tabled}
+use Rattle.writer.specs.Promise.{InOutput, WroteSteps}
+use Rattle.gate.specs.Running.{RunContext, plainSteps}
+use Rattle.linearize.specs.Tabled.{MainContext}
 use Rattle.argument.proofs.ArgumentLaws.{few-classical, count-sum}
 
 -- ---- a main statement by its kind
@@ -44,7 +44,7 @@ module _ (image : List ℕ) (s : ℕ) where
   plain-in-main h f = plain-facts-at image 0 s (statementAt image s) (word image (statementAt image s)) refl refl h f
 
   -- a conditional's steps: its start, what it holds, its end
-  module _ {l : Layout} {qs bs formals : List ℕ} (st : Stands image l qs bs 0 formals) (e : word image (statementAt image s) ≡ 7) (f : Facts image 0 (statement image s))
+  module _ {l : Layout} {qs bs formals : List ℕ} (st : ScopeContext image l qs bs 0 formals) (e : word image (statementAt image s) ≡ 7) (f : Facts image 0 (statement image s))
       {p r t v : ℕ} (ep : p ≡ statementAt image s) (er : r ≡ word image (p + 1)) (ev : v ≡ word image (p + 2)) (et : t ≡ word image (p + 3)) where
     register-is : r ≡ word image (statementAt image s + 1)
     register-is = er ∙ ap (λ (n : ℕ). word image (n + 1)) ep
@@ -61,8 +61,8 @@ module _ (image : List ℕ) (s : ℕ) where
         (omega (arith, if-facts e f .3, h, st .laid .all-is), subst (λ (n : ℕ). PlainFacts image 0 (statement image n)) (sym h) (if-facts e f .5))
 
     pub conditional-steps : (left : ℕ) (angles : List Value) {first size : ℕ} → first ≡ getD bs r 0 → {q : ℕ} → size ≡ word image (9 + q + r) → q ≡ l .quantum
-        → (write [] (Record.ConditionalStart first size v) ∷ []) ++ (plainSteps image left (standing image 0 angles formals) t ++ write [] Record.ConditionalEnd ∷ [])
-        ≡ visitStatement image (opening image left) (standing image 0 angles formals) s
+        → (write [] (Record.ConditionalStart first size v) ∷ []) ++ (plainSteps image left (scopeFrame image 0 angles formals) t ++ write [] Record.ConditionalEnd ∷ [])
+        ≡ visitStatement image (opening image left) (scopeFrame image 0 angles formals) s
     unfolding visitStatement visitPlain visitConditional firstBit
     conditional-steps left angles {first} {size} ef {q} ez eq =
         let a : first ≡ firstBit image (word image (statementAt image s + 1)) = ef ∙ ap (λ (n : ℕ). getD bs n 0) register-is ∙ st .classical .each _ (if-facts e f .1) in
@@ -73,12 +73,12 @@ module _ (image : List ℕ) (s : ℕ) where
 
 -- ---- the statements of main
 
-module _ {image : List ℕ} {l : Layout} {qs bs : List ℕ} (tb : Tabled image l qs bs) where
-  pub main-stands : {formals : List ℕ} → length formals ≡ 16 → Stands image l qs bs 0 formals
+module _ {image : List ℕ} {l : Layout} {qs bs : List ℕ} (tb : MainContext image l qs bs) where
+  pub main-stands : {formals : List ℕ} → length formals ≡ 16 → ScopeContext image l qs bs 0 formals
   main-stands h = record { laid = tb .laid; accepted = tb .accepted; quantum = tb .quantum; classical = tb .classical; wide = h; ready = refl }
 
 pub main-steps : (image : List ℕ) (left : ℕ) (angles : List Value) (formals : List ℕ) {n : ℕ} → n ≡ mainStatements image
-    → inRounds n (visitStatement image (opening image left) (standing image 0 angles formals)) ≡ visitBody image (opening image left) mainFrame
+    → inRounds n (visitStatement image (opening image left) (scopeFrame image 0 angles formals)) ≡ visitBody image (opening image left) mainFrame
 unfolding visitBody scopeStatements inRounds variables formalsOf
 main-steps image left angles formals e = rw e refl
 
@@ -94,18 +94,18 @@ unfolding steps
 head-steps image depth e h d = sym (rw (ne-eqb (mainStatements image) 0 (λ z. h (e ∙ z)), ← d) refl)
 
 -- where main's statements are run
-pub main-ready : {image : List ℕ} {l : Layout} {qs bs table formals out trace : List ℕ} {at : Position} → Tabled image l qs bs → Fixed image table → length formals ≡ 16 → Open out at → 256 ≤ length trace → at .trace ≡ 0
-    → Ready image l qs bs table 0 (replicate 96 0) formals out trace at
+pub main-ready : {image : List ℕ} {l : Layout} {qs bs table formals out trace : List ℕ} {at : Position} → MainContext image l qs bs → ConstantsKept image table → length formals ≡ 16 → InOutput out at → 256 ≤ length trace → at .trace ≡ 0
+    → RunContext image l qs bs table 0 (replicate 96 0) formals out trace at
 main-ready t f h o r z = record { stands = main-stands t h; fixed = f; angles = zeros-sound 96; opens = o; room = r; deep = omega arith }
 
-pub main-facts : {image : List ℕ} {l : Layout} {qs bs : List ℕ} {s : ℕ} → Tabled image l qs bs → s < l .main → Facts image 0 (statement image s)
+pub main-facts : {image : List ℕ} {l : Layout} {qs bs : List ℕ} {s : ℕ} → MainContext image l qs bs → s < l .main → Facts image 0 (statement image s)
 unfolding scopeStatements
 main-facts {image} {s = s} t h =
     subst (λ (n : ℕ). Facts image 0 (statement image n)) (zero-add s) (run-facts image (t .accepted) 0 0 (mainStatements image) s zero-le refl (omega (arith, h, t .laid .main-is)))
 
 -- ---- the tables of where registers start
 
-module _ {image : List ℕ} {l : Layout} (laid : Laid image l) (acc : Accepted image) where
+module _ {image : List ℕ} {l : Layout} (laid : LayoutOf image l) (acc : Accepted image) where
   pub quantum-fits : (l .quantum ≤ 4096) × (sum (map (λ i. word image (9 + i)) (range 0 (l .quantum))) ≤ 4096)
   unfolding firstQubit
   quantum-fits =
@@ -116,15 +116,15 @@ module _ {image : List ℕ} {l : Layout} (laid : Laid image l) (acc : Accepted i
   classical-fits =
       rw (laid .quantum-is, laid .classical-is) (omega (arith, laid .whole, laid .short), omega (arith, count-sum (classicalSize image) 0 (classicalRegisters image) (λ r p q. acc .csizes r (omega arith)), acc .fewBits), acc .fewBits)
 
-  pub tabled : {qs bs : List ℕ} → Firsts (λ i. word image (9 + i)) (l .quantum) qs → Firsts (λ i. word image (9 + l .quantum + i)) (l .classical) bs → Tabled image l qs bs
+  pub tabled : {qs bs : List ℕ} → RegisterStarts (λ i. word image (9 + i)) (l .quantum) qs → RegisterStarts (λ i. word image (9 + l .quantum + i)) (l .classical) bs → MainContext image l qs bs
   tabled {qs} {bs} q b = record { laid = laid; accepted = acc; quantum = rw (laid .quantum-is) at q; classical = rw (laid .quantum-is, laid .classical-is) at b }
 
 -- nothing to do
-pub wrote-nothing : {out : List ℕ} {at : Position} → Open out at → Wrote [] out at (linearized.Done at) out
+pub wrote-nothing : {out : List ℕ} {at : Position} → InOutput out at → WroteSteps [] out at (linearized.Done at) out
 unfolding play
 wrote-nothing o = record { plays = plays-stop [] (o .inside) refl; level = refl }
 
-pub open-after : {ss : List Step} {out out′ : List ℕ} {at p : Position} {r : Linearized} → Open out at → Wrote ss out at r out′ → r ≡ linearized.Done p → Open out′ p × (p .trace ≡ at .trace)
+pub open-after : {ss : List Step} {out out′ : List ℕ} {at p : Position} {r : Linearized} → InOutput out at → WroteSteps ss out at r out′ → r ≡ linearized.Done p → InOutput out′ p × (p .trace ≡ at .trace)
 open-after {ss} {out} {out′} {at} {p} o w e =
-    let v : Wrote ss out at (linearized.Done p) out′ = rw e at w in
+    let v : WroteSteps ss out at (linearized.Done p) out′ = rw e at w in
     (wrote-open o v, v .level)

@@ -14,7 +14,7 @@ use Rattle.model.specs.Claims.{count, declared, distinct}
 use Rattle.writer.specs.declared.LinearizeErrorKind.{LinearizeErrorKind}
 use Rattle.writer.specs.declared.Linearized.{Linearized}
 use Rattle.writer.specs.declared.Linearized.the-variants as linearized
-use Rattle.writer.specs.Promise.{answerOf, positionOf}
+use Rattle.writer.specs.Promise.{runAnswerOf, positionOf}
 
 -- a refusal before anything is written
 abbrev pub refusedWith : LinearizeErrorKind → Linearized
@@ -23,7 +23,7 @@ refusedWith k = linearized.Refused (record { kind = k; at = record { records = 0
 module _ (r : Linearized) (out trace : List ℕ) where
   -- the answer in document 01's words: a refusal's trace is what stands in the trace
   abbrev pub answered : Answer
-  answered = answerOf r (take (positionOf r .trace) trace)
+  answered = runAnswerOf r (take (positionOf r .trace) trace)
 
   abbrev pub outcomeOf : Outcome
   outcomeOf =

@@ -4,12 +4,12 @@ use mathlib.Core.List.{List}
 use Rattle.model.specs.Image.{quantumSize, quantumRegisters, classicalSize, classicalRegisters}
 use Rattle.model.proofs.Accepted.{Accepted}
 use Rattle.image.specs.declared.Layout.{Layout}
-use Rattle.image.specs.Layout.{Laid}
-use Rattle.image.specs.Firsts.{Firsts}
+use Rattle.image.specs.Layout.{LayoutOf}
+use Rattle.image.specs.Firsts.{RegisterStarts}
 
 -- an accepted image with the tables of where its registers start
-pub record Tabled (image : List ℕ) (l : Layout) (qubits bits : List ℕ) : Type 0 where
-  pub laid : Laid image l
+pub record MainContext (image : List ℕ) (l : Layout) (qubits bits : List ℕ) : Type 0 where
+  pub laid : LayoutOf image l
   pub accepted : Accepted image
-  pub quantum : Firsts (quantumSize image) (quantumRegisters image) qubits
-  pub classical : Firsts (classicalSize image) (classicalRegisters image) bits
+  pub quantum : RegisterStarts (quantumSize image) (quantumRegisters image) qubits
+  pub classical : RegisterStarts (classicalSize image) (classicalRegisters image) bits

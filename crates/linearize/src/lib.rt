@@ -16,12 +16,12 @@ ghost use Rattle.model.specs.Records.{Record};
 ghost use Rattle.model.specs.Steps.{write, visitStatement, visitBody, opening, mainFrame, steps};
 ghost use Rattle.model.proofs.Accepted.{Accepted};
 ghost use Rattle.model.proofs.Facts.{PlainFacts, Facts};
-ghost use Rattle.image.specs.Layout.{Laid};
-ghost use Rattle.writer.specs.Promise.{Open};
-ghost use Rattle.expression.specs.Table.{anglesIn, Fixed};
-ghost use Rattle.argument.specs.Frames.{standing};
-ghost use Rattle.gate.specs.Running.{Ready, Ran, plainSteps};
-ghost use Rattle.linearize.specs.Tabled.{Tabled};
+ghost use Rattle.image.specs.Layout.{LayoutOf};
+ghost use Rattle.writer.specs.Promise.{InOutput};
+ghost use Rattle.expression.specs.Table.{anglesIn, ConstantsKept};
+ghost use Rattle.argument.specs.Frames.{scopeFrame};
+ghost use Rattle.gate.specs.Running.{RunContext, RanSteps, plainSteps};
+ghost use Rattle.linearize.specs.Tabled.{MainContext};
 ghost use Rattle.linearize.specs.Linearizes.{refusedWith, Linearizes};
 
 // The inner statement of a conditional, and the conditional's end.
@@ -39,8 +39,8 @@ fn visit_held(
     trace: &mut [u64],
     at: Position,
 ) -> Linearized
-    requires { ⌜ Ready (now image) l (now qubits) (now bits) (now table) 0 (now variables) (now formals) (now out) (now trace) at × (t < l .all) × PlainFacts (now image) 0 (statement (now image) t) ⌝ }
-    ensures { λ r. ⌜ Ran (plainSteps (now (image .entry)) left (standing (now (image .entry)) 0 (anglesIn (now (variables .entry))) (now (formals .entry))) t ++ write [] Record.ConditionalEnd ∷ []) (now (out .entry)) at (now (trace .entry)) r (now (out .exit)) (now (trace .exit)) × Fixed (now (image .entry)) (now (table .exit)) ⌝ }
+    requires { ⌜ RunContext (now image) l (now qubits) (now bits) (now table) 0 (now variables) (now formals) (now out) (now trace) at × (t < l .all) × PlainFacts (now image) 0 (statement (now image) t) ⌝ }
+    ensures { λ r. ⌜ RanSteps (plainSteps (now (image .entry)) left (scopeFrame (now (image .entry)) 0 (anglesIn (now (variables .entry))) (now (formals .entry))) t ++ write [] Record.ConditionalEnd ∷ []) (now (out .entry)) at (now (trace .entry)) r (now (out .exit)) (now (trace .exit)) × ConstantsKept (now (image .entry)) (now (table .exit)) ⌝ }
 {
     match gate::visit_statement(
         image,
@@ -77,8 +77,8 @@ fn visit_conditional(
     trace: &mut [u64],
     at: Position,
 ) -> Linearized
-    requires { ⌜ Ready (now image) l (now qubits) (now bits) (now table) 0 (now variables) (now formals) (now out) (now trace) at × (s < l .all) × Facts (now image) 0 (statement (now image) s) × (word (now image) (statementAt (now image) s) ≡ 7) ⌝ }
-    ensures { λ r. ⌜ Ran (visitStatement (now (image .entry)) (opening (now (image .entry)) left) (standing (now (image .entry)) 0 (anglesIn (now (variables .entry))) (now (formals .entry))) s) (now (out .entry)) at (now (trace .entry)) r (now (out .exit)) (now (trace .exit)) × Fixed (now (image .entry)) (now (table .exit)) ⌝ }
+    requires { ⌜ RunContext (now image) l (now qubits) (now bits) (now table) 0 (now variables) (now formals) (now out) (now trace) at × (s < l .all) × Facts (now image) 0 (statement (now image) s) × (word (now image) (statementAt (now image) s) ≡ 7) ⌝ }
+    ensures { λ r. ⌜ RanSteps (visitStatement (now (image .entry)) (opening (now (image .entry)) left) (scopeFrame (now (image .entry)) 0 (anglesIn (now (variables .entry))) (now (formals .entry))) s) (now (out .entry)) at (now (trace .entry)) r (now (out .exit)) (now (trace .exit)) × ConstantsKept (now (image .entry)) (now (table .exit)) ⌝ }
 {
     let place = image::statement_at(image, l, s);
     let register = image::word(image, place + 1);
@@ -118,8 +118,8 @@ fn visit_main(
     trace: &mut [u64],
     at: Position,
 ) -> Linearized
-    requires { ⌜ Ready (now image) l (now qubits) (now bits) (now table) 0 (now variables) (now formals) (now out) (now trace) at × (s < l .all) × Facts (now image) 0 (statement (now image) s) ⌝ }
-    ensures { λ r. ⌜ Ran (visitStatement (now (image .entry)) (opening (now (image .entry)) left) (standing (now (image .entry)) 0 (anglesIn (now (variables .entry))) (now (formals .entry))) s) (now (out .entry)) at (now (trace .entry)) r (now (out .exit)) (now (trace .exit)) × Fixed (now (image .entry)) (now (table .exit)) ⌝ }
+    requires { ⌜ RunContext (now image) l (now qubits) (now bits) (now table) 0 (now variables) (now formals) (now out) (now trace) at × (s < l .all) × Facts (now image) 0 (statement (now image) s) ⌝ }
+    ensures { λ r. ⌜ RanSteps (visitStatement (now (image .entry)) (opening (now (image .entry)) left) (scopeFrame (now (image .entry)) 0 (anglesIn (now (variables .entry))) (now (formals .entry))) s) (now (out .entry)) at (now (trace .entry)) r (now (out .exit)) (now (trace .exit)) × ConstantsKept (now (image .entry)) (now (table .exit)) ⌝ }
 {
     if image::word(image, image::statement_at(image, l, s)) == 7 {
         return visit_conditional(
@@ -166,8 +166,8 @@ fn visit_program(
     trace: &mut [u64],
     at: Position,
 ) -> Linearized
-    requires { ⌜ Tabled (now image) l (now qubits) (now bits) × Fixed (now image) (now table) × Open (now out) at × (256 ≤ length (now trace)) × (at .trace ≡ 0) ⌝ }
-    ensures { λ r. ⌜ Ran (visitBody (now (image .entry)) (opening (now (image .entry)) left) mainFrame) (now (out .entry)) at (now (trace .entry)) r (now (out .exit)) (now (trace .exit)) ⌝ }
+    requires { ⌜ MainContext (now image) l (now qubits) (now bits) × ConstantsKept (now image) (now table) × InOutput (now out) at × (256 ≤ length (now trace)) × (at .trace ≡ 0) ⌝ }
+    ensures { λ r. ⌜ RanSteps (visitBody (now (image .entry)) (opening (now (image .entry)) left) mainFrame) (now (out .entry)) at (now (trace .entry)) r (now (out .exit)) (now (trace .exit)) ⌝ }
 {
     let variables = [0u64; 96];
     let formals = [0u64; 16];
@@ -212,8 +212,8 @@ fn visit_few_expressions(
     trace: &mut [u64],
     at: Position,
 ) -> Linearized
-    requires { ⌜ Tabled (now image) l (now qubits) (now bits) × Open (now out) at × (256 ≤ length (now trace)) × (at .trace ≡ 0) × (l .expressions ≤ 128) ⌝ }
-    ensures { λ r. ⌜ Ran (visitBody (now (image .entry)) (opening (now (image .entry)) left) mainFrame) (now (out .entry)) at (now (trace .entry)) r (now (out .exit)) (now (trace .exit)) ⌝ }
+    requires { ⌜ MainContext (now image) l (now qubits) (now bits) × InOutput (now out) at × (256 ≤ length (now trace)) × (at .trace ≡ 0) × (l .expressions ≤ 128) ⌝ }
+    ensures { λ r. ⌜ RanSteps (visitBody (now (image .entry)) (opening (now (image .entry)) left) mainFrame) (now (out .entry)) at (now (trace .entry)) r (now (out .exit)) (now (trace .exit)) ⌝ }
 {
     let mut table = [0u64; 896];
     visit_program(image, l, qubits, bits, &mut table, left, out, trace, at)
@@ -230,8 +230,8 @@ fn visit_many_expressions(
     trace: &mut [u64],
     at: Position,
 ) -> Linearized
-    requires { ⌜ Tabled (now image) l (now qubits) (now bits) × Open (now out) at × (256 ≤ length (now trace)) × (at .trace ≡ 0) ⌝ }
-    ensures { λ r. ⌜ Ran (visitBody (now (image .entry)) (opening (now (image .entry)) left) mainFrame) (now (out .entry)) at (now (trace .entry)) r (now (out .exit)) (now (trace .exit)) ⌝ }
+    requires { ⌜ MainContext (now image) l (now qubits) (now bits) × InOutput (now out) at × (256 ≤ length (now trace)) × (at .trace ≡ 0) ⌝ }
+    ensures { λ r. ⌜ RanSteps (visitBody (now (image .entry)) (opening (now (image .entry)) left) mainFrame) (now (out .entry)) at (now (trace .entry)) r (now (out .exit)) (now (trace .exit)) ⌝ }
 {
     let mut table = [0u64; 19096];
     visit_program(image, l, qubits, bits, &mut table, left, out, trace, at)
@@ -248,8 +248,8 @@ fn visit_tabled(
     trace: &mut [u64],
     at: Position,
 ) -> Linearized
-    requires { ⌜ Tabled (now image) l (now qubits) (now bits) × Open (now out) at × (256 ≤ length (now trace)) × (at .trace ≡ 0) ⌝ }
-    ensures { λ r. ⌜ Ran (visitBody (now (image .entry)) (opening (now (image .entry)) left) mainFrame) (now (out .entry)) at (now (trace .entry)) r (now (out .exit)) (now (trace .exit)) ⌝ }
+    requires { ⌜ MainContext (now image) l (now qubits) (now bits) × InOutput (now out) at × (256 ≤ length (now trace)) × (at .trace ≡ 0) ⌝ }
+    ensures { λ r. ⌜ RanSteps (visitBody (now (image .entry)) (opening (now (image .entry)) left) mainFrame) (now (out .entry)) at (now (trace .entry)) r (now (out .exit)) (now (trace .exit)) ⌝ }
 {
     if l.expressions <= 128 {
         return visit_few_expressions(image, l, qubits, bits, left, out, trace, at);
@@ -273,8 +273,8 @@ fn visit_few_registers(
     trace: &mut [u64],
     at: Position,
 ) -> Linearized
-    requires { ⌜ Laid (now image) l × Accepted (now image) × Open (now out) at × (256 ≤ length (now trace)) × (at .trace ≡ 0) × (l .quantum ≤ 64) × (l .classical ≤ 64) ⌝ }
-    ensures { λ r. ⌜ Ran (visitBody (now (image .entry)) (opening (now (image .entry)) left) mainFrame) (now (out .entry)) at (now (trace .entry)) r (now (out .exit)) (now (trace .exit)) ⌝ }
+    requires { ⌜ LayoutOf (now image) l × Accepted (now image) × InOutput (now out) at × (256 ≤ length (now trace)) × (at .trace ≡ 0) × (l .quantum ≤ 64) × (l .classical ≤ 64) ⌝ }
+    ensures { λ r. ⌜ RanSteps (visitBody (now (image .entry)) (opening (now (image .entry)) left) mainFrame) (now (out .entry)) at (now (trace .entry)) r (now (out .exit)) (now (trace .exit)) ⌝ }
 {
     let mut qubits = [0u64; 64];
     image::first_of_each(image, 9, l.quantum, &mut qubits);
@@ -292,8 +292,8 @@ fn visit_many_registers(
     trace: &mut [u64],
     at: Position,
 ) -> Linearized
-    requires { ⌜ Laid (now image) l × Accepted (now image) × Open (now out) at × (256 ≤ length (now trace)) × (at .trace ≡ 0) ⌝ }
-    ensures { λ r. ⌜ Ran (visitBody (now (image .entry)) (opening (now (image .entry)) left) mainFrame) (now (out .entry)) at (now (trace .entry)) r (now (out .exit)) (now (trace .exit)) ⌝ }
+    requires { ⌜ LayoutOf (now image) l × Accepted (now image) × InOutput (now out) at × (256 ≤ length (now trace)) × (at .trace ≡ 0) ⌝ }
+    ensures { λ r. ⌜ RanSteps (visitBody (now (image .entry)) (opening (now (image .entry)) left) mainFrame) (now (out .entry)) at (now (trace .entry)) r (now (out .exit)) (now (trace .exit)) ⌝ }
 {
     let mut qubits = [0u64; 4096];
     image::first_of_each(image, 9, l.quantum, &mut qubits);
@@ -311,8 +311,8 @@ fn visit_statements(
     trace: &mut [u64],
     at: Position,
 ) -> Linearized
-    requires { ⌜ Laid (now image) l × Accepted (now image) × Open (now out) at × (256 ≤ length (now trace)) × (at .trace ≡ 0) ⌝ }
-    ensures { λ r. ⌜ Ran (visitBody (now (image .entry)) (opening (now (image .entry)) left) mainFrame) (now (out .entry)) at (now (trace .entry)) r (now (out .exit)) (now (trace .exit)) ⌝ }
+    requires { ⌜ LayoutOf (now image) l × Accepted (now image) × InOutput (now out) at × (256 ≤ length (now trace)) × (at .trace ≡ 0) ⌝ }
+    ensures { λ r. ⌜ RanSteps (visitBody (now (image .entry)) (opening (now (image .entry)) left) mainFrame) (now (out .entry)) at (now (trace .entry)) r (now (out .exit)) (now (trace .exit)) ⌝ }
 {
     if image::larger(l.quantum, l.classical) <= 64 {
         return visit_few_registers(image, l, left, out, trace, at);
@@ -329,8 +329,8 @@ fn run_laid(
     trace: &mut [u64],
     at: Position,
 ) -> Linearized
-    requires { ⌜ Laid (now image) l × Accepted (now image) × Open (now out) at × (256 ≤ length (now trace)) × (at .trace ≡ 0) ⌝ }
-    ensures { λ r. ⌜ Ran (steps (now (image .entry)) depth) (now (out .entry)) at (now (trace .entry)) r (now (out .exit)) (now (trace .exit)) ⌝ }
+    requires { ⌜ LayoutOf (now image) l × Accepted (now image) × InOutput (now out) at × (256 ≤ length (now trace)) × (at .trace ≡ 0) ⌝ }
+    ensures { λ r. ⌜ RanSteps (steps (now (image .entry)) depth) (now (out .entry)) at (now (trace .entry)) r (now (out .exit)) (now (trace .exit)) ⌝ }
 {
     if l.main == 0 {
         return Linearized::Done(at);

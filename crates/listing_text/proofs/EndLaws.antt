@@ -14,7 +14,7 @@ use Rattle.writer.specs.declared.Position.{Position}
 use Rattle.writer.specs.declared.Linearized.the-variants as linearized
 use Rattle.writer.specs.Promise.{positionOf}
 use Rattle.unit.specs.declared.Numbers.{Numbers as Told3}
-use Rattle.unit.specs.Told.{Told, numbersOf}
+use Rattle.unit.specs.Told.{RunNumbers, numbersOf}
 use Rattle.listing_text.specs.Put.{Room, Put, PutMost}
 use Rattle.listing_text.specs.WordText.{twoText, endText}
 use Rattle.listing_text.proofs.PutLaws.{put-same, put-then, put-length, Putting, putting-start, putting-more, putting-end}
@@ -143,7 +143,7 @@ module _ {r : Linearized} {x : LinearizeError} (t : List ℕ) (e : r ≡ lineari
     pub last-room : positionOf r .trace ≤ length t → length t ≤ 256 → at + 6400 ≤ length text → mid + 71 ≤ length text′
     last-room h k l = omega (arith, calls-few h k, p .few, put-length (p .put))
 
-    pub end-refused : {n : Told3} {text″ : List ℕ} {end : ℕ} → Told (linearized.Refused x) n → Put (refusedText (numbersOf n)) text′ mid end text″
+    pub end-refused : {n : Told3} {text″ : List ℕ} {end : ℕ} → RunNumbers (linearized.Refused x) n → Put (refusedText (numbersOf n)) text′ mid end text″
         → Put (endText r (take (positionOf r .trace) t)) text at end text″
     unfolding endText
     end-refused k q = rw e (put-then (p .put) (put-same (ap refusedText (k .each calls)) q))

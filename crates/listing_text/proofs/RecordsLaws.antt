@@ -7,9 +7,9 @@ use lib.ListN.{length, length-append}
 use Rattle.model.specs.Records.{Record, encode}
 use Rattle.model.specs.Reader.{nextAt, recordsIn}
 use Rattle.model.proofs.ReadBack.{next-record, reads-back}
-use Rattle.reader.specs.Answer.{wordsOf}
+use Rattle.reader.specs.Answer.{nextWordsOf}
 use Rattle.model.proofs.ListLaws.{flat-append}
-use Rattle.listing_text.specs.WordText.{recordLine, Recorded}
+use Rattle.listing_text.specs.WordText.{recordLine, WordsOfRecords}
 use Rattle.listing_text.specs.Put.{Put, PutMost}
 use Rattle.listing_text.proofs.PutLaws.{put-none, put-same, put-then, put-length}
 
@@ -25,7 +25,7 @@ pub record Reading (ws text : List ℕ) (at i end : ℕ) (text′ : List ℕ) : 
   pub done : Put (linesOf before) text at end text′
   pub few : end ≤ at + 21 * i
 
-pub reading-start : {ws text : List ℕ} {at : ℕ} → Recorded ws → at ≤ length text → Reading ws text at 0 at text
+pub reading-start : {ws text : List ℕ} {at : ℕ} → WordsOfRecords ws → at ≤ length text → Reading ws text at 0 at text
 unfolding flatMap
 reading-start {ws} {text} {at} h k =
     record { before = []; rest = h .records; split = h .words; place = refl; done = put-none text at k; few = omega arith }
@@ -35,7 +35,7 @@ record Here (ws : List ℕ) (i : ℕ) (rest : List Record) : Type 0 where
   one : Record
   more : List Record
   is : rest ≡ one ∷ more
-  found : wordsOf (nextAt ws i) ≡ encode one
+  found : nextWordsOf (nextAt ws i) ≡ encode one
 
 module _ {ws text text′ : List ℕ} {at i end : ℕ} (g : Reading ws text at i end text′) where
   here : i < length ws → Here ws i (g .rest)
@@ -44,9 +44,9 @@ module _ {ws text text′ : List ℕ} {at i end : ℕ} (g : Reading ws text at i
     where
       go : (rest : List Record) → ws ≡ flatMap encode (g .before) ++ flatMap encode rest → Here ws i rest
       go [] e = absurd (omega (arith, ap length e, length-append (flatMap encode (g .before)) [], g .place))
-      go (r ∷ rs) e = record { one = r; more = rs; is = refl; found = rw (e, g .place) (ap wordsOf (next-record (flatMap encode (g .before)) r (flatMap encode rs))) }
+      go (r ∷ rs) e = record { one = r; more = rs; is = refl; found = rw (e, g .place) (ap nextWordsOf (next-record (flatMap encode (g .before)) r (flatMap encode rs))) }
 
-  module _ {v : List ℕ} (h : i < length ws) (e : v ≡ wordsOf (nextAt ws i)) where
+  module _ {v : List ℕ} (h : i < length ws) (e : v ≡ nextWordsOf (nextAt ws i)) where
     whole : ws ≡ flatMap encode (g .before) ++ (v ++ flatMap encode (here h .more))
     unfolding flatMap
     whole =

@@ -21,10 +21,10 @@ use Rattle.writer.specs.declared.Position.{Position}
 use Rattle.writer.specs.declared.LinearizeErrorKind.{LinearizeErrorKind}
 use Rattle.writer.specs.declared.LinearizeErrorKind.the-variants as kind
 use Rattle.writer.specs.declared.Linearized.the-variants as linearized
-use Rattle.writer.specs.Promise.{answerOf, answerTo, positionOf}
+use Rattle.writer.specs.Promise.{runAnswerOf, refusalAnswer, positionOf}
 use Rattle.linearize.specs.Linearizes.{Linearizes}
 use Rattle.listing_text.specs.Put.{Put, PutMost}
-use Rattle.listing_text.specs.WordText.{recordLine, Recorded, endText}
+use Rattle.listing_text.specs.WordText.{recordLine, WordsOfRecords, endText}
 use Rattle.listing_text.proofs.PutLaws.{put-same, put-then, put-length}
 use Rattle.listing_text.proofs.TextLaws.{records-text}
 
@@ -51,7 +51,7 @@ written-sound image depth n m = go (ran-either image depth n m)
 
 -- ---- the end of an answer
 
-refused-closing : (k : LinearizeErrorKind) (t : List ℕ) (n : ℕ) → traceOf (answerTo k t) ≡ t → fromText t ++ refusedText (told (answerTo k t)) ≡ closing (answerTo k t) n
+refused-closing : (k : LinearizeErrorKind) (t : List ℕ) (n : ℕ) → traceOf (refusalAnswer k t) ≡ t → fromText t ++ refusedText (told (refusalAnswer k t)) ≡ closing (refusalAnswer k t) n
 unfolding closing traceOf fromText
 refused-closing (kind.DivideByZero p) t n e = refl
 refused-closing (kind.ApproximateFail p f) t n e = refl
@@ -62,7 +62,7 @@ refused-closing kind.OutputFull t n e = refl
 refused-closing (kind.Rejected c) t n e = rw (sym e) refl
 refused-closing kind.ShortTrace t n e = rw (sym e) refl
 
-end-closing : (r : Linearized) (t : List ℕ) → t ≡ traceOf (answerOf r t) → endText r t ≡ closing (answerOf r t) (positionOf r .records)
+end-closing : (r : Linearized) (t : List ℕ) → t ≡ traceOf (runAnswerOf r t) → endText r t ≡ closing (runAnswerOf r t) (positionOf r .records)
 unfolding endText closing
 end-closing (linearized.Done p) t e = refl
 end-closing (linearized.Refused x) t e = refused-closing (x .kind) t (x .at .records) (sym e)
@@ -98,14 +98,14 @@ module _ {image : List ℕ} {depth : ℕ} {out trace : List ℕ} {r : Linearized
   pub lines-are : flatMap recordLine (recordsIn (take (positionOf r .words) out′)) ≡ flatMap recordText (ran .written)
   lines-are = ap (λ l. flatMap recordLine (recordsIn l)) words-are ∙ ap (flatMap recordLine) (reads-back (ran .written)) ∙ records-text (ran .written) (written-sound image depth (length out) (length trace))
 
-  pub recorded : Recorded (take (positionOf r .words) out′)
+  pub recorded : WordsOfRecords (take (positionOf r .words) out′)
   recorded = record { records = ran .written; words = words-are }
 
   calls-are : calls ≡ traceOf (ran .answer)
   unfolding linearize
   calls-are = rw (ap (λ x. x .traceWords) (h .outcome), ap (λ x. x .traceLeft) (h .outcome)) (laid-front (traceOf (ran .answer)) trace)
 
-  answer-is : answerOf r calls ≡ ran .answer
+  answer-is : runAnswerOf r calls ≡ ran .answer
   unfolding linearize
   answer-is = ap (λ x. x .answer) (h .outcome)
 
@@ -138,7 +138,7 @@ module _ {image : List ℕ} {depth : ℕ} {out trace : List ℕ} {r : Linearized
     pub prefix-length : n ≡ length (take n out′)
     prefix-length = sym (length-take-le n out′ prefix-inside)
 
-    pub prefix-recorded : Recorded (take n out′)
+    pub prefix-recorded : WordsOfRecords (take n out′)
     prefix-recorded = rw en recorded
 
     prefix-few : length (take n out′) ≤ 8192

@@ -32,5 +32,5 @@ pub record InFront (bytes text : List ℕ) (n : ℕ) (text′ : List ℕ) : Type
   pub count : n ≡ length bytes
   pub inside : n ≤ length text′
 
-abbrev pub Listed : List ℕ → List ℕ → ℕ → List ℕ → Type 0
-Listed input text n text′ = InFront (listing input) text n text′
+abbrev pub ListingInFront : List ℕ → List ℕ → ℕ → List ℕ → Type 0
+ListingInFront input text n text′ = InFront (listing input) text n text′

@@ -10,7 +10,7 @@ use Rattle.model.specs.Run.{told}
 use Rattle.model.specs.Listing.{ascii, decimal, line, fromText, refusedText}
 use Rattle.writer.specs.declared.Linearized.{Linearized}
 use Rattle.writer.specs.declared.Linearized.the-variants as linearized
-use Rattle.writer.specs.Promise.{answerTo}
+use Rattle.writer.specs.Promise.{refusalAnswer}
 
 -- a numerator's word, "signed in two's complement"
 unfoldable pub signedText : ℕ → List ℕ
@@ -34,7 +34,7 @@ unfoldable pub recordLine : List ℕ → List ℕ
 recordLine ws = decimal (getD ws 0 0) ++ (wordsText ws 1 (drop 1 ws) ++ 10 ∷ [])
 
 -- some words are those of records
-pub record Recorded (ws : List ℕ) : Type 0 where
+pub record WordsOfRecords (ws : List ℕ) : Type 0 where
   pub records : List Record
   pub words : ws ≡ flatMap encode records
 
@@ -45,4 +45,4 @@ twoText a b = (32 ∷ decimal a) ++ ((32 ∷ decimal b) ++ 10 ∷ [])
 -- an answer's closing lines, with the words of its trace
 unfoldable pub endText : Linearized → List ℕ → List ℕ
 endText (linearized.Done p) t = line (ascii "done" ∷ decimal (p .records) ∷ [])
-endText (linearized.Refused e) t = fromText t ++ refusedText (told (answerTo (e .kind) t))
+endText (linearized.Refused e) t = fromText t ++ refusedText (told (refusalAnswer (e .kind) t))

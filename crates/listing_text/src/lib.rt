@@ -13,8 +13,8 @@ ghost use Rattle.model.specs.Run.{runs, numbers};
 ghost use Rattle.model.specs.Reader.{recordsIn};
 ghost use Rattle.writer.specs.Promise.{positionOf};
 ghost use Rattle.unit.specs.Told.{numbersOf};
-ghost use Rattle.listing_text.specs.Put.{Room, Put, PutMost, imageText, Listed};
-ghost use Rattle.listing_text.specs.WordText.{signedText, wordText, numerator, recordLine, Recorded, twoText, endText};
+ghost use Rattle.listing_text.specs.Put.{Room, Put, PutMost, imageText, ListingInFront};
+ghost use Rattle.listing_text.specs.WordText.{signedText, wordText, numerator, recordLine, WordsOfRecords, twoText, endText};
 
 // A byte, and the place behind it.
 pub fn put(text: &mut [u8], at: usize, byte: u8) -> usize
@@ -104,7 +104,7 @@ pub fn put_record(text: &mut [u8], at: usize, words: &[u64]) -> usize
 
 // The lines of all records of some words.
 fn put_records(text: &mut [u8], at: usize, words: &[u64]) -> usize
-    requires { ⌜ Recorded (now words) × (at + 21 * length (now words) ≤ length (now text)) ⌝ }
+    requires { ⌜ WordsOfRecords (now words) × (at + 21 * length (now words) ≤ length (now text)) ⌝ }
     ensures { λ r. ⌜ PutMost (flatMap recordLine (recordsIn (now (words .entry)))) (21 * length (now (words .entry))) (now (text .entry)) at r (now (text .exit)) ⌝ }
 {
     let mut end = at;
@@ -312,7 +312,7 @@ fn put_listing(text: &mut [u8], input: &[u8]) -> usize
 
 // The listing of some input, laid over a text, and its length.
 pub fn listing_text(input: &[u8], text: &mut [u8; 262144]) -> usize
-    ensures { λ r. ⌜ Listed (now (input .entry)) (now (text .entry)) r (now (text .exit)) ⌝ }
+    ensures { λ r. ⌜ ListingInFront (now (input .entry)) (now (text .entry)) r (now (text .exit)) ⌝ }
 {
     put_listing(text, input)
 }

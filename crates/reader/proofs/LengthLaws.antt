@@ -10,7 +10,7 @@ use borrow.Author.Tests.{le-leb, lt-leb, lt-ltb, le-ltb, leb-true, eqb-true, eqb
 use lib.Seq.{getD-drop, length-take-le}
 use native.Mathlib.Nat.{add-zero}
 use Rattle.reader.specs.declared.NextRecord.the-variants as answer
-use Rattle.reader.specs.Answer.{answerOf, wordsOf}
+use Rattle.reader.specs.Answer.{nextRecordOf, nextWordsOf}
 use Rattle.model.specs.Reader.{next, end, wrong, recordLength, nextAt}
 use Rattle.model.proofs.ListLaws.{four-up}
 
@@ -80,11 +80,11 @@ module _ (ws : List ℕ) (at : ℕ) where
           either false = refl
 
   -- the length that is told is the record's
-  pub found-length : (n : ℕ) → at < length ws → Fitting n → ¬ (n ≡ 0) → answer.Record n ≡ answerOf (nextAt ws at)
+  pub found-length : (n : ℕ) → at < length ws → Fitting n → ¬ (n ≡ 0) → answer.Record n ≡ nextRecordOf (nextAt ws at)
   found-length n h e z =
       let f = found n h e z in
       let size : length (take n (drop at ws)) ≡ n = length-take-le n (drop at ws) (omega (arith, f .1, length-drop at ws)) in
-      ap answer.Record (sym size) ∙ ap answerOf (f .0)
+      ap answer.Record (sym size) ∙ ap nextRecordOf (f .0)
 
   pub at-end : at ≡ length ws → end ≡ nextAt ws at
   unfolding nextAt
@@ -109,13 +109,13 @@ fits-left ws at n e = go (leb (recordLength (drop at ws)) (length ws - at)) refl
 back : (a k : ℕ) → a + k - a ≡ k
 back a k = omega arith
 
-pub part-is : (ws : List ℕ) (at n : ℕ) → at < length ws → n ≡ cond (leb (recordLength (drop at ws)) (length ws - at)) (recordLength (drop at ws)) 0 → take (at + n - at) (drop at ws) ≡ wordsOf (nextAt ws at)
-part-is ws at zero h e = ap (λ (k : ℕ). take k (drop at ws)) (back at 0) ∙ ap wordsOf (none ws at 0 h e refl)
-part-is ws at (suc n) h e = ap (λ (k : ℕ). take k (drop at ws)) (back at (suc n)) ∙ ap wordsOf (found ws at (suc n) h e (λ z. omega arith) .0)
+pub part-is : (ws : List ℕ) (at n : ℕ) → at < length ws → n ≡ cond (leb (recordLength (drop at ws)) (length ws - at)) (recordLength (drop at ws)) 0 → take (at + n - at) (drop at ws) ≡ nextWordsOf (nextAt ws at)
+part-is ws at zero h e = ap (λ (k : ℕ). take k (drop at ws)) (back at 0) ∙ ap nextWordsOf (none ws at 0 h e refl)
+part-is ws at (suc n) h e = ap (λ (k : ℕ). take k (drop at ws)) (back at (suc n)) ∙ ap nextWordsOf (found ws at (suc n) h e (λ z. omega arith) .0)
 
-pub no-part : (ws : List ℕ) (at : ℕ) → ¬ (at < length ws) → [] ≡ wordsOf (nextAt ws at)
+pub no-part : (ws : List ℕ) (at : ℕ) → ¬ (at < length ws) → [] ≡ nextWordsOf (nextAt ws at)
 no-part ws at h = go (eqb at (length ws)) refl
   where
-    go : (b : Bool) → eqb at (length ws) ≡ b → [] ≡ wordsOf (nextAt ws at)
-    go true e = ap wordsOf (at-end ws at (eqb-true at (length ws) e))
-    go false e = ap wordsOf (past-end ws at h (eqb-false at (length ws) e))
+    go : (b : Bool) → eqb at (length ws) ≡ b → [] ≡ nextWordsOf (nextAt ws at)
+    go true e = ap nextWordsOf (at-end ws at (eqb-true at (length ws) e))
+    go false e = ap nextWordsOf (past-end ws at h (eqb-false at (length ws) e))

@@ -7,13 +7,13 @@ use Rattle.reader.specs.declared.NextRecord.{NextRecord}
 use Rattle.reader.specs.declared.NextRecord.the-variants as answer
 
 -- a record with its length, the end, or 17
-abbrev pub answerOf : Next → NextRecord
-answerOf (next ws) = answer.Record (length ws)
-answerOf end = answer.End
-answerOf wrong = answer.Wrong
+abbrev pub nextRecordOf : Next → NextRecord
+nextRecordOf (next ws) = answer.Record (length ws)
+nextRecordOf end = answer.End
+nextRecordOf wrong = answer.Wrong
 
 -- the words of the record, none where there is none
-abbrev pub wordsOf : Next → List ℕ
-wordsOf (next ws) = ws
-wordsOf end = []
-wordsOf wrong = []
+abbrev pub nextWordsOf : Next → List ℕ
+nextWordsOf (next ws) = ws
+nextWordsOf end = []
+nextWordsOf wrong = []

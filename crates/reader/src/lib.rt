@@ -5,7 +5,7 @@ ghost use lib.Dec.{leb};
 ghost use lib.ListN.{length, getD, drop};
 ghost use Prim.Native.Nat.{_+_, _-_, _*_, _/_, _<_};
 ghost use Rattle.model.specs.Reader.{recordLength, nextAt};
-ghost use Rattle.reader.specs.Answer.{answerOf, wordsOf};
+ghost use Rattle.reader.specs.Answer.{nextRecordOf, nextWordsOf};
 
 // A record of so many words, the end, or no record: 17.
 pub enum NextRecord {
@@ -102,7 +102,7 @@ fn length_at(words: &[u64], at: usize) -> u64
 
 // What stands at a position.
 pub fn next_at(words: &[u64], at: usize) -> NextRecord
-    ensures { λ r. ⌜ r ≡ answerOf (nextAt (now (words .entry)) at) ⌝ }
+    ensures { λ r. ⌜ r ≡ nextRecordOf (nextAt (now (words .entry)) at) ⌝ }
 {
     if at < words.len() {
         let n = length_at(words, at);
@@ -119,7 +119,7 @@ pub fn next_at(words: &[u64], at: usize) -> NextRecord
 
 // The words of the record at a position, as a part of the slice; none where there is none.
 pub fn next_record(words: &[u64], at: usize) -> &[u64]
-    ensures { λ r. ⌜ now r ≡ wordsOf (nextAt (now (words .entry)) at) ⌝ }
+    ensures { λ r. ⌜ now r ≡ nextWordsOf (nextAt (now (words .entry)) at) ⌝ }
 {
     if at < words.len() {
         let n = length_at(words, at) as usize;

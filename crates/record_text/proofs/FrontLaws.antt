@@ -10,7 +10,7 @@ use lib.ListN.{length, take, drop, length-append, length-drop}
 use lib.Seq.{length-take-le}
 use Rattle.model.specs.Lists.{sum}
 use Rattle.model.specs.Reader.{Next, next, end, wrong, recordLength, nextAt, found, recordsFrom, recordsIn}
-use Rattle.reader.specs.Answer.{wordsOf}
+use Rattle.reader.specs.Answer.{nextWordsOf}
 use Rattle.model.proofs.ListLaws.{flat-append}
 use Rattle.listing_text.specs.Put.{Put, PutMost}
 use Rattle.listing_text.specs.WordText.{recordLine}
@@ -24,14 +24,14 @@ data Stands (ws : List ℕ) (at : ℕ) (v : List ℕ) (x : Next) : Type 0 where
   one : x ≡ next v → 1 ≤ length v → at + length v ≤ length ws → Stands ws at v x
   none : length v ≡ 0 → ((more : ℕ → List (List ℕ)) → found x at more ≡ []) → Stands ws at v x
 
-stands : (ws : List ℕ) (at : ℕ) {v : List ℕ} → v ≡ wordsOf (nextAt ws at) → Stands ws at v (nextAt ws at)
+stands : (ws : List ℕ) (at : ℕ) {v : List ℕ} → v ≡ nextWordsOf (nextAt ws at) → Stands ws at v (nextAt ws at)
 unfolding nextAt found
 stands ws at {v} e = go (ltb at (length ws)) (leb 1 n) (leb n (length ws - at)) (ltb (length ws) at) refl refl e
   where
     n : ℕ
     n = recordLength (drop at ws)
 
-    go : (a b c d : Bool) → leb 1 n ≡ b → leb n (length ws - at) ≡ c → v ≡ wordsOf (cond a (cond (b && c) (next (take n (drop at ws))) wrong) (cond d wrong end))
+    go : (a b c d : Bool) → leb 1 n ≡ b → leb n (length ws - at) ≡ c → v ≡ nextWordsOf (cond a (cond (b && c) (next (take n (drop at ws))) wrong) (cond d wrong end))
         → Stands ws at v (cond a (cond (b && c) (next (take n (drop at ws))) wrong) (cond d wrong end))
     go true true true d p q f =
         let size = length-take-le n (drop at ws) (omega (arith, leb-true n (length ws - at) q, length-drop at ws)) in
@@ -77,7 +77,7 @@ fronting-start ws {text} =
       few = omega arith;
     }
 
-module _ {ws text text′ : List ℕ} {at records end : ℕ} (g : Fronting ws text at records end text′) {v : List ℕ} (e : v ≡ wordsOf (nextAt ws at)) where
+module _ {ws text text′ : List ℕ} {at records end : ℕ} (g : Fronting ws text at records end text′) {v : List ℕ} (e : v ≡ nextWordsOf (nextAt ws at)) where
   module _ (some : ¬ (length v ≡ 0)) where
     pub front-some : 1 ≤ length v
     front-some = omega arith

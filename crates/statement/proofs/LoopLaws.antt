@@ -15,9 +15,9 @@ use Rattle.writer.specs.declared.LinearizeErrorKind.the-variants as kind
 use Rattle.writer.specs.declared.LinearizeError.{LinearizeError}
 use Rattle.writer.specs.declared.Linearized.{Linearized}
 use Rattle.writer.specs.declared.Linearized.the-variants as linearized
-use Rattle.writer.specs.Promise.{answerTo, placeAt, Open, Wrote}
+use Rattle.writer.specs.Promise.{refusalAnswer, placeAt, InOutput, WroteSteps}
 
-pub not-done : (k : LinearizeErrorKind) (t : List ℕ) → ¬ (answerTo k t ≡ done)
+pub not-done : (k : LinearizeErrorKind) (t : List ℕ) → ¬ (refusalAnswer k t ≡ done)
 not-done (kind.DivideByZero p) t e = absurd (let z : _≡_ {A = ℕ} 0 1 = cc in omega arith)
 not-done (kind.ApproximateFail p f) t e = absurd (let z : _≡_ {A = ℕ} 0 1 = cc in omega arith)
 not-done (kind.NumericalOverflow p) t e = absurd (let z : _≡_ {A = ℕ} 0 1 = cc in omega arith)
@@ -32,13 +32,13 @@ pub record Looped (g : ℕ → List Step) (n : ℕ) (out : List ℕ) (at : Posit
   pub few : i ≤ n
   pub going : Going (inRounds n g) (flatMap g (range i (n - i))) (placeAt out at) (placeAt out′ now)
   pub level : now .trace ≡ at .trace
-  pub opens : Open out′ now
+  pub opens : InOutput out′ now
 
-pub wrote-open : {ss : List Step} {out out′ : List ℕ} {at p : Position} → Open out at → Wrote ss out at (linearized.Done p) out′ → Open out′ p
+pub wrote-open : {ss : List Step} {out out′ : List ℕ} {at p : Position} → InOutput out at → WroteSteps ss out at (linearized.Done p) out′ → InOutput out′ p
 wrote-open o w = record { inside = w .plays .fits; fewer = omega (arith, o .fewer, w .plays .fewer) }
 
 module _ (g : ℕ → List Step) (n : ℕ) {out : List ℕ} {at : Position} where
-  pub looped-start : Open out at → Looped g n out at 0 out at
+  pub looped-start : InOutput out at → Looped g n out at 0 out at
   looped-start o =
       record {
         few = zero-le;
@@ -48,17 +48,17 @@ module _ (g : ℕ → List Step) (n : ℕ) {out : List ℕ} {at : Position} wher
       }
 
   module _ {i : ℕ} {out′ : List ℕ} {now : Position} (l : Looped g n out at i out′ now) where
-    pub looped-next : {ss : List Step} {r : Linearized} {out″ : List ℕ} {p : Position} → i < n → ss ≡ g i → r ≡ linearized.Done p → Wrote ss out′ now r out″ → Looped g n out at (i + 1) out″ p
+    pub looped-next : {ss : List Step} {r : Linearized} {out″ : List ℕ} {p : Position} → i < n → ss ≡ g i → r ≡ linearized.Done p → WroteSteps ss out′ now r out″ → Looped g n out at (i + 1) out″ p
     looped-next {out″ = out″} {p} h e d w =
-        let v : Wrote (g i) out′ now (linearized.Done p) out″ = rw (e, d) at w in
+        let v : WroteSteps (g i) out′ now (linearized.Done p) out″ = rw (e, d) at w in
         record { few = omega arith; going = going-part (l .going) (rounds-next g i n h) (v .plays); level = v .level ∙ l .level; opens = wrote-open (l .opens) v }
 
-    pub looped-stop : {ss : List Step} {r : Linearized} {out″ : List ℕ} {e : LinearizeError} {m : ℕ} → i < n → ss ≡ g i → r ≡ linearized.Refused e → n ≡ m → Wrote ss out′ now r out″ → Wrote (inRounds m g) out at (linearized.Refused e) out″
+    pub looped-stop : {ss : List Step} {r : Linearized} {out″ : List ℕ} {e : LinearizeError} {m : ℕ} → i < n → ss ≡ g i → r ≡ linearized.Refused e → n ≡ m → WroteSteps ss out′ now r out″ → WroteSteps (inRounds m g) out at (linearized.Refused e) out″
     looped-stop {out″ = out″} {e = x} h e d f w =
-        let v : Wrote (g i) out′ now (linearized.Refused x) out″ = rw (e, d) at w in
+        let v : WroteSteps (g i) out′ now (linearized.Refused x) out″ = rw (e, d) at w in
         rw (← f) (record { plays = going-stopped (l .going) (flatMap g (range (i + 1) (n - (i + 1)))) (rounds-next g i n h) (v .plays) (not-done (x .kind) []); level = v .level ∙ l .level })
 
-    pub looped-done : {m : ℕ} → n ≤ i → n ≡ m → Wrote (inRounds m g) out at (linearized.Done now) out′
+    pub looped-done : {m : ℕ} → n ≤ i → n ≡ m → WroteSteps (inRounds m g) out at (linearized.Done now) out′
     looped-done h f = rw (← f) (record { plays = going-done (l .going) (rounds-none g i n h); level = l .level })
 
     -- an output keeps its length

@@ -16,14 +16,14 @@ use Rattle.writer.specs.declared.LinearizeErrorKind.the-variants as kind
 use Rattle.writer.specs.declared.LinearizeError.{LinearizeError}
 use Rattle.writer.specs.declared.Linearized.{Linearized}
 use Rattle.writer.specs.declared.Linearized.the-variants as linearized
-use Rattle.writer.specs.Promise.{fullAt, Open, Wrote, answerTo, placeAt}
+use Rattle.writer.specs.Promise.{fullAt, InOutput, WroteSteps, refusalAnswer, placeAt}
 use Rattle.writer.proofs.WriteLaws.{full-up}
-use Rattle.argument.specs.Frames.{standing}
+use Rattle.argument.specs.Frames.{scopeFrame}
 use Rattle.statement.specs.Statements.{apartCX, overlapAtCX}
 
 module _ (image : List ℕ) (scope : ℕ) (angles : List Value) (formals : List ℕ) where
   abbrev frame : Frame
-  frame = standing image scope angles formals
+  frame = scopeFrame image scope angles formals
 
   pub reset-round : (a i : ℕ) {q : ℕ} → q ≡ qubitIn image frame i a → _≡_ {A = List Step} (write [] (Record.Reset q) ∷ []) (writeReset image frame a i)
   unfolding writeReset
@@ -38,32 +38,32 @@ module _ (image : List ℕ) (scope : ℕ) (angles : List Value) (formals : List 
   cx-round a b i e f = ap₂ (apartCX image a b) e f
 
 -- an answer by what is promised of it
-pub wrote-told : {ss : List Step} {out out′ : List ℕ} {at : Position} {r s : Linearized} → r ≡ s → Wrote ss out at s out′ → Wrote ss out at r out′
-wrote-told {ss} {out} {out′} {at} e w = subst (λ (z : Linearized). Wrote ss out at z out′) (sym e) w
+pub wrote-told : {ss : List Step} {out out′ : List ℕ} {at : Position} {r s : Linearized} → r ≡ s → WroteSteps ss out at s out′ → WroteSteps ss out at r out′
+wrote-told {ss} {out} {out′} {at} e w = subst (λ (z : Linearized). WroteSteps ss out at z out′) (sym e) w
 
 pub overlap-told : (image : List ℕ) (a b : ℕ) {at : Position} {m n : ℕ} → m ≡ argumentAt image a → n ≡ argumentAt image b → linearized.Refused (record { kind = kind.OverlappingRegs m n; at = at }) ≡ overlapAtCX image a b at
 overlap-told image a b e f = rw (e, f) refl
 
 -- the ways of a CX
 module _ (image : List ℕ) (a b : ℕ) {out : List ℕ} {p q : ℕ} {at : Position} where
-  pub cx-overlaps : Open out at → p ≡ q → Wrote (apartCX image a b p q) out at (overlapAtCX image a b at) out
+  pub cx-overlaps : InOutput out at → p ≡ q → WroteSteps (apartCX image a b p q) out at (overlapAtCX image a b at) out
   unfolding apartCX play
   cx-overlaps o d = rw (eq-eqb p q d) (record { plays = plays-stop _ (o .inside) refl; level = refl })
 
-  pub cx-apart : {p′ q′ : ℕ} {r : Linearized} {out′ : List ℕ} → p′ ≡ p → q′ ≡ q → ¬ (p′ ≡ q′) → Wrote (write [] (Record.CX p′ q′) ∷ []) out at r out′ → Wrote (apartCX image a b p q) out at r out′
+  pub cx-apart : {p′ q′ : ℕ} {r : Linearized} {out′ : List ℕ} → p′ ≡ p → q′ ≡ q → ¬ (p′ ≡ q′) → WroteSteps (write [] (Record.CX p′ q′) ∷ []) out at r out′ → WroteSteps (apartCX image a b p q) out at r out′
   unfolding apartCX
   cx-apart e f n w = rw (← e, ← f, ne-eqb _ _ n) w
 
-  pub cx-full : {p′ q′ : ℕ} → p′ ≡ p → q′ ≡ q → ¬ (p′ ≡ q′) → Open out at → length out < at .words + 3 → Wrote (apartCX image a b p q) out at (fullAt at) out
+  pub cx-full : {p′ q′ : ℕ} → p′ ≡ p → q′ ≡ q → ¬ (p′ ≡ q′) → InOutput out at → length out < at .words + 3 → WroteSteps (apartCX image a b p q) out at (fullAt at) out
   unfolding encode kindOf fields
   cx-full {p′} {q′} e f n o h = cx-apart e f n (full-up (Record.CX p′ q′) o h)
 
 -- a refusal that nothing is written before
-pub refuses : (x : Refusal) (e : LinearizeError) {out : List ℕ} {at : Position} → e .at ≡ at → ((t : List ℕ) → answerTo (e .kind) t ≡ refused t x) → Open out at → Wrote (refuse [] x ∷ []) out at (linearized.Refused e) out
+pub refuses : (x : Refusal) (e : LinearizeError) {out : List ℕ} {at : Position} → e .at ≡ at → ((t : List ℕ) → refusalAnswer (e .kind) t ≡ refused t x) → InOutput out at → WroteSteps (refuse [] x ∷ []) out at (linearized.Refused e) out
 unfolding play
 refuses x e {out} {at} p q o =
     record {
-      plays = subst (λ (z : Position). Plays (refuse [] x ∷ []) (placeAt out at) (placeAt out z) (answerTo (e .kind) [])) (sym p)
+      plays = subst (λ (z : Position). Plays (refuse [] x ∷ []) (placeAt out at) (placeAt out z) (refusalAnswer (e .kind) [])) (sym p)
           (subst (λ (z : Answer). Plays (refuse [] x ∷ []) (placeAt out at) (placeAt out at) z) (sym (q [])) (plays-stop (refuse [] x ∷ []) (o .inside) refl));
       level = ap (λ (z : Position). z .trace) p;
     }

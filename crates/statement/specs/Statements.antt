@@ -16,7 +16,7 @@ use Rattle.writer.specs.declared.Position.{Position}
 use Rattle.writer.specs.declared.LinearizeErrorKind.the-variants as kind
 use Rattle.writer.specs.declared.Linearized.{Linearized}
 use Rattle.writer.specs.declared.Linearized.the-variants as linearized
-use Rattle.writer.specs.Promise.{Wrote}
+use Rattle.writer.specs.Promise.{WroteSteps}
 use Rattle.statement.specs.declared.Overlap.{Overlap}
 use Rattle.statement.specs.declared.Overlap.the-variants as overlapping
 
@@ -45,7 +45,7 @@ pub record Overlaps (q : List ℕ) (n : ℕ) (r : Overlap) : Type 0 where
   pub inside : Inside n r
 
 -- the first entry that is entry i
-pub record Holds (q : List ℕ) (i r : ℕ) : Type 0 where
+pub record FirstHolder (q : List ℕ) (i r : ℕ) : Type 0 where
   pub within : r ≤ i
   pub same : getD q r 0 ≡ getD q i 0
   pub first : (j : ℕ) → j < r → ¬ (getD q j 0 ≡ getD q i 0)
@@ -58,17 +58,17 @@ pub record Marks (marks : List Bool) (l : List ℕ) : Type 0 where
   pub each : (q : ℕ) → List·Memᴰ q l → getD marks q false ≡ true
 
 -- some numbers were marked, whichever were before
-pub record Adds (marks : List Bool) (l : List ℕ) (marks′ : List Bool) : Type 0 where
+pub record MarksAdded (marks : List Bool) (l : List ℕ) (marks′ : List Bool) : Type 0 where
   pub told : (m : List ℕ) → Marks marks m → Marks marks′ (m ++ l)
 
 -- and all of them are below an end
-pub record Covers (marks : List Bool) (l : List ℕ) (marks′ : List Bool) (end : ℕ) : Type 0 where
-  pub adds : Adds marks l marks′
+pub record MarksCover (marks : List Bool) (l : List ℕ) (marks′ : List Bool) (end : ℕ) : Type 0 where
+  pub adds : MarksAdded marks l marks′
   pub below : All (λ q. q < end) l
   pub few : end ≤ 4096
 
 -- ---- opaque gates
 
 -- a round of an opaque gate with these qubits, whichever the arguments are that have them
-pub record WroteApart (image : List ℕ) (gate : ℕ) (angles : List Value) (q : List ℕ) (a n : ℕ) (out : List ℕ) (at : Position) (r : Linearized) (out′ : List ℕ) : Type 0 where
-  pub wrote : (f : ℕ → ℕ) → ((j : ℕ) → j < n → f (a + j) ≡ getD q j 0) → Wrote (distinctly image [] (overlap f [] (range a n)) (Record.Opaque gate angles (take n q))) out at r out′
+pub record WroteDistinct (image : List ℕ) (gate : ℕ) (angles : List Value) (q : List ℕ) (a n : ℕ) (out : List ℕ) (at : Position) (r : Linearized) (out′ : List ℕ) : Type 0 where
+  pub wrote : (f : ℕ → ℕ) → ((j : ℕ) → j < n → f (a + j) ≡ getD q j 0) → WroteSteps (distinctly image [] (overlap f [] (range a n)) (Record.Opaque gate angles (take n q))) out at r out′

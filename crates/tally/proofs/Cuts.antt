@@ -11,7 +11,7 @@ use borrow.Author.Tests.{lt-ltb, le-ltb, eq-eqb, ne-eqb}
 use Rattle.rational.proofs.Capped.{min-mul}
 use Rattle.model.specs.Lists.{range, sum}
 use Rattle.model.proofs.Ranges.{sum-next}
-use Rattle.tally.specs.Weights.{weightOf, entryOf, cut}
+use Rattle.tally.specs.Weights.{weightOf, entryOf, capped}
 
 -- ---- what a record weighs
 module _ (j kind n : ℕ) where
@@ -32,11 +32,11 @@ module _ (j kind n : ℕ) where
   weight-none h e = rw (le-ltb j 7 h, ne-eqb j 8 e) refl
 
   -- the words may be cut
-  pub weight-cut : cut (1 * weightOf j kind (cut n)) ≡ cut (weightOf j kind n)
+  pub weight-cut : capped (1 * weightOf j kind (capped n)) ≡ capped (weightOf j kind n)
   unfolding weightOf
   weight-cut = go (ltb j 7) (eqb j 8) (cond (eqb kind (suc j)) 1 0)
     where
-      go : (s t : Bool) (m : ℕ) → cut (1 * cond s m (cond t (cut n) 0)) ≡ cut (cond s m (cond t n 0))
+      go : (s t : Bool) (m : ℕ) → capped (1 * cond s m (cond t (capped n) 0)) ≡ capped (cond s m (cond t n 0))
       go true t m = omega arith
       go false true m = omega arith
       go false false m = omega arith
@@ -50,21 +50,21 @@ unfolding entryOf
 entry-none j e = rw (ne-eqb j 7 e) refl
 
 -- ---- products
-pub product-none : (k a : ℕ) → a ≡ 0 → 0 ≡ cut (k * a)
+pub product-none : (k a : ℕ) → a ≡ 0 → 0 ≡ capped (k * a)
 product-none k a e = rw (e, mul-zero k) refl
 
 -- rounds of a body with its entries
-pub rounds-of-body : (k e b : ℕ) → cut (cut (k * e) + cut (k * cut b)) ≡ cut (k * (e + b))
+pub rounds-of-body : (k e b : ℕ) → capped (capped (k * e) + capped (k * capped b)) ≡ capped (k * (e + b))
 rounds-of-body k e b = omega (arith, min-mul k b (2 ^ 32))
 
 -- ---- sums over a range, from b on
 module _ (f : ℕ → ℕ) (b a : ℕ) where
-  pub sum-start : b ≤ 2 ^ 32 → b ≡ cut (b + sum (map f (range a 0)))
+  pub sum-start : b ≤ 2 ^ 32 → b ≡ capped (b + sum (map f (range a 0)))
   unfolding sum range
   sum-start h = omega arith
 
-  pub sum-more : (i total x r : ℕ) → total ≡ cut (b + sum (map f (range a i))) → cut x ≡ cut (f (a + i)) → r ≡ cut (total + x) → r ≡ cut (b + sum (map f (range a (i + 1))))
+  pub sum-more : (i total x r : ℕ) → total ≡ capped (b + sum (map f (range a i))) → capped x ≡ capped (f (a + i)) → r ≡ capped (total + x) → r ≡ capped (b + sum (map f (range a (i + 1))))
   sum-more i total x r et ex er = omega (arith, sum-next f a i)
 
-  pub sum-done : (i n total : ℕ) → i ≤ n → n ≤ i → total ≡ cut (b + sum (map f (range a i))) → total ≡ cut (b + sum (map f (range a n)))
-  sum-done i n total h k e = let same : i ≡ n = omega arith in e ∙ ap (λ (m : ℕ). cut (b + sum (map f (range a m)))) same
+  pub sum-done : (i n total : ℕ) → i ≤ n → n ≤ i → total ≡ capped (b + sum (map f (range a i))) → total ≡ capped (b + sum (map f (range a n)))
+  sum-done i n total h k e = let same : i ≡ n = omega arith in e ∙ ap (λ (m : ℕ). capped (b + sum (map f (range a m)))) same

@@ -10,20 +10,20 @@ use Rattle.model.specs.Check.{fine, check}
 use Rattle.model.specs.Tally.{openGateTally, gateTally, openingTally}
 use Rattle.model.proofs.Accepted as accepted
 use Rattle.model.proofs.Accepted.{accepts}
-use Rattle.tally.specs.Weights.{weightOf, entryOf, cut, opening, body, Tabled}
+use Rattle.tally.specs.Weights.{weightOf, entryOf, capped, openingFor, body, FigureTable}
 use Rattle.tally.proofs.Cuts.{rounds-of-body}
 
 module _ (image : List ℕ) (j g at k : ℕ) (at-is : at ≡ gateAt image g) where
-  pub gate-opaque : (n p q b r : ℕ) → p ≡ word image at → q ≡ word image (at + 1) → b ≡ word image (at + 2) → b ≡ 0 → r ≡ cut (k * weightOf j 3 (4 + 4 * p + q)) → r ≡ cut (k * gateTally image (weightOf j) (entryOf j) (opening image j n) g)
+  pub gate-opaque : (n p q b r : ℕ) → p ≡ word image at → q ≡ word image (at + 1) → b ≡ word image (at + 2) → b ≡ 0 → r ≡ capped (k * weightOf j 3 (4 + 4 * p + q)) → r ≡ capped (k * gateTally image (weightOf j) (entryOf j) (openingFor image j n) g)
   unfolding gateTally
   gate-opaque n p q b r ep eq eb z er = rw (← at-is, ← ep, ← eq, ← eb, eq-eqb b 0 z) er
 
-  pub gate-cut : (n q b r : ℕ) → q ≡ word image (at + 1) → b ≡ word image (at + 2) → ¬ (b ≡ 0) → n ≡ 0 → r ≡ cut (k * weightOf j 3 (4 + q)) → r ≡ cut (k * gateTally image (weightOf j) (entryOf j) (opening image j n) g)
+  pub gate-cut : (n q b r : ℕ) → q ≡ word image (at + 1) → b ≡ word image (at + 2) → ¬ (b ≡ 0) → n ≡ 0 → r ≡ capped (k * weightOf j 3 (4 + q)) → r ≡ capped (k * gateTally image (weightOf j) (entryOf j) (openingFor image j n) g)
   unfolding gateTally openGateTally openingTally
   gate-cut n q b r eq eb z e er = rw (e, ← at-is, ← eq, ← eb, ne-eqb b 0 z) er
 
-  pub gate-opened : (n : ℕ) (table : List ℕ) (b e t r : ℕ) → Tabled image n (suc g) table → j < 9 → b ≡ word image (at + 2) → ¬ (b ≡ 0) → ¬ (n ≡ 0)
-      → e ≡ cut (k * entryOf j) → t ≡ cut (k * getD table (9 * g + j) 0) → r ≡ cut (e + t) → r ≡ cut (k * gateTally image (weightOf j) (entryOf j) (opening image j n) g)
+  pub gate-opened : (n : ℕ) (table : List ℕ) (b e t r : ℕ) → FigureTable image n (suc g) table → j < 9 → b ≡ word image (at + 2) → ¬ (b ≡ 0) → ¬ (n ≡ 0)
+      → e ≡ capped (k * entryOf j) → t ≡ capped (k * getD table (9 * g + j) 0) → r ≡ capped (e + t) → r ≡ capped (k * gateTally image (weightOf j) (entryOf j) (openingFor image j n) g)
   unfolding gateTally openGateTally openingTally
   gate-opened zero table b e t r tab hj eb z m ee et er = absurd (m refl)
   gate-opened (suc n) table b e t r tab hj eb z m ee et er =

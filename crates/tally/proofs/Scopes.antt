@@ -14,40 +14,40 @@ use Rattle.model.proofs.Accepted.{accepts}
 use Rattle.model.proofs.Facts.{PlainFacts, Facts, run-facts}
 use Rattle.image.specs.declared.Layout.{Layout}
 use Rattle.image.proofs.KindLaws.{if-at}
-use Rattle.tally.specs.Weights.{weightOf, entryOf, cut, opening, Ready}
+use Rattle.tally.specs.Weights.{weightOf, entryOf, capped, openingFor, AcceptedLayout}
 use Rattle.tally.proofs.StatementKinds.{plain-any}
 
 module _ (image : List ℕ) where
   -- ---- one statement
   module _ (scope s at kind : ℕ) (at-is : at ≡ statementAt image s) (kind-is : kind ≡ word image at) where
-    pub if-comes : (j n t r : ℕ) → kind ≡ 7 → t ≡ word image (at + 3) → r ≡ cut (conditionalTally image (weightOf j) (entryOf j) (opening image j n) scope t) → r ≡ cut (statementTally image (weightOf j) (entryOf j) (opening image j n) scope s)
+    pub if-comes : (j n t r : ℕ) → kind ≡ 7 → t ≡ word image (at + 3) → r ≡ capped (conditionalTally image (weightOf j) (entryOf j) (openingFor image j n) scope t) → r ≡ capped (statementTally image (weightOf j) (entryOf j) (openingFor image j n) scope s)
     unfolding statementTally plainTally
     if-comes j n t r e et er = rw (if-at image scope s at kind at-is kind-is t e et) er
 
-  pub plain-comes : (scope s j n r : ℕ) → PlainFacts image scope (statement image s) → r ≡ cut (plainTally image (weightOf j) (entryOf j) (λ t. 0) (opening image j n) scope (statement image s)) → r ≡ cut (statementTally image (weightOf j) (entryOf j) (opening image j n) scope s)
+  pub plain-comes : (scope s j n r : ℕ) → PlainFacts image scope (statement image s) → r ≡ capped (plainTally image (weightOf j) (entryOf j) (λ t. 0) (openingFor image j n) scope (statement image s)) → r ≡ capped (statementTally image (weightOf j) (entryOf j) (openingFor image j n) scope s)
   unfolding statementTally
   plain-comes scope s j n r f er =
-      er ∙ ap cut (plain-any image scope (weightOf j) (entryOf j) (λ t. 0) (conditionalTally image (weightOf j) (entryOf j) (opening image j n) scope) (opening image j n) (statement image s) f)
+      er ∙ ap capped (plain-any image scope (weightOf j) (entryOf j) (λ t. 0) (conditionalTally image (weightOf j) (entryOf j) (openingFor image j n) scope) (openingFor image j n) (statement image s) f)
 
   -- ---- a run of statements
   pub body-facts : check image ≡ fine → (scope first count i : ℕ) → scope ≤ gates image → scopeStatements image scope ≡ range first count → i < count → Facts image scope (statement image (first + i))
   body-facts ok scope first count i within run h = run-facts image (accepts image ok) scope first count i within run h
 
-  pub body-is : (scope first count j n r : ℕ) → scopeStatements image scope ≡ range first count → r ≡ cut (0 + sum (map (statementTally image (weightOf j) (entryOf j) (opening image j n) scope) (range first count))) → r ≡ cut (bodyTally image (weightOf j) (entryOf j) (opening image j n) scope)
+  pub body-is : (scope first count j n r : ℕ) → scopeStatements image scope ≡ range first count → r ≡ capped (0 + sum (map (statementTally image (weightOf j) (entryOf j) (openingFor image j n) scope) (range first count))) → r ≡ capped (bodyTally image (weightOf j) (entryOf j) (openingFor image j n) scope)
   unfolding bodyTally
   body-is scope first count j n r run er = rw run (omega arith)
 
   -- ---- in all
-  pub head-is : (l : Layout) → Ready image l → (q c : ℕ) → q ≡ cut (sum (map (λ i. word image (9 + i)) (range 0 (l .quantum)))) → c ≡ cut (sum (map (λ i. word image (9 + l .quantum + i)) (range 0 (l .classical)))) → (q ≡ qubits image) × (c ≡ bits image)
+  pub head-is : (l : Layout) → AcceptedLayout image l → (q c : ℕ) → q ≡ capped (sum (map (λ i. word image (9 + i)) (range 0 (l .quantum)))) → c ≡ capped (sum (map (λ i. word image (9 + l .quantum + i)) (range 0 (l .classical)))) → (q ≡ qubits image) × (c ≡ bits image)
   unfolding firstQubit firstBit
   head-is l ready q c eq ec =
       let laid = ready .laid in
       let a = accepts image (ready .accepted) in
-      let eq′ : q ≡ cut (qubits image) = rw (← laid .quantum-is) eq in
-      let ec′ : c ≡ cut (bits image) = ec ∙ ap (λ (k : ℕ). cut (sum (map (λ i. word image (9 + k + i)) (range 0 (l .classical))))) (laid .quantum-is) ∙ ap (λ (k : ℕ). cut (sum (map (λ i. word image (9 + quantumRegisters image + i)) (range 0 k)))) (laid .classical-is) in
+      let eq′ : q ≡ capped (qubits image) = rw (← laid .quantum-is) eq in
+      let ec′ : c ≡ capped (bits image) = ec ∙ ap (λ (k : ℕ). capped (sum (map (λ i. word image (9 + k + i)) (range 0 (l .classical))))) (laid .quantum-is) ∙ ap (λ (k : ℕ). capped (sum (map (λ i. word image (9 + quantumRegisters image + i)) (range 0 k)))) (laid .classical-is) in
       (omega (arith, a .fewQubits), omega (arith, a .fewBits))
 
-  total-cases : (f : ℕ → ℕ) (main w statements head r : ℕ) → statements ≡ cut (sum (map f (range 0 main))) → head ≡ cond (eqb main 0) 0 w → r ≡ cut (statements + head) → r ≡ cut (cond (eqb main 0) 0 (w + sum (map f (range 0 main))))
+  total-cases : (f : ℕ → ℕ) (main w statements head r : ℕ) → statements ≡ capped (sum (map f (range 0 main))) → head ≡ cond (eqb main 0) 0 w → r ≡ capped (statements + head) → r ≡ capped (cond (eqb main 0) 0 (w + sum (map f (range 0 main))))
   unfolding range sum
   total-cases f zero w statements head r es eh er = omega arith
   total-cases f (suc m) w statements head r es eh er =
@@ -56,8 +56,8 @@ module _ (image : List ℕ) where
       rw z (omega arith)
 
   pub total-is : (j n main words w statements head r : ℕ) → main ≡ mainStatements image → words ≡ 3 + 2 * (qubits image + bits image) → w ≡ weightOf j 0 words
-      → statements ≡ cut (bodyTally image (weightOf j) (entryOf j) (opening image j n) 0) → head ≡ cond (eqb main 0) 0 w → r ≡ cut (statements + head) → r ≡ cut (weightTally image (weightOf j) (entryOf j) (n + 1))
+      → statements ≡ capped (bodyTally image (weightOf j) (entryOf j) (openingFor image j n) 0) → head ≡ cond (eqb main 0) 0 w → r ≡ capped (statements + head) → r ≡ capped (weightTally image (weightOf j) (entryOf j) (n + 1))
   unfolding weightTally bodyTally scopeStatements
   total-is j n main words w statements head r em ew ee es eh er =
       let m : n + 1 - 1 ≡ n = omega arith in
-      rw (m, ← em, ← ew, ← ee) (total-cases (statementTally image (weightOf j) (entryOf j) (opening image j n) 0) main w statements head r (rw em es) eh er)
+      rw (m, ← em, ← ew, ← ee) (total-cases (statementTally image (weightOf j) (entryOf j) (openingFor image j n) 0) main w statements head r (rw em es) eh er)

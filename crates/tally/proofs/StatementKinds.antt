@@ -9,7 +9,7 @@ use Rattle.model.specs.Image.{Statement, U, CX, Gate, Barrier, Measure, Reset, 
 use Rattle.model.specs.Tally.{plainTally}
 use Rattle.model.proofs.Facts.{PlainFacts}
 use Rattle.image.specs.declared.Layout.{Layout}
-use Rattle.image.specs.Layout.{Laid}
+use Rattle.image.specs.Layout.{LayoutOf}
 
 module _ (image : List ℕ) (scope : ℕ) where
   -- what a plain statement comes to does not hang on what an if comes to
@@ -25,7 +25,7 @@ module _ (image : List ℕ) (scope : ℕ) where
   plain-any weight entry v w o Unknown f = absurd f
 
 -- the counts of an image are small
-module _ (image : List ℕ) (l : Layout) (laid : Laid image l) where
+module _ (image : List ℕ) (l : Layout) (laid : LayoutOf image l) where
   pub arguments-few : arguments image ≤ 8192
   arguments-few = omega (arith, laid .whole, laid .short)
 

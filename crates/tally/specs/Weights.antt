@@ -9,7 +9,7 @@ use lib.ListN.{getD}
 use Rattle.model.specs.Check.{Verdict, fine, bad, check}
 use Rattle.model.specs.Tally.{bodyTally, openingTally, TallyAnswer, tallied, refused}
 use Rattle.image.specs.declared.Layout.{Layout}
-use Rattle.image.specs.Layout.{Laid}
+use Rattle.image.specs.Layout.{LayoutOf}
 use Rattle.image.specs.Answer.{verdictOf}
 use Rattle.tally.specs.declared.Figures.{Figures}
 use Rattle.tally.specs.declared.Tallied.{Tallied}
@@ -24,29 +24,29 @@ unfoldable pub entryOf : ℕ → ℕ
 entryOf j = cond (eqb j 7) 1 0
 
 -- a figure, cut to the first number that is refused
-abbrev pub cut : ℕ → ℕ
-cut n = min n (2 ^ 32)
+abbrev pub capped : ℕ → ℕ
+capped n = min n (2 ^ 32)
 
 -- bodies opened n deep, for figure j
-abbrev pub opening : List ℕ → ℕ → ℕ → Option (ℕ → ℕ)
-opening image j n = openingTally image (weightOf j) (entryOf j) n
+abbrev pub openingFor : List ℕ → ℕ → ℕ → Option (ℕ → ℕ)
+openingFor image j n = openingTally image (weightOf j) (entryOf j) n
 
 -- what gate g's body comes to where bodies are opened n deep in it
 abbrev pub body : List ℕ → ℕ → ℕ → ℕ → ℕ
-body image n g j = bodyTally image (weightOf j) (entryOf j) (opening image j n) (suc g)
+body image n g j = bodyTally image (weightOf j) (entryOf j) (openingFor image j n) (suc g)
 
 -- an accepted image with its counts
-pub record Ready (image : List ℕ) (l : Layout) : Type 0 where
-  pub laid : Laid image l
+pub record AcceptedLayout (image : List ℕ) (l : Layout) : Type 0 where
+  pub laid : LayoutOf image l
   pub accepted : check image ≡ fine
 
 -- where bodies are opened n deep, the table has the nine figures, cut, of the body of each gate below m
-pub record Tabled (image : List ℕ) (n m : ℕ) (table : List ℕ) : Type 0 where
-  pub holds : (k g j : ℕ) → n ≡ suc k → g < m → j < 9 → getD table (9 * g + j) 0 ≡ cut (body image k g j)
+pub record FigureTable (image : List ℕ) (n m : ℕ) (table : List ℕ) : Type 0 where
+  pub holds : (k g j : ℕ) → n ≡ suc k → g < m → j < 9 → getD table (9 * g + j) 0 ≡ capped (body image k g j)
 
 -- gate g's figures are put into the table, and those of the others stay
-pub record Rowed (image : List ℕ) (n g : ℕ) (table next : List ℕ) : Type 0 where
-  pub here : (j : ℕ) → j < 9 → getD next (9 * g + j) 0 ≡ cut (body image n g j)
+pub record RowFilled (image : List ℕ) (n g : ℕ) (table next : List ℕ) : Type 0 where
+  pub here : (j : ℕ) → j < 9 → getD next (9 * g + j) 0 ≡ capped (body image n g j)
   pub others : (h j : ℕ) → ¬ (h ≡ g) → j < 9 → getD next (9 * h + j) 0 ≡ getD table (9 * h + j) 0
 
 -- the figures in document 01's order
@@ -58,7 +58,7 @@ abbrev pub refusedAs : Verdict → TallyAnswer
 refusedAs fine = refused 0 0
 refusedAs (bad n p) = refused n p
 
-abbrev pub answerOf : Tallied → TallyAnswer
-answerOf (answer.Figures f) = tallied (nineOf f)
-answerOf (answer.Refused c) = refusedAs (verdictOf c)
-answerOf answer.TooLarge = refused 16 0
+abbrev pub tallyAnswerOf : Tallied → TallyAnswer
+tallyAnswerOf (answer.Figures f) = tallied (nineOf f)
+tallyAnswerOf (answer.Refused c) = refusedAs (verdictOf c)
+tallyAnswerOf answer.TooLarge = refused 16 0

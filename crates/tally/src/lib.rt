@@ -13,8 +13,8 @@ ghost use Rattle.model.specs.Check.{fine, check};
 ghost use Rattle.model.specs.Tally.{gateTally, plainTally, conditionalTally, statementTally, bodyTally, weightTally, figures, tally};
 ghost use Rattle.model.proofs.Facts.{PlainFacts, Facts};
 ghost use Rattle.model.proofs.Deep.{reach};
-ghost use Rattle.image.specs.Layout.{Laid};
-ghost use Rattle.tally.specs.Weights.{weightOf, entryOf, cut, opening, Ready, Tabled, Rowed, nineOf, answerOf};
+ghost use Rattle.image.specs.Layout.{LayoutOf};
+ghost use Rattle.tally.specs.Weights.{weightOf, entryOf, capped, openingFor, AcceptedLayout, FigureTable, RowFilled, nineOf, tallyAnswerOf};
 
 // The records of kinds 1 to 7, the body entries and the word bound.
 pub struct Figures {
@@ -63,13 +63,13 @@ fn entry_weight(j: u64) -> u64
 
 fn cut_sum(a: u64, b: u64) -> u64
     requires { ⌜ a ≤ 2 ^ 32 ⌝ }
-    ensures { λ r. ⌜ r ≡ cut (a + b) ⌝ }
+    ensures { λ r. ⌜ r ≡ capped (a + b) ⌝ }
 {
     if b < LIMIT - a { a + b } else { LIMIT }
 }
 
 fn cut_product(k: u64, a: u64) -> u64
-    ensures { λ r. ⌜ r ≡ cut (k * a) ⌝ }
+    ensures { λ r. ⌜ r ≡ capped (k * a) ⌝ }
 {
     if a == 0 {
         return 0;
@@ -79,7 +79,7 @@ fn cut_product(k: u64, a: u64) -> u64
 
 // Some rounds of a record.
 fn record_figure(rounds: u64, j: u64, kind: u64, words: u64) -> u64
-    ensures { λ r. ⌜ r ≡ cut (rounds * weightOf j kind words) ⌝ }
+    ensures { λ r. ⌜ r ≡ capped (rounds * weightOf j kind words) ⌝ }
 {
     cut_product(rounds, weight(j, kind, words))
 }
@@ -88,8 +88,8 @@ fn record_figure(rounds: u64, j: u64, kind: u64, words: u64) -> u64
 
 // The words of a barrier: 2, and its argument sizes added up. In a body each size is 1.
 fn barrier_words(image: &[u64], l: Layout, scope: u64, a: u64, n: u64) -> u64
-    requires { ⌜ Laid (now image) l × (a + n ≤ 8192) ⌝ }
-    ensures { λ r. ⌜ r ≡ cut (2 + sum (map (argumentSize (now (image .entry)) scope) (range a n))) ⌝ }
+    requires { ⌜ LayoutOf (now image) l × (a + n ≤ 8192) ⌝ }
+    ensures { λ r. ⌜ r ≡ capped (2 + sum (map (argumentSize (now (image .entry)) scope) (range a n))) ⌝ }
 {
     if scope != 0 {
         return cut_sum(2, n);
@@ -104,22 +104,22 @@ fn barrier_words(image: &[u64], l: Layout, scope: u64, a: u64, n: u64) -> u64
 }
 
 fn barrier_figure(image: &[u64], l: Layout, scope: u64, a: u64, n: u64, j: u64) -> u64
-    requires { ⌜ Laid (now image) l × (a + n ≤ 8192) ⌝ }
-    ensures { λ r. ⌜ r ≡ cut (weightOf j 4 (2 + sum (map (argumentSize (now (image .entry)) scope) (range a n)))) ⌝ }
+    requires { ⌜ LayoutOf (now image) l × (a + n ≤ 8192) ⌝ }
+    ensures { λ r. ⌜ r ≡ capped (weightOf j 4 (2 + sum (map (argumentSize (now (image .entry)) scope) (range a n)))) ⌝ }
 {
     record_figure(1, j, 4, barrier_words(image, l, scope, a, n))
 }
 
 // The rounds of a statement with one argument.
 fn rounds_of_one(image: &[u64], l: Layout, scope: u64, a: u64) -> u64
-    requires { ⌜ Laid (now image) l × (a ≤ 8192) ⌝ }
+    requires { ⌜ LayoutOf (now image) l × (a ≤ 8192) ⌝ }
     ensures { λ r. ⌜ r ≡ rounds (now (image .entry)) scope (a ∷ []) ⌝ }
 {
     image::argument_size(image, l, scope, a)
 }
 
 fn rounds_of_two(image: &[u64], l: Layout, scope: u64, a: u64, b: u64) -> u64
-    requires { ⌜ Laid (now image) l × (a ≤ 8192) × (b ≤ 8192) ⌝ }
+    requires { ⌜ LayoutOf (now image) l × (a ≤ 8192) × (b ≤ 8192) ⌝ }
     ensures { λ r. ⌜ r ≡ rounds (now (image .entry)) scope (a ∷ b ∷ []) ⌝ }
 {
     image::larger(
@@ -129,7 +129,7 @@ fn rounds_of_two(image: &[u64], l: Layout, scope: u64, a: u64, b: u64) -> u64
 }
 
 fn rounds_of_measure(image: &[u64], l: Layout, scope: u64, q: u64, c: u64) -> u64
-    requires { ⌜ Laid (now image) l × (q ≤ 8192) × (c ≤ 8192) ⌝ }
+    requires { ⌜ LayoutOf (now image) l × (q ≤ 8192) × (c ≤ 8192) ⌝ }
     ensures { λ r. ⌜ r ≡ largest (argumentSize (now (image .entry)) scope q ∷ classicalArgumentSize (now (image .entry)) c ∷ []) ⌝ }
 {
     image::larger(
@@ -148,8 +148,8 @@ fn gate_figure(
     rounds: u64,
     j: u64,
 ) -> u64
-    requires { ⌜ Ready (now image) l × Tabled (now image) n (suc g) (now table) × (g < l .gates) × (j < 9) ⌝ }
-    ensures { λ r. ⌜ r ≡ cut (rounds * gateTally (now (image .entry)) (weightOf j) (entryOf j) (opening (now (image .entry)) j n) g) ⌝ }
+    requires { ⌜ AcceptedLayout (now image) l × FigureTable (now image) n (suc g) (now table) × (g < l .gates) × (j < 9) ⌝ }
+    ensures { λ r. ⌜ r ≡ capped (rounds * gateTally (now (image .entry)) (weightOf j) (entryOf j) (openingFor (now (image .entry)) j n) g) ⌝ }
 {
     let at = image::gate_at(image, l, g);
     let parameters = image::word(image, at);
@@ -175,8 +175,8 @@ fn call_figure(
     a: u64,
     j: u64,
 ) -> u64
-    requires { ⌜ Ready (now image) l × Tabled (now image) n (suc g) (now table) × (g < l .gates) × (a + gateArguments (now image) g ≤ 8192) × (j < 9) ⌝ }
-    ensures { λ r. ⌜ r ≡ cut (rounds (now (image .entry)) scope (range a (gateArguments (now (image .entry)) g)) * gateTally (now (image .entry)) (weightOf j) (entryOf j) (opening (now (image .entry)) j n) g) ⌝ }
+    requires { ⌜ AcceptedLayout (now image) l × FigureTable (now image) n (suc g) (now table) × (g < l .gates) × (a + gateArguments (now image) g ≤ 8192) × (j < 9) ⌝ }
+    ensures { λ r. ⌜ r ≡ capped (rounds (now (image .entry)) scope (range a (gateArguments (now (image .entry)) g)) * gateTally (now (image .entry)) (weightOf j) (entryOf j) (openingFor (now (image .entry)) j n) g) ⌝ }
 {
     let arguments = image::word(image, image::gate_at(image, l, g) + 1);
     let rounds = image::rounds_of(image, l, scope, a, arguments);
@@ -193,8 +193,8 @@ fn plain_figure(
     s: u64,
     j: u64,
 ) -> u64
-    requires { ⌜ Ready (now image) l × Tabled (now image) n (reach (now image) scope) (now table) × PlainFacts (now image) scope (statement (now image) s) × (s ≤ 8192) × (j < 9) ⌝ }
-    ensures { λ r. ⌜ r ≡ cut (plainTally (now (image .entry)) (weightOf j) (entryOf j) (λ t. 0) (opening (now (image .entry)) j n) scope (statement (now (image .entry)) s)) ⌝ }
+    requires { ⌜ AcceptedLayout (now image) l × FigureTable (now image) n (reach (now image) scope) (now table) × PlainFacts (now image) scope (statement (now image) s) × (s ≤ 8192) × (j < 9) ⌝ }
+    ensures { λ r. ⌜ r ≡ capped (plainTally (now (image .entry)) (weightOf j) (entryOf j) (λ t. 0) (openingFor (now (image .entry)) j n) scope (statement (now (image .entry)) s)) ⌝ }
 {
     let at = image::statement_at(image, l, s);
     let kind = image::word(image, at);
@@ -223,8 +223,8 @@ fn conditional_figure(
     t: u64,
     j: u64,
 ) -> u64
-    requires { ⌜ Ready (now image) l × Tabled (now image) n (reach (now image) scope) (now table) × PlainFacts (now image) scope (statement (now image) t) × (t ≤ 8192) × (j < 9) ⌝ }
-    ensures { λ r. ⌜ r ≡ cut (conditionalTally (now (image .entry)) (weightOf j) (entryOf j) (opening (now (image .entry)) j n) scope t) ⌝ }
+    requires { ⌜ AcceptedLayout (now image) l × FigureTable (now image) n (reach (now image) scope) (now table) × PlainFacts (now image) scope (statement (now image) t) × (t ≤ 8192) × (j < 9) ⌝ }
+    ensures { λ r. ⌜ r ≡ capped (conditionalTally (now (image .entry)) (weightOf j) (entryOf j) (openingFor (now (image .entry)) j n) scope t) ⌝ }
 {
     let inner = plain_figure(image, l, table, n, scope, t, j);
     cut_sum(cut_sum(inner, weight(j, 7, 4)), weight(j, 8, 1))
@@ -239,8 +239,8 @@ fn statement_figure(
     s: u64,
     j: u64,
 ) -> u64
-    requires { ⌜ Ready (now image) l × Tabled (now image) n (reach (now image) scope) (now table) × Facts (now image) scope (statement (now image) s) × (s ≤ 8192) × (j < 9) ⌝ }
-    ensures { λ r. ⌜ r ≡ cut (statementTally (now (image .entry)) (weightOf j) (entryOf j) (opening (now (image .entry)) j n) scope s) ⌝ }
+    requires { ⌜ AcceptedLayout (now image) l × FigureTable (now image) n (reach (now image) scope) (now table) × Facts (now image) scope (statement (now image) s) × (s ≤ 8192) × (j < 9) ⌝ }
+    ensures { λ r. ⌜ r ≡ capped (statementTally (now (image .entry)) (weightOf j) (entryOf j) (openingFor (now (image .entry)) j n) scope s) ⌝ }
 {
     let at = image::statement_at(image, l, s);
     if image::word(image, at) == 7 {
@@ -254,8 +254,8 @@ fn statement_figure(
 
 // The statements of a scope.
 fn body_figure(image: &[u64], l: Layout, table: &[u64; 1152], n: u64, scope: u64, j: u64) -> u64
-    requires { ⌜ Ready (now image) l × Tabled (now image) n (reach (now image) scope) (now table) × (scope ≤ l .gates) × (j < 9) ⌝ }
-    ensures { λ r. ⌜ r ≡ cut (bodyTally (now (image .entry)) (weightOf j) (entryOf j) (opening (now (image .entry)) j n) scope) ⌝ }
+    requires { ⌜ AcceptedLayout (now image) l × FigureTable (now image) n (reach (now image) scope) (now table) × (scope ≤ l .gates) × (j < 9) ⌝ }
+    ensures { λ r. ⌜ r ≡ capped (bodyTally (now (image .entry)) (weightOf j) (entryOf j) (openingFor (now (image .entry)) j n) scope) ⌝ }
 {
     let span = image::statements_of(image, l, scope);
     let first = span.first;
@@ -274,8 +274,8 @@ fn body_figure(image: &[u64], l: Layout, table: &[u64; 1152], n: u64, scope: u64
 
 // Puts the nine figures of gate g's body into its row. The body calls only gates before g, whose rows stay.
 fn fill_row(image: &[u64], l: Layout, n: u64, g: u64, table: &mut [u64; 1152])
-    requires { ⌜ Ready (now image) l × Tabled (now image) n g (now table) × (g < l .gates) ⌝ }
-    ensures { λ r. ⌜ Rowed (now (image .entry)) n g (now (table .entry)) (now (table .exit)) ⌝ }
+    requires { ⌜ AcceptedLayout (now image) l × FigureTable (now image) n g (now table) × (g < l .gates) ⌝ }
+    ensures { λ r. ⌜ RowFilled (now (image .entry)) n g (now (table .entry)) (now (table .exit)) ⌝ }
 {
     let mut j = 0u64;
     while j < 9 {
@@ -287,8 +287,8 @@ fn fill_row(image: &[u64], l: Layout, n: u64, g: u64, table: &mut [u64; 1152])
 
 // Opens bodies one level deeper, from the last gate down: each row is made of those that are not yet deeper.
 fn deepen_table(image: &[u64], l: Layout, n: u64, table: &mut [u64; 1152])
-    requires { ⌜ Ready (now image) l × Tabled (now image) n (gates (now image)) (now table) ⌝ }
-    ensures { λ r. ⌜ Tabled (now (image .entry)) (suc n) (gates (now (image .entry))) (now (table .exit)) ⌝ }
+    requires { ⌜ AcceptedLayout (now image) l × FigureTable (now image) n (gates (now image)) (now table) ⌝ }
+    ensures { λ r. ⌜ FigureTable (now (image .entry)) (suc n) (gates (now (image .entry))) (now (table .exit)) ⌝ }
 {
     let mut g = l.gates;
     while 0 < g {
@@ -299,8 +299,8 @@ fn deepen_table(image: &[u64], l: Layout, n: u64, table: &mut [u64; 1152])
 
 // The table with bodies opened n deep, level by level.
 fn level_table(image: &[u64], l: Layout, n: u64) -> [u64; 1152]
-    requires { ⌜ Ready (now image) l ⌝ }
-    ensures { λ r. ⌜ Tabled (now (image .entry)) n (gates (now (image .entry))) r ⌝ }
+    requires { ⌜ AcceptedLayout (now image) l ⌝ }
+    ensures { λ r. ⌜ FigureTable (now (image .entry)) n (gates (now (image .entry))) r ⌝ }
 {
     let mut table = [0u64; 1152];
     let mut i = 0u64;
@@ -313,8 +313,8 @@ fn level_table(image: &[u64], l: Layout, n: u64) -> [u64; 1152]
 
 // The table with all bodies opened: one pass from the first gate on, since each row is made of those before it.
 fn whole_table(image: &[u64], l: Layout) -> [u64; 1152]
-    requires { ⌜ Ready (now image) l ⌝ }
-    ensures { λ r. ⌜ Tabled (now (image .entry)) (l .gates) (gates (now (image .entry))) r ⌝ }
+    requires { ⌜ AcceptedLayout (now image) l ⌝ }
+    ensures { λ r. ⌜ FigureTable (now (image .entry)) (l .gates) (gates (now (image .entry))) r ⌝ }
 {
     let gates = l.gates;
     let mut table = [0u64; 1152];
@@ -328,8 +328,8 @@ fn whole_table(image: &[u64], l: Layout) -> [u64; 1152]
 
 // The table with bodies opened n deep.
 fn opened_table(image: &[u64], l: Layout, n: u64) -> [u64; 1152]
-    requires { ⌜ Ready (now image) l ⌝ }
-    ensures { λ r. ⌜ Tabled (now (image .entry)) n (gates (now (image .entry))) r ⌝ }
+    requires { ⌜ AcceptedLayout (now image) l ⌝ }
+    ensures { λ r. ⌜ FigureTable (now (image .entry)) n (gates (now (image .entry))) r ⌝ }
 {
     if n == l.gates {
         return whole_table(image, l);
@@ -342,7 +342,7 @@ fn opened_table(image: &[u64], l: Layout, n: u64) -> [u64; 1152]
 // The sizes of the registers from a place on.
 fn size_of_all(image: &[u64], at: u64, n: u64) -> u64
     requires { ⌜ at + n ≤ 16384 ⌝ }
-    ensures { λ r. ⌜ r ≡ cut (sum (map (λ i. word (now (image .entry)) (at + i)) (range 0 n))) ⌝ }
+    ensures { λ r. ⌜ r ≡ capped (sum (map (λ i. word (now (image .entry)) (at + i)) (range 0 n))) ⌝ }
 {
     let mut total = 0u64;
     let mut i = 0u64;
@@ -354,7 +354,7 @@ fn size_of_all(image: &[u64], at: u64, n: u64) -> u64
 }
 
 fn head_words(image: &[u64], l: Layout) -> u64
-    requires { ⌜ Ready (now image) l ⌝ }
+    requires { ⌜ AcceptedLayout (now image) l ⌝ }
     ensures { λ r. ⌜ r ≡ 3 + 2 * (qubits (now (image .entry)) + bits (now (image .entry))) ⌝ }
 {
     let quantum = size_of_all(image, 9, l.quantum);
@@ -370,8 +370,8 @@ fn if_any(main: u64, head: u64) -> u64
 }
 
 fn total_figure(image: &[u64], l: Layout, table: &[u64; 1152], n: u64, j: u64) -> u64
-    requires { ⌜ Ready (now image) l × Tabled (now image) n (gates (now image)) (now table) × (j < 9) ⌝ }
-    ensures { λ r. ⌜ r ≡ cut (weightTally (now (image .entry)) (weightOf j) (entryOf j) (n + 1)) ⌝ }
+    requires { ⌜ AcceptedLayout (now image) l × FigureTable (now image) n (gates (now image)) (now table) × (j < 9) ⌝ }
+    ensures { λ r. ⌜ r ≡ capped (weightTally (now (image .entry)) (weightOf j) (entryOf j) (n + 1)) ⌝ }
 {
     let main = l.main;
     let head = weight(j, 0, head_words(image, l));
@@ -390,8 +390,8 @@ fn levels(depth: u64, gates: u64) -> u64
 }
 
 fn nine_figures(image: &[u64], l: Layout, table: &[u64; 1152], n: u64) -> Figures
-    requires { ⌜ Ready (now image) l × Tabled (now image) n (gates (now image)) (now table) ⌝ }
-    ensures { λ r. ⌜ nineOf r ≡ map cut (figures (now (image .entry)) (n + 1)) ⌝ }
+    requires { ⌜ AcceptedLayout (now image) l × FigureTable (now image) n (gates (now image)) (now table) ⌝ }
+    ensures { λ r. ⌜ nineOf r ≡ map capped (figures (now (image .entry)) (n + 1)) ⌝ }
 {
     Figures {
         u: total_figure(image, l, table, n, 0),
@@ -416,8 +416,8 @@ fn largest_figure(f: Figures) -> u64
 }
 
 fn laid_tally(image: &[u64], l: Layout, depth: u64) -> Tallied
-    requires { ⌜ Ready (now image) l ⌝ }
-    ensures { λ r. ⌜ answerOf r ≡ tally (now (image .entry)) depth ⌝ }
+    requires { ⌜ AcceptedLayout (now image) l ⌝ }
+    ensures { λ r. ⌜ tallyAnswerOf r ≡ tally (now (image .entry)) depth ⌝ }
 {
     let n = levels(depth, l.gates);
     let table = opened_table(image, l, n);
@@ -431,7 +431,7 @@ fn laid_tally(image: &[u64], l: Layout, depth: u64) -> Tallied
 
 fn accepted_tally(image: &[u64], depth: u64) -> Tallied
     requires { ⌜ check (now image) ≡ fine ⌝ }
-    ensures { λ r. ⌜ answerOf r ≡ tally (now (image .entry)) depth ⌝ }
+    ensures { λ r. ⌜ tallyAnswerOf r ≡ tally (now (image .entry)) depth ⌝ }
 {
     match image::read_contents(image) {
         Contents::Right(l) => laid_tally(image, l, depth),
@@ -441,7 +441,7 @@ fn accepted_tally(image: &[u64], depth: u64) -> Tallied
 
 // The nine figures at a depth, or why there are none.
 pub fn tally(image: &[u64], depth: u64) -> Tallied
-    ensures { λ r. ⌜ answerOf r ≡ tally (now (image .entry)) depth ⌝ }
+    ensures { λ r. ⌜ tallyAnswerOf r ≡ tally (now (image .entry)) depth ⌝ }
 {
     let verdict = image_check::check(image);
     match verdict {

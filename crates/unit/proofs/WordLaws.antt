@@ -12,8 +12,8 @@ use Rattle.writer.specs.declared.Linearized.{Linearized}
 use Rattle.writer.specs.Promise.{positionOf}
 use Rattle.linearize.specs.Linearizes.{Linearizes}
 use Rattle.unit.specs.declared.Numbers.{Numbers}
-use Rattle.unit.specs.Told.{Told}
-use Rattle.unit.specs.Exports.{checkWords, tallyWords, runWords, Exported}
+use Rattle.unit.specs.Told.{RunNumbers}
+use Rattle.unit.specs.Exports.{checkWords, tallyWords, runWords, RunExport}
 
 pub check-words : (v : Verdict) → numberIn v ∷ placeIn v ∷ [] ≡ checkWords v
 check-words fine = refl
@@ -23,8 +23,8 @@ pub refused-words : (v : Verdict) → numberIn v ∷ placeIn v ∷ 0 ∷ 0 ∷ 0
 refused-words fine = refl
 refused-words (bad n p) = refl
 
-pub exported : {image : List ℕ} {depth : ℕ} {out trace out′ trace′ : List ℕ} {r : Linearized} {n : Numbers} {at : Position} → Linearizes image depth out trace r out′ trace′ → Told r n → at ≡ positionOf r
-    → Exported image depth out trace out′ trace′ (n .number ∷ n .place ∷ n .second ∷ at .records ∷ at .words ∷ at .trace ∷ [])
+pub exported : {image : List ℕ} {depth : ℕ} {out trace out′ trace′ : List ℕ} {r : Linearized} {n : Numbers} {at : Position} → Linearizes image depth out trace r out′ trace′ → RunNumbers r n → at ≡ positionOf r
+    → RunExport image depth out trace out′ trace′ (n .number ∷ n .place ∷ n .second ∷ at .records ∷ at .words ∷ at .trace ∷ [])
 exported {trace′ = trace′} {r} {n} {at} w t e =
     let told = t .each (take (positionOf r .trace) trace′) in
     record {

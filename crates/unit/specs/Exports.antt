@@ -29,7 +29,7 @@ abbrev pub runWords : Outcome → List ℕ
 runWords o = told (o .answer) .number ∷ told (o .answer) .place ∷ told (o .answer) .second ∷ o .records ∷ o .outputWords ∷ o .traceWords ∷ []
 
 -- a run's whole outcome
-pub record Exported (image : List ℕ) (depth : ℕ) (out trace out′ trace′ answer : List ℕ) : Type 0 where
+pub record RunExport (image : List ℕ) (depth : ℕ) (out trace out′ trace′ answer : List ℕ) : Type 0 where
   pub answers : answer ≡ runWords (linearize image depth out trace)
   pub output : out′ ≡ linearize image depth out trace .outputLeft
   pub traces : trace′ ≡ linearize image depth out trace .traceLeft

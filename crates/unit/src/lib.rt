@@ -10,12 +10,12 @@ ghost use Rattle.model.specs.Check.{check};
 ghost use Rattle.model.specs.Tally.{tally};
 ghost use Rattle.model.specs.Reader.{nextAt};
 ghost use Rattle.image.specs.Answer.{verdictOf};
-ghost use Rattle.tally.specs.Weights.{answerOf};
-ghost use Rattle.reader.specs.Answer.{answerOf as nextOf, wordsOf};
+ghost use Rattle.tally.specs.Weights.{tallyAnswerOf};
+ghost use Rattle.reader.specs.Answer.{nextRecordOf as nextOf, nextWordsOf};
 ghost use Rattle.writer.specs.Promise.{positionOf};
 ghost use Rattle.linearize.specs.Linearizes.{Linearizes};
-ghost use Rattle.unit.specs.Told.{ToldKind, Told};
-ghost use Rattle.unit.specs.Exports.{checkWords, tallyWords, nextWords, Exported};
+ghost use Rattle.unit.specs.Told.{RefusalNumbers, RunNumbers};
+ghost use Rattle.unit.specs.Exports.{checkWords, tallyWords, nextWords, RunExport};
 
 // Whether an image is a checked program: accepted, or the number and the place of what is wrong.
 pub fn check(image: &[u64]) -> CheckAnswer
@@ -26,7 +26,7 @@ pub fn check(image: &[u64]) -> CheckAnswer
 
 // What a run at a depth will write: records of each kind, body entries, words at most.
 pub fn tally(image: &[u64], depth: u64) -> Tallied
-    ensures { λ r. ⌜ answerOf r ≡ tally (now (image .entry)) depth ⌝ }
+    ensures { λ r. ⌜ tallyAnswerOf r ≡ tally (now (image .entry)) depth ⌝ }
 {
     tally::tally(image, depth)
 }
@@ -47,7 +47,7 @@ pub fn next_at(words: &[u64], at: usize) -> NextRecord
 
 // The record at a position, as a part of the words; none of them where there is no record.
 pub fn next_record(words: &[u64], at: usize) -> &[u64]
-    ensures { λ r. ⌜ now r ≡ wordsOf (nextAt (now (words .entry)) at) ⌝ }
+    ensures { λ r. ⌜ now r ≡ nextWordsOf (nextAt (now (words .entry)) at) ⌝ }
 {
     reader::next_record(words, at)
 }
@@ -61,7 +61,7 @@ pub struct Numbers {
 
 // The numbers of a refusal.
 fn of_kind(kind: LinearizeErrorKind) -> Numbers
-    ensures { λ r. ⌜ ToldKind kind r ⌝ }
+    ensures { λ r. ⌜ RefusalNumbers kind r ⌝ }
 {
     match kind {
         LinearizeErrorKind::DivideByZero(place) => Numbers {
@@ -109,7 +109,7 @@ fn of_kind(kind: LinearizeErrorKind) -> Numbers
 
 // The numbers of a run's answer.
 pub fn numbers_of(r: Linearized) -> Numbers
-    ensures { λ n. ⌜ Told r n ⌝ }
+    ensures { λ n. ⌜ RunNumbers r n ⌝ }
 {
     match r {
         Linearized::Done(_) => Numbers {
@@ -147,7 +147,7 @@ pub extern "C" fn cowhirame_check(image: &[u64], answer: &mut [u64; 2])
 
 // The tally's number and place, and the nine figures: 0 0 and figures, or a refusal and zeros.
 fn tally_words(t: Tallied) -> [u64; 11]
-    ensures { λ r. ⌜ r ≡ tallyWords (answerOf t) ⌝ }
+    ensures { λ r. ⌜ r ≡ tallyWords (tallyAnswerOf t) ⌝ }
 {
     match t {
         Tallied::Figures(f) => [
@@ -196,7 +196,7 @@ pub extern "C" fn cowhirame_run(
     trace: &mut [u64],
     answer: &mut [u64; 6],
 )
-    ensures { λ _. ⌜ Exported (now (image .entry)) depth (now (out .entry)) (now (trace .entry)) (now (out .exit)) (now (trace .exit)) (now (answer .exit)) ⌝ }
+    ensures { λ _. ⌜ RunExport (now (image .entry)) depth (now (out .entry)) (now (trace .entry)) (now (out .exit)) (now (trace .exit)) (now (answer .exit)) ⌝ }
 {
     let r = run(image, depth, out, trace);
     let told = numbers_of(r);

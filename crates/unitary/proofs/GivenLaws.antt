@@ -21,14 +21,14 @@ use Rattle.writer.specs.declared.Position.{Position}
 use Rattle.writer.specs.declared.LinearizeError.{LinearizeError}
 use Rattle.writer.specs.declared.Linearized.{Linearized}
 use Rattle.writer.specs.declared.Linearized.the-variants as linearized
-use Rattle.writer.specs.Promise.{Open, Wrote, SoundAngles, answerTo}
-use Rattle.expression.specs.Operands.{Named}
+use Rattle.writer.specs.Promise.{InOutput, WroteSteps, SoundAngles, refusalAnswer}
+use Rattle.expression.specs.Operands.{NamesExpressions}
 use Rattle.expression.specs.Table.{valueAt, anglesIn}
 use Rattle.expression.proofs.AngleLaws.{angle-at}
 use Rattle.model.specs.Lists.{range}
 use Rattle.statement.proofs.RoundLaws.{refuses}
-use Rattle.argument.specs.Frames.{standing}
-use Rattle.unitary.specs.Named.{namedAt, Listed}
+use Rattle.argument.specs.Frames.{scopeFrame}
+use Rattle.unitary.specs.Named.{namedAt, ListedExpressions}
 
 -- ---- an accepted expression reads the variables that it may, so the angles behind them do not show
 
@@ -55,11 +55,11 @@ module _ (image : List ℕ) (v : ℕ) (angles : List Value) where
   values-front (e ∷ es) h = ap₂ (λ x y. also x (expressionAt image e) y) (evaluate-front 32 e (head-All h)) (values-front es (tail-All h))
 
   -- expressions that a scope's statement names
-  module _ {place n : ℕ} (l : Listed image v place n) where
+  module _ {place n : ℕ} (l : ListedExpressions image v place n) where
     accepted : All (λ e. T (expressionOk image v 32 e)) (namedAt image place n)
     accepted = all-All _ _ (l .each)
 
-    pub named : Named image place n
+    pub named : NamesExpressions image place n
     named =
         record {
           few = l .few .0;
@@ -72,22 +72,22 @@ module _ (image : List ℕ) (v : ℕ) (angles : List Value) where
 
 -- ---- what is done with the values
 
-module _ (image : List ℕ) (scope : ℕ) (angles : List Value) (formals : List ℕ) {place n : ℕ} (l : Listed image (variables image scope) place n) (next : List Value → List Step) where
+module _ (image : List ℕ) (scope : ℕ) (angles : List Value) (formals : List ℕ) {place n : ℕ} (l : ListedExpressions image (variables image scope) place n) (next : List Value → List Step) where
   abbrev named-steps : List Step
-  named-steps = withValues image (standing image scope angles formals) (namedAt image place n) next
+  named-steps = withValues image (scopeFrame image scope angles formals) (namedAt image place n) next
 
-  pub values-given : {xs : List Value} {out out′ : List ℕ} {at : Position} {r : Linearized} → parameterValues image angles (namedAt image place n) ≡ have xs → Wrote (next xs) out at r out′ → Wrote named-steps out at r out′
+  pub values-given : {xs : List Value} {out out′ : List ℕ} {at : Position} {r : Linearized} → parameterValues image angles (namedAt image place n) ≡ have xs → WroteSteps (next xs) out at r out′ → WroteSteps named-steps out at r out′
   unfolding withValues given
   values-given e w = rw (listed-values image (variables image scope) angles l ∙ e) w
 
-  pub values-refused : (e : LinearizeError) {x : Refusal} {out : List ℕ} {at : Position} → parameterValues image angles (namedAt image place n) ≡ lack x → e .at ≡ at → ((t : List ℕ) → answerTo (e .kind) t ≡ refused t x) → Open out at
-      → Wrote named-steps out at (linearized.Refused e) out
+  pub values-refused : (e : LinearizeError) {x : Refusal} {out : List ℕ} {at : Position} → parameterValues image angles (namedAt image place n) ≡ lack x → e .at ≡ at → ((t : List ℕ) → refusalAnswer (e .kind) t ≡ refused t x) → InOutput out at
+      → WroteSteps named-steps out at (linearized.Refused e) out
   unfolding withValues given
   values-refused e {x} {out} {at} d p q o = rw (listed-values image (variables image scope) angles l ∙ d) (refuses x e p q o)
 
 -- the frame's angles do not show in the rounds of a U
 pub u-frame : (image : List ℕ) (scope : ℕ) (angles : List Value) (formals : List ℕ) (n q : ℕ) (xs : List Value) {out out′ : List ℕ} {at : Position} {r : Linearized}
-    → Wrote (inRounds n (writeU image (standing image scope [] formals) q xs)) out at r out′ → Wrote (inRounds n (writeU image (standing image scope angles formals) q xs)) out at r out′
+    → WroteSteps (inRounds n (writeU image (scopeFrame image scope [] formals) q xs)) out at r out′ → WroteSteps (inRounds n (writeU image (scopeFrame image scope angles formals) q xs)) out at r out′
 unfolding writeU qubitIn
 u-frame image scope angles formals n q xs w = w
 
@@ -100,7 +100,7 @@ pub angle-sound : (words : List ℕ) (i : ℕ) {x : Value} → i < 16 → SoundA
 angle-sound words i h s e = rw (e ∙ sym (angle-at words i zeroValue h)) (s .each i h)
 
 -- one round of a U, from the qubit that the code found
-pub u-round : (image : List ℕ) (scope : ℕ) (angles : List Value) (formals : List ℕ) (theta phi lambda : Value) (a i : ℕ) {q : ℕ} → q ≡ qubitIn image (standing image scope angles formals) i a
-    → _≡_ {A = List Step} (write [] (Record.U theta phi lambda q) ∷ []) (writeU image (standing image scope angles formals) a (theta ∷ phi ∷ lambda ∷ []) i)
+pub u-round : (image : List ℕ) (scope : ℕ) (angles : List Value) (formals : List ℕ) (theta phi lambda : Value) (a i : ℕ) {q : ℕ} → q ≡ qubitIn image (scopeFrame image scope angles formals) i a
+    → _≡_ {A = List Step} (write [] (Record.U theta phi lambda q) ∷ []) (writeU image (scopeFrame image scope angles formals) a (theta ∷ phi ∷ lambda ∷ []) i)
 unfolding writeU
 u-round image scope angles formals theta phi lambda a i e = ap (λ (q : ℕ). write [] (Record.U theta phi lambda q) ∷ []) e

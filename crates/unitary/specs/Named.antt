@@ -10,7 +10,7 @@ use Rattle.model.specs.Image.{word}
 abbrev pub namedAt : List ℕ → ℕ → ℕ → List ℕ
 namedAt image place n = map (λ i. word image (place + i)) (range 0 n)
 
-pub record Listed (image : List ℕ) (v place n : ℕ) : Type 0 where
+pub record ListedExpressions (image : List ℕ) (v place n : ℕ) : Type 0 where
   pub few : (n ≤ 16) × (v ≤ 16)
   pub near : place + n ≤ 16384
   pub each : T (all (expressionOk image v 32) (namedAt image place n))

@@ -10,10 +10,10 @@ ghost use Rattle.model.specs.Image.{rounds, variables as variablesOf};
 ghost use Rattle.model.specs.Check.{argumentOk};
 ghost use Rattle.model.specs.Steps.{inRounds, writeU, withValues};
 ghost use Rattle.value.specs.Value.{Sound};
-ghost use Rattle.writer.specs.Promise.{Open, Wrote, SoundAngles};
-ghost use Rattle.expression.specs.Table.{anglesIn, Fixed};
-ghost use Rattle.argument.specs.Frames.{standing, Stands};
-ghost use Rattle.unitary.specs.Named.{Listed, namedAt};
+ghost use Rattle.writer.specs.Promise.{InOutput, WroteSteps, SoundAngles};
+ghost use Rattle.expression.specs.Table.{anglesIn, ConstantsKept};
+ghost use Rattle.argument.specs.Frames.{scopeFrame, ScopeContext};
+ghost use Rattle.unitary.specs.Named.{ListedExpressions, namedAt};
 
 // A U of each qubit of an argument.
 fn rounds_of_u(
@@ -30,8 +30,8 @@ fn rounds_of_u(
     out: &mut [u64],
     at: Position,
 ) -> Linearized
-    requires { ⌜ Stands (now image) l (now qubits) (now bits) scope (now formals) × Sound theta × Sound phi × Sound lambda × (q < l .arguments) × T (argumentOk (now image) scope q) × Open (now out) at ⌝ }
-    ensures { λ r. ⌜ Wrote (inRounds (rounds (now (image .entry)) scope (q ∷ [])) (writeU (now (image .entry)) (standing (now (image .entry)) scope [] (now (formals .entry))) q (theta ∷ phi ∷ lambda ∷ []))) (now (out .entry)) at r (now (out .exit)) ⌝ }
+    requires { ⌜ ScopeContext (now image) l (now qubits) (now bits) scope (now formals) × Sound theta × Sound phi × Sound lambda × (q < l .arguments) × T (argumentOk (now image) scope q) × InOutput (now out) at ⌝ }
+    ensures { λ r. ⌜ WroteSteps (inRounds (rounds (now (image .entry)) scope (q ∷ [])) (writeU (now (image .entry)) (scopeFrame (now (image .entry)) scope [] (now (formals .entry))) q (theta ∷ phi ∷ lambda ∷ []))) (now (out .entry)) at r (now (out .exit)) ⌝ }
 {
     let x = argument::resolve_qreg(image, l, qubits, bits, scope, formals, q);
     let n = x.size;
@@ -66,8 +66,8 @@ pub fn visit_u(
     out: &mut [u64],
     at: Position,
 ) -> Linearized
-    requires { ⌜ Stands (now image) l (now qubits) (now bits) scope (now formals) × Fixed (now image) (now table) × SoundAngles (anglesIn (now variables)) × Listed (now image) (variablesOf (now image) scope) place 3 × (q < l .arguments) × T (argumentOk (now image) scope q) × Open (now out) at ⌝ }
-    ensures { λ r. ⌜ Wrote (withValues (now (image .entry)) (standing (now (image .entry)) scope (anglesIn (now (variables .entry))) (now (formals .entry))) (namedAt (now (image .entry)) place 3) (λ xs. inRounds (rounds (now (image .entry)) scope (q ∷ [])) (writeU (now (image .entry)) (standing (now (image .entry)) scope (anglesIn (now (variables .entry))) (now (formals .entry))) q xs))) (now (out .entry)) at r (now (out .exit)) × Fixed (now (image .entry)) (now (table .exit)) ⌝ }
+    requires { ⌜ ScopeContext (now image) l (now qubits) (now bits) scope (now formals) × ConstantsKept (now image) (now table) × SoundAngles (anglesIn (now variables)) × ListedExpressions (now image) (variablesOf (now image) scope) place 3 × (q < l .arguments) × T (argumentOk (now image) scope q) × InOutput (now out) at ⌝ }
+    ensures { λ r. ⌜ WroteSteps (withValues (now (image .entry)) (scopeFrame (now (image .entry)) scope (anglesIn (now (variables .entry))) (now (formals .entry))) (namedAt (now (image .entry)) place 3) (λ xs. inRounds (rounds (now (image .entry)) scope (q ∷ [])) (writeU (now (image .entry)) (scopeFrame (now (image .entry)) scope (anglesIn (now (variables .entry))) (now (formals .entry))) q xs))) (now (out .entry)) at r (now (out .exit)) × ConstantsKept (now (image .entry)) (now (table .exit)) ⌝ }
 {
     let mut given = [0u64; 18];
     match expression::parameters(image, l, variables, table, place, 3, &mut given, at) {

@@ -16,7 +16,7 @@ use Rattle.model.specs.Steps.{write}
 use Rattle.model.specs.Run.{full, play}
 use Rattle.model.proofs.ListLaws.{range-snoc, flat-snoc}
 use Rattle.model.proofs.PlayLaws.{sets-append, plays-write, plays-stop}
-use Rattle.writer.specs.Promise.{after, Open, Wrote, Appended, placeAt}
+use Rattle.writer.specs.Promise.{afterRecord, InOutput, WroteSteps, AppendedWords, placeAt}
 use Rattle.writer.specs.declared.Position.{Position}
 use Rattle.writer.specs.declared.LinearizeErrorKind.the-variants as kind
 use Rattle.writer.specs.declared.Linearized.the-variants as linearized
@@ -37,14 +37,14 @@ copied out start i ws h e =
     put-more out start (start + i) (take i ws) (getD ws i 0 ∷ []) (omega arith) e refl ∙ rw (add-one i, take-suc ws i 0) refl
 
 -- a record is written
-pub written : (x : Record) (n : ℕ) {out out′ : List ℕ} {at to : Position} → to ≡ after at n → n ≡ length (encode x) → at .words + n ≤ length out → out′ ≡ sets out (at .words) (encode x)
-    → Wrote (write [] x ∷ []) out at (linearized.Done to) out′
+pub written : (x : Record) (n : ℕ) {out out′ : List ℕ} {at to : Position} → to ≡ afterRecord at n → n ≡ length (encode x) → at .words + n ≤ length out → out′ ≡ sets out (at .words) (encode x)
+    → WroteSteps (write [] x ∷ []) out at (linearized.Done to) out′
 written x n {at = at} d e h o =
     record { plays = plays-write [] x (omega arith) o (ap (λ p. p .words) d ∙ ap (λ (m : ℕ). at .words + m) e) (ap (λ p. p .records) d); level = ap (λ p. p .trace) d }
 
 -- it is too long
-pub full-up : (x : Record) {out : List ℕ} {at : Position} → Open out at → length out < at .words + length (encode x)
-    → Wrote (write [] x ∷ []) out at (linearized.Refused (record { kind = kind.OutputFull; at = at })) out
+pub full-up : (x : Record) {out : List ℕ} {at : Position} → InOutput out at → length out < at .words + length (encode x)
+    → WroteSteps (write [] x ∷ []) out at (linearized.Refused (record { kind = kind.OutputFull; at = at })) out
 unfolding play
 full-up x {out} {at} k h =
     record {
@@ -53,10 +53,10 @@ full-up x {out} {at} k h =
     }
 
 -- whatever record some words are
-pub appended : {ws out out′ : List ℕ} {at to : Position} (n : ℕ) → to ≡ after at n → n ≡ length ws → at .words + n ≤ length out → out′ ≡ sets out (at .words) ws → Appended ws out at (linearized.Done to) out′
+pub appended : {ws out out′ : List ℕ} {at to : Position} (n : ℕ) → to ≡ afterRecord at n → n ≡ length ws → at .words + n ≤ length out → out′ ≡ sets out (at .words) ws → AppendedWords ws out at (linearized.Done to) out′
 appended n p e h o = record { wrote = λ x d. written x n p (e ∙ ap length (sym d)) h (o ∙ rw (sym d) refl) }
 
-pub not-appended : {ws out : List ℕ} {at : Position} → Open out at → length out < at .words + length ws → Appended ws out at (linearized.Refused (record { kind = kind.OutputFull; at = at })) out
+pub not-appended : {ws out : List ℕ} {at : Position} → InOutput out at → length out < at .words + length ws → AppendedWords ws out at (linearized.Refused (record { kind = kind.OutputFull; at = at })) out
 not-appended k h = record { wrote = λ x e. full-up x k (omega (arith, ap length e)) }
 
 -- the test for room, over the words left and over the position

@@ -19,19 +19,19 @@ use Rattle.writer.specs.declared.Linearized.{Linearized}
 use Rattle.writer.specs.declared.Linearized.the-variants as linearized
 
 -- the answer of a kind of refusal, with the words of the trace
-abbrev pub answerTo : LinearizeErrorKind → List ℕ → Answer
-answerTo (kind.DivideByZero p) t = refused t (Refusal.DivideByZero p)
-answerTo (kind.ApproximateFail p f) t = refused t (Refusal.ApproximateFail p (floatBits f))
-answerTo (kind.NumericalOverflow p) t = refused t (Refusal.NumericalOverflow p)
-answerTo (kind.OverlappingRegs p q) t = refused t (Refusal.OverlappingRegs p q)
-answerTo (kind.FunctionOfFloats p) t = refused t (Refusal.FunctionOfFloats p)
-answerTo kind.OutputFull t = full t
-answerTo (kind.Rejected c) t = rejected (numberIn (verdictOf c)) (placeIn (verdictOf c))
-answerTo kind.ShortTrace t = shortTrace
+abbrev pub refusalAnswer : LinearizeErrorKind → List ℕ → Answer
+refusalAnswer (kind.DivideByZero p) t = refused t (Refusal.DivideByZero p)
+refusalAnswer (kind.ApproximateFail p f) t = refused t (Refusal.ApproximateFail p (floatBits f))
+refusalAnswer (kind.NumericalOverflow p) t = refused t (Refusal.NumericalOverflow p)
+refusalAnswer (kind.OverlappingRegs p q) t = refused t (Refusal.OverlappingRegs p q)
+refusalAnswer (kind.FunctionOfFloats p) t = refused t (Refusal.FunctionOfFloats p)
+refusalAnswer kind.OutputFull t = full t
+refusalAnswer (kind.Rejected c) t = rejected (numberIn (verdictOf c)) (placeIn (verdictOf c))
+refusalAnswer kind.ShortTrace t = shortTrace
 
-abbrev pub answerOf : Linearized → List ℕ → Answer
-answerOf (linearized.Done p) t = done
-answerOf (linearized.Refused e) t = answerTo (e .kind) t
+abbrev pub runAnswerOf : Linearized → List ℕ → Answer
+runAnswerOf (linearized.Done p) t = done
+runAnswerOf (linearized.Refused e) t = refusalAnswer (e .kind) t
 
 -- what is written by then
 abbrev pub positionOf : Linearized → Position
@@ -42,26 +42,26 @@ abbrev pub placeAt : List ℕ → Position → Place
 placeAt out p = record { out = out; words = p .words; records = p .records }
 
 -- a position in an output: a record has a word at least, so that the count of records cannot wrap
-pub record Open (out : List ℕ) (at : Position) : Type 0 where
+pub record InOutput (out : List ℕ) (at : Position) : Type 0 where
   pub inside : at .words ≤ length out
   pub fewer : at .records ≤ at .words
 
 -- some steps were played, and no call is left on the stack by them
-pub record Wrote (ss : List Step) (out : List ℕ) (at : Position) (r : Linearized) (out′ : List ℕ) : Type 0 where
-  pub plays : Plays ss (placeAt out at) (placeAt out′ (positionOf r)) (answerOf r [])
+pub record WroteSteps (ss : List Step) (out : List ℕ) (at : Position) (r : Linearized) (out′ : List ℕ) : Type 0 where
+  pub plays : Plays ss (placeAt out at) (placeAt out′ (positionOf r)) (runAnswerOf r [])
   pub level : positionOf r .trace ≡ at .trace
 
 -- and none was refused
-abbrev pub WroteTo : List Step → List ℕ → Position → Position → List ℕ → Type 0
-WroteTo ss out at to out′ = Wrote ss out at (linearized.Done to) out′
+abbrev pub WroteStepsTo : List Step → List ℕ → Position → Position → List ℕ → Type 0
+WroteStepsTo ss out at to out′ = WroteSteps ss out at (linearized.Done to) out′
 
 -- a record is longer than the words left
 abbrev pub fullAt : Position → Linearized
 fullAt at = linearized.Refused (record { kind = kind.OutputFull; at = at })
 
 -- some words were appended: whatever record they are, it was written
-pub record Appended (ws out : List ℕ) (at : Position) (r : Linearized) (out′ : List ℕ) : Type 0 where
-  pub wrote : (x : Record) → encode x ≡ ws → Wrote (write [] x ∷ []) out at r out′
+pub record AppendedWords (ws out : List ℕ) (at : Position) (r : Linearized) (out′ : List ℕ) : Type 0 where
+  pub wrote : (x : Record) → encode x ≡ ws → WroteSteps (write [] x ∷ []) out at r out′
 
 -- sixteen angles, each in lowest terms and in range
 pub record SoundAngles (angles : List Value) : Type 0 where
@@ -69,5 +69,5 @@ pub record SoundAngles (angles : List Value) : Type 0 where
   pub each : (i : ℕ) → i < 16 → Sound (getD angles i zeroValue)
 
 -- the position behind a record of n words
-abbrev pub after : Position → ℕ → Position
-after at n = record { records = at .records + 1; words = at .words + n; trace = at .trace }
+abbrev pub afterRecord : Position → ℕ → Position
+afterRecord at n = record { records = at .records + 1; words = at .words + n; trace = at .trace }

@@ -13,8 +13,8 @@ use Rattle.value.specs.declared.Evaluation.the-variants as evaluation
 use Rattle.model.specs.Image.{word, expressions, expressionAt, expressionOf}
 use Rattle.model.specs.Evaluate.{valueOf, evaluate as evaluated}
 use Rattle.model.proofs.EvaluateLaws.{operand}
-use Rattle.expression.specs.Operands.{Formed}
-use Rattle.expression.specs.Table.{anglesIn, Keeps}
+use Rattle.expression.specs.Operands.{AcceptedExpression}
+use Rattle.expression.specs.Table.{anglesIn, ValuesKept}
 use Rattle.expression.proofs.EntryLaws.{Kinds, inside, entry, value-is, below, left-refuses, right-refuses}
 use Rattle.expression.proofs.TableLaws.{known-value, constant-value, keeps-more, keeps-constant, mark-length}
 use borrow.Fn.Kinds.{In}
@@ -77,7 +77,7 @@ few : (t : ℕ) (s : Evaluates t) → s .args .e < 2728
 few t s = omega (arith, s .pre .1 .0 .whole, s .pre .1 .0 .short, listed t s)
 
 -- the table has room for the entry
-kept-room : (t : ℕ) (s : Evaluates t) {known : List Bool} {table : List ℕ} → Keeps (now (s .args .image)) (angles-of t s) known table → 7 * s .args .e + 6 < length table
+kept-room : (t : ℕ) (s : Evaluates t) {known : List Bool} {table : List ℕ} → ValuesKept (now (s .args .image)) (angles-of t s) known table → 7 * s .args .e + 6 < length table
 kept-room t s k = omega (arith, k .fixed .room, listed t s)
 
 room : (t : ℕ) (s : Evaluates t) → 7 * s .args .e + 1 + 5 < length (now (s .args .table))
@@ -124,7 +124,7 @@ facts t b = let s = entered t b in entry (words t b) (angles t b) (s .args .e) (
 told : (t : ℕ) (b : Read t) → evaluated (words t b) (angles t b) 32 (entered t b .args .e) ≡ valueOf (angles t b) (evaluated (words t b) (angles t b) 32) (expressionOf (b .before .word .result) (b .word2 .result) (second t b))
 told t b = let s = entered t b in value-is (words t b) (angles t b) (s .args .e) (s .pre .1 .2) _ _ _ (second t b) (b .before .before .expression-at .ensures) (b .before .word .ensures) (b .word2 .ensures) refl
 
-lower : (t : ℕ) (b : Read t) (i : ℕ) → T (operand (words t b) (entered t b .pre .1 .2 .variables) (angles t b) 32 (entered t b .args .e) i) → (i < entered t b .args .e) × Formed (words t b) i
+lower : (t : ℕ) (b : Read t) (i : ℕ) → T (operand (words t b) (entered t b .pre .1 .2 .variables) (angles t b) 32 (entered t b .args .e) i) → (i < entered t b .args .e) × AcceptedExpression (words t b) i
 lower t b i h = let s = entered t b in below (words t b) (angles t b) (s .args .e) (s .pre .1 .2) _ _ _ (second t b) (b .before .before .expression-at .ensures) (b .before .word .ensures) (b .word2 .ensures) refl i h
 
 -- where the left operand is worked out, and where the right one is

@@ -5,8 +5,8 @@ use lib.ListN.{length}
 use denote.Ref.{now}
 use borrow.Author.Needs.{needs}
 use Rattle.model.specs.Image.{word}
-use Rattle.expression.specs.Operands.{Formed}
-use Rattle.expression.specs.Table.{anglesIn, Fixed}
+use Rattle.expression.specs.Operands.{AcceptedExpression}
+use Rattle.expression.specs.Table.{anglesIn, ConstantsKept}
 use Rattle.expression.proofs.EntryLaws.{inside, no-value}
 use Rattle.expression.proofs.AngleLaws.{angles-put}
 use Rattle.expression.proofs.ParameterLaws.{Front, front-none, front-next, front-done, front-refuses}
@@ -14,7 +14,7 @@ use Rattle.expression.proofs.parameters.Statement.{statement}
 use Rattle.expression.proofs.parameters.Tie as tie
 
 abbrev Inv-loop : tie.InvT-loop
-Inv-loop image l variables table₀ place n given₀ at i₀ table given i = (i ≤ n) × Front image (anglesIn variables) (λ k. word image (place + k)) i (anglesIn given) × Fixed image table × (length table ≡ length table₀) × (length given ≡ length given₀)
+Inv-loop image l variables table₀ place n given₀ at i₀ table given i = (i ≤ n) × Front image (anglesIn variables) (λ k. word image (place + k)) i (anglesIn given) × ConstantsKept image table × (length table ≡ length table₀) × (length given ≡ length given₀)
 
 abbrev μ-loop : tie.MeasureT-loop
 μ-loop image l variables table₀ place n given₀ at i₀ table given i = n - i
@@ -26,8 +26,8 @@ Read = tie.After-word Inv-loop μ-loop
 abbrev start : Read → tie.Start Inv-loop μ-loop
 start w = w .before .before .before .before .before .before
 
-named : (w : Read) → Formed (now (start w .args .image)) (w .word .result)
-named w = subst (Formed (now (start w .args .image))) (sym (w .word .ensures)) (start w .pre .2 .each (w .before .before .loop .i) (w .before .loop-test .taken))
+named : (w : Read) → AcceptedExpression (now (start w .args .image)) (w .word .result)
+named w = subst (AcceptedExpression (now (start w .args .image))) (sym (w .word .ensures)) (start w .pre .2 .each (w .before .before .loop .i) (w .before .loop-test .taken))
 
 loop-holds : tie.Need-loop-holds Inv-loop μ-loop
 loop-holds c = (search needs, front-none _ _ _ _ (c .before .before .before .pre .4), c .before .before .before .pre .3, refl, refl)

@@ -9,7 +9,7 @@ use lib.ListN.{length, take}
 use Rattle.model.specs.Lists.{range}
 use Rattle.model.specs.Image.{word}
 use Rattle.model.specs.Steps.{visitGate, opening}
-use Rattle.argument.specs.Frames.{standing}
+use Rattle.argument.specs.Frames.{scopeFrame}
 use Rattle.gate.specs.Running.{nested}
 use Rattle.statement.proofs.LoopLaws.{Looped, looped-start, looped-next, looped-length}
 use Rattle.unitary.proofs.GivenLaws.{named}
@@ -29,7 +29,7 @@ use Rattle.image.proofs.rounds_of.Reads as rounds-of-reads
 use Rattle.image.proofs.statement_at.Reads as statement-at-reads
 use Rattle.image.proofs.statements_of.Reads as statements-of-reads
 use Rattle.image.proofs.word.Reads as word-reads
-use Rattle.expression.specs.Table.{anglesIn, Fixed}
+use Rattle.expression.specs.Table.{anglesIn, ConstantsKept}
 use Rattle.expression.proofs.AngleLaws.{zeros-sound}
 use Rattle.writer.specs.Promise.{SoundAngles}
 use Rattle.gate.proofs.open_gate.Reads as open-gate
@@ -121,7 +121,7 @@ abbrev visit-statement-callees : ℕ → visit-statement-lts.Claims
 visit-statement-callees t = (statement-at-reads.Asked, statement-at-reads.Learnt, word-reads.Asked, word-reads.Learnt, visit-gate-below t, visit-gate.Post, visit-leaf-reads.Asked, visit-leaf-reads.Learnt)
 
 abbrev open-gate-Inv-loop : open-gate-lts.InvT-loop
-open-gate-Inv-loop image l qubits bits table₀ g left out₀ trace₀ angles formals first n now₀ i₀ table out trace now i = Looped (bodyStatement image g left (anglesIn angles) formals first) n out₀ now₀ i out now × (trace ≡ trace₀) × Fixed image table × (length table ≡ length table₀)
+open-gate-Inv-loop image l qubits bits table₀ g left out₀ trace₀ angles formals first n now₀ i₀ table out trace now i = Looped (bodyStatement image g left (anglesIn angles) formals first) n out₀ now₀ i out now × (trace ≡ trace₀) × ConstantsKept image table × (length table ≡ length table₀)
 
 abbrev open-gate-μ-loop : open-gate-lts.MeasureT-loop
 open-gate-μ-loop image l qubits bits table₀ g left out₀ trace₀ angles formals first n now₀ i₀ table out trace now i = n - i
@@ -232,7 +232,7 @@ visit-gate-returns-2 : (t : ℕ) → visit-gate-lts.Need-returns-2 (visit-gate-c
 visit-gate-returns-2 t c = let g = rw (c .before .e .given .1) at (c .before .before .before .before .before .before .parameters .ensures .0 .ends) in (wrote-ran _ (rw (gate-refused (c .before .before .before .before .before .before .before .before .before .before .before .before .before .before .before .before .pre .1 .0 .stands) _ (c .before .before .before .before .before .before .before .before .before .before .before .before .before .before .before .before .pre .1 .3) (c .before .before .before .before .before .before .before .before .before .call-at .ensures) _ _ (named-listed (c .before .before .before .before .before .before .before .before .before .before .before .before .before .before .before .before .pre .1 .0 .stands) _ (c .before .before .before .before .before .before .before .before .before .before .before .before .before .before .before .before .pre .1 .3) (c .before .before .before .before .before .before .before .before .before .before .before .before .before .before .before .before .pre .1 .2) (c .before .before .before .before .before .before .before .before .before .call-at .ensures)) (g .1 .1)) (refuses _ _ (g .0) (g .1 .2) (c .before .before .before .before .before .before .before .before .before .before .before .before .before .before .before .before .pre .1 .0 .opens))), c .before .before .before .before .before .before .parameters .ensures .1)
 
 abbrev visit-rounds-Inv-loop : visit-rounds-lts.InvT-loop
-visit-rounds-Inv-loop image l qubits bits table₀ scope formals call s left out₀ trace₀ at angles n now₀ i₀ table out trace now i = Looped (visitGate image (opening image left) (standing image scope [] formals) s (call .gate) (range (call .argument) (call .arguments)) (take (call .parameters) (anglesIn angles))) n out₀ now₀ i out now × (trace ≡ trace₀) × Fixed image table × (length table ≡ length table₀)
+visit-rounds-Inv-loop image l qubits bits table₀ scope formals call s left out₀ trace₀ at angles n now₀ i₀ table out trace now i = Looped (visitGate image (opening image left) (scopeFrame image scope [] formals) s (call .gate) (range (call .argument) (call .arguments)) (take (call .parameters) (anglesIn angles))) n out₀ now₀ i out now × (trace ≡ trace₀) × ConstantsKept image table × (length table ≡ length table₀)
 
 abbrev visit-rounds-μ-loop : visit-rounds-lts.MeasureT-loop
 visit-rounds-μ-loop image l qubits bits table₀ scope formals call s left out₀ trace₀ at angles n now₀ i₀ table out trace now i = n - i

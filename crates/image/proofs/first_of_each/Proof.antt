@@ -7,14 +7,14 @@ use denote.Ref.{now}
 use borrow.Author.Needs.{needs}
 use Rattle.model.specs.Lists.{range, sum}
 use Rattle.model.specs.Image.{word}
-use Rattle.image.specs.Firsts.{Firsts}
+use Rattle.image.specs.Firsts.{RegisterStarts}
 use Rattle.image.proofs.FirstLaws.{firsts-none, firsts-next, total-within}
 use Rattle.image.proofs.FirstLaws.{total-next}
 use Rattle.image.proofs.first_of_each.Statement.{statement}
 use Rattle.image.proofs.first_of_each.Tie as tie
 
 abbrev Inv-loop : tie.InvT-loop
-Inv-loop image at n firsts₀ total₀ r₀ firsts total r = (r ≤ n) × (length firsts ≡ length firsts₀) × (total ≡ sum (map (λ (i : ℕ). word image (at + i)) (range 0 r))) × Firsts (λ (i : ℕ). word image (at + i)) r firsts
+Inv-loop image at n firsts₀ total₀ r₀ firsts total r = (r ≤ n) × (length firsts ≡ length firsts₀) × (total ≡ sum (map (λ (i : ℕ). word image (at + i)) (range 0 r))) × RegisterStarts (λ (i : ℕ). word image (at + i)) r firsts
 
 abbrev μ-loop : tie.MeasureT-loop
 μ-loop image at n firsts₀ total₀ r₀ firsts total r = n - r

@@ -4,13 +4,13 @@ use mathlib.Core.Path.{_≡_, refl, ap, _∙_}
 use lib.ListN.{length, length-set}
 use denote.Ref.{now}
 use borrow.Author.Needs.{needs}
-use Rattle.image_entries.specs.Judging.{Judged}
+use Rattle.image_entries.specs.Judging.{JudgementTables}
 use Rattle.image_entries.proofs.ExpressionLaws.{judged-none, judged-next}
 use Rattle.image_entries.proofs.judge_expressions.Statement.{statement}
 use Rattle.image_entries.proofs.judge_expressions.Tie as tie
 
 abbrev Inv-loop : tie.InvT-loop
-Inv-loop image l levels₀ reaches₀ n e₀ levels reaches e = (e ≤ n) × (length levels ≡ length levels₀) × (length reaches ≡ length reaches₀) × Judged image e levels reaches
+Inv-loop image l levels₀ reaches₀ n e₀ levels reaches e = (e ≤ n) × (length levels ≡ length levels₀) × (length reaches ≡ length reaches₀) × JudgementTables image e levels reaches
 
 abbrev μ-loop : tie.MeasureT-loop
 μ-loop image l levels₀ reaches₀ n e₀ levels reaches e = n - e

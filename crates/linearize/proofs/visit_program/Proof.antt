@@ -9,13 +9,13 @@ use Rattle.gate.proofs.RanLaws.{ran-next, ran-stop, ran-done, ran-lengths, ran-
 use Rattle.gate.proofs.CycleLaws.{ready-on}
 use Rattle.linearize.proofs.ProgramLaws.{main-ready, main-steps, main-facts}
 use Rattle.model.specs.Steps.{visitStatement, opening}
-use Rattle.argument.specs.Frames.{standing}
-use Rattle.expression.specs.Table.{anglesIn, Fixed}
+use Rattle.argument.specs.Frames.{scopeFrame}
+use Rattle.expression.specs.Table.{anglesIn, ConstantsKept}
 use Rattle.linearize.proofs.visit_program.Statement.{statement}
 use Rattle.linearize.proofs.visit_program.Tie as tie
 
 abbrev Inv-loop : tie.InvT-loop
-Inv-loop image l qubits bits table₀ left out₀ trace₀ variables formals n now₀ s₀ table out trace now s = Looped (visitStatement image (opening image left) (standing image 0 (anglesIn variables) formals)) n out₀ now₀ s out now × (trace ≡ trace₀) × Fixed image table × (length table ≡ length table₀)
+Inv-loop image l qubits bits table₀ left out₀ trace₀ variables formals n now₀ s₀ table out trace now s = Looped (visitStatement image (opening image left) (scopeFrame image 0 (anglesIn variables) formals)) n out₀ now₀ s out now × (trace ≡ trace₀) × ConstantsKept image table × (length table ≡ length table₀)
 
 abbrev μ-loop : tie.MeasureT-loop
 μ-loop image l qubits bits table₀ left out₀ trace₀ variables formals n now₀ s₀ table out trace now s = n - s

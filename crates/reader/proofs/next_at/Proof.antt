@@ -1,5 +1,5 @@
 use mathlib.Core.Path.{ap}
-use Rattle.reader.specs.Answer.{answerOf}
+use Rattle.reader.specs.Answer.{nextRecordOf}
 use native.Mathlib.Omega.{arith}
 use Rattle.reader.proofs.LengthLaws.{at-end, found-length, none, past-end}
 use denote.Ref.{now}
@@ -11,16 +11,16 @@ length-at-requires : tie.Need-length-at-requires
 length-at-requires c κs = search needs
 
 returns : tie.Need-returns
-returns c = ap answerOf (none (now (c .before .before .before .before .args .words)) (c .before .before .before .before .args .at) _ (c .before .before .if1 .taken) (c .before .length-at .ensures) (c .if2 .taken))
+returns c = ap nextRecordOf (none (now (c .before .before .before .before .args .words)) (c .before .before .before .before .args .at) _ (c .before .before .if1 .taken) (c .before .length-at .ensures) (c .if2 .taken))
 
 returns-2 : tie.Need-returns-2
 returns-2 c = found-length (now (c .before .before .before .before .args .words)) (c .before .before .before .before .args .at) _ (c .before .before .if1 .taken) (c .before .length-at .ensures) (c .if2 .left)
 
 returns-3 : tie.Need-returns-3
-returns-3 c = ap answerOf (at-end (now (c .before .before .before .args .words)) (c .before .before .before .args .at) (c .if3 .taken))
+returns-3 c = ap nextRecordOf (at-end (now (c .before .before .before .args .words)) (c .before .before .before .args .at) (c .if3 .taken))
 
 returns-4 : tie.Need-returns-4
-returns-4 c = ap answerOf (past-end (now (c .before .before .before .args .words)) (c .before .before .before .args .at) (λ h. omega arith) (c .if3 .left))
+returns-4 c = ap nextRecordOf (past-end (now (c .before .before .before .args .words)) (c .before .before .before .args .at) (λ h. omega arith) (c .if3 .left))
 
 pub next-at-spec : {M : Type 1} → statement M
 next-at-spec = tie.close (tie.spec length-at-requires returns returns-2 returns-3 returns-4)

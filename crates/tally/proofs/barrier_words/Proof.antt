@@ -6,14 +6,14 @@ use denote.Ref.{now}
 use borrow.Author.Needs.{needs}
 use Rattle.model.specs.Image.{argumentSize}
 use Rattle.model.specs.Lists.{range, sum}
-use Rattle.tally.specs.Weights.{cut}
+use Rattle.tally.specs.Weights.{capped}
 use Rattle.tally.proofs.StatementKinds.{formal-sizes}
 use Rattle.tally.proofs.Cuts.{sum-start, sum-more, sum-done}
 use Rattle.tally.proofs.barrier_words.Statement.{statement}
 use Rattle.tally.proofs.barrier_words.Tie as tie
 
 abbrev Inv-loop : tie.InvT-loop
-Inv-loop image l scope a n total₀ i₀ total i = (i ≤ n) × (total ≡ cut (2 + sum (map (argumentSize image scope) (range a i))))
+Inv-loop image l scope a n total₀ i₀ total i = (i ≤ n) × (total ≡ capped (2 + sum (map (argumentSize image scope) (range a i))))
 
 abbrev μ-loop : tie.MeasureT-loop
 μ-loop image l scope a n total₀ i₀ total i = n - i
@@ -48,7 +48,7 @@ loop-again : tie.Need-loop-again Inv-loop μ-loop
 loop-again c =
     let l = c .before .before .before in
     let a = l .before .before .before .args in
-    (omega arith, sum-more (argumentSize (now (a .image)) (a .scope)) 2 (a .a) (l .loop .i) _ _ _ (l .loop .inv .1) (ap cut (c .before .argument-size .ensures)) (c .cut-sum2 .ensures))
+    (omega arith, sum-more (argumentSize (now (a .image)) (a .scope)) 2 (a .a) (l .loop .i) _ _ _ (l .loop .inv .1) (ap capped (c .before .argument-size .ensures)) (c .cut-sum2 .ensures))
 
 returns-2 : tie.Need-returns-2 Inv-loop μ-loop
 returns-2 c =

@@ -8,7 +8,7 @@ use Rattle.model.specs.Tally.{statementTally}
 use Rattle.model.specs.Image.{gates}
 use Rattle.model.specs.Lists.{range, sum}
 use Rattle.model.proofs.Accepted.{accepts}
-use Rattle.tally.specs.Weights.{weightOf, entryOf, cut, opening}
+use Rattle.tally.specs.Weights.{weightOf, entryOf, capped, openingFor}
 use Rattle.tally.proofs.Scopes.{body-facts, body-is}
 use Rattle.tally.proofs.StatementKinds.{statements-few}
 use Rattle.tally.proofs.Cuts.{sum-start, sum-more, sum-done}
@@ -16,7 +16,7 @@ use Rattle.tally.proofs.body_figure.Statement.{statement}
 use Rattle.tally.proofs.body_figure.Tie as tie
 
 abbrev Inv-loop : tie.InvT-loop
-Inv-loop image l table n scope j first count total₀ i₀ total i = (i ≤ count) × (total ≡ cut (0 + sum (map (statementTally image (weightOf j) (entryOf j) (opening image j n) scope) (range first i))))
+Inv-loop image l table n scope j first count total₀ i₀ total i = (i ≤ count) × (total ≡ capped (0 + sum (map (statementTally image (weightOf j) (entryOf j) (openingFor image j n) scope) (range first i))))
 
 abbrev μ-loop : tie.MeasureT-loop
 μ-loop image l table n scope j first count total₀ i₀ total i = count - i
@@ -61,15 +61,15 @@ loop-again c =
     let s = l .before in
     let a = s .before .before .args in
     let first = s .statements-of .result .first in
-    let e : cut (c .before .statement-figure .result) ≡ cut (statementTally (now (a .image)) (weightOf (a .j)) (entryOf (a .j)) (opening (now (a .image)) (a .j) (a .n)) (a .scope) (first + l .loop .i)) = omega (arith, c .before .statement-figure .ensures) in
-    (omega arith, sum-more (statementTally (now (a .image)) (weightOf (a .j)) (entryOf (a .j)) (opening (now (a .image)) (a .j) (a .n)) (a .scope)) 0 first (l .loop .i) _ _ _ (l .loop .inv .1) e (c .cut-sum .ensures))
+    let e : capped (c .before .statement-figure .result) ≡ capped (statementTally (now (a .image)) (weightOf (a .j)) (entryOf (a .j)) (openingFor (now (a .image)) (a .j) (a .n)) (a .scope) (first + l .loop .i)) = omega (arith, c .before .statement-figure .ensures) in
+    (omega arith, sum-more (statementTally (now (a .image)) (weightOf (a .j)) (entryOf (a .j)) (openingFor (now (a .image)) (a .j) (a .n)) (a .scope)) 0 first (l .loop .i) _ _ _ (l .loop .inv .1) e (c .cut-sum .ensures))
 
 returns : tie.Need-returns Inv-loop μ-loop
 returns c =
     let l = c .before in
     let s = l .before in
     let a = s .before .before .args in
-    body-is (now (a .image)) (a .scope) _ _ (a .j) (a .n) _ (s .statements-of .ensures .statements-are) (sum-done (statementTally (now (a .image)) (weightOf (a .j)) (entryOf (a .j)) (opening (now (a .image)) (a .j) (a .n)) (a .scope)) 0 (s .statements-of .result .first) _ _ _ (l .loop .inv .0) (c .loop-test .left) (l .loop .inv .1))
+    body-is (now (a .image)) (a .scope) _ _ (a .j) (a .n) _ (s .statements-of .ensures .statements-are) (sum-done (statementTally (now (a .image)) (weightOf (a .j)) (entryOf (a .j)) (openingFor (now (a .image)) (a .j) (a .n)) (a .scope)) 0 (s .statements-of .result .first) _ _ _ (l .loop .inv .0) (c .loop-test .left) (l .loop .inv .1))
 
 pub body-figure-spec : {M : Type 1} → statement M
 body-figure-spec =

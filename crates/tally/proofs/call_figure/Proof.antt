@@ -6,7 +6,7 @@ use borrow.Author.Needs.{needs}
 use Rattle.model.specs.Tally.{gateTally}
 use Rattle.model.specs.Image.{word, gateArguments, rounds}
 use Rattle.model.specs.Lists.{range}
-use Rattle.tally.specs.Weights.{weightOf, entryOf, cut, opening}
+use Rattle.tally.specs.Weights.{weightOf, entryOf, capped, openingFor}
 use Rattle.tally.proofs.call_figure.Statement.{statement}
 use Rattle.tally.proofs.call_figure.Tie as tie
 
@@ -37,7 +37,7 @@ returns c =
     let a = g .before .before .args in
     let e : w .word .result ≡ gateArguments (now (a .image)) (a .g) = rw (← g .gate-at .ensures) (w .word .ensures) in
     let k : c .before .rounds-of .result ≡ rounds (now (a .image)) (a .scope) (range (a .a) (gateArguments (now (a .image)) (a .g))) = c .before .rounds-of .ensures ∙ ap (λ (m : ℕ). rounds (now (a .image)) (a .scope) (range (a .a) m)) e in
-    c .gate-figure .ensures ∙ ap (λ (m : ℕ). cut (m * gateTally (now (a .image)) (weightOf (a .j)) (entryOf (a .j)) (opening (now (a .image)) (a .j) (a .n)) (a .g))) k
+    c .gate-figure .ensures ∙ ap (λ (m : ℕ). capped (m * gateTally (now (a .image)) (weightOf (a .j)) (entryOf (a .j)) (openingFor (now (a .image)) (a .j) (a .n)) (a .g))) k
 
 pub call-figure-spec : {M : Type 1} → statement M
 call-figure-spec =

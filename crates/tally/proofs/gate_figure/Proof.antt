@@ -4,7 +4,7 @@ use mathlib.Core.Path.{ap, _∙_}
 use denote.Ref.{now}
 use borrow.Author.Needs.{needs}
 use Rattle.model.specs.Image.{gates}
-use Rattle.tally.specs.Weights.{cut}
+use Rattle.tally.specs.Weights.{capped}
 use Rattle.tally.proofs.GateLaws.{gate-opaque, gate-cut, gate-opened, few-parameters, few-arguments}
 use Rattle.tally.proofs.gate_figure.Statement.{statement}
 use Rattle.tally.proofs.gate_figure.Tie as tie
@@ -123,7 +123,7 @@ returns-3 c =
     let a = g .before .before .args in
     let pre = g .before .before .pre in
     gate-opened (now (a .image)) (a .j) (a .g) (g .gate-at .result) (a .rounds) (g .gate-at .ensures) (a .n) _ _ _ _ _ (pre .1) (pre .3) (w .word3 .ensures) (i .before .if1 .left) (i .if2 .left)
-    (c .before .before .before .cut-product .ensures ∙ ap (λ (k : ℕ). cut (a .rounds * k)) (c .before .before .before .before .entry-weight .ensures)) (c .before .cut-product2 .ensures) (c .cut-sum .ensures)
+    (c .before .before .before .cut-product .ensures ∙ ap (λ (k : ℕ). capped (a .rounds * k)) (c .before .before .before .before .entry-weight .ensures)) (c .before .cut-product2 .ensures) (c .cut-sum .ensures)
 
 pub gate-figure-spec : {M : Type 1} → statement M
 gate-figure-spec =

@@ -4,13 +4,13 @@ use native.Mathlib.Omega.{arith}
 use mathlib.Core.Path.{_≡_}
 use borrow.Author.Needs.{needs}
 use Rattle.model.specs.Image.{gates}
-use Rattle.tally.specs.Weights.{Tabled}
+use Rattle.tally.specs.Weights.{FigureTable}
 use Rattle.tally.proofs.TableLaws.{tabled-none}
 use Rattle.tally.proofs.level_table.Statement.{statement}
 use Rattle.tally.proofs.level_table.Tie as tie
 
 abbrev Inv-loop : tie.InvT-loop
-Inv-loop image l n table₀ i₀ table i = (i ≤ n) × Tabled image i (gates image) table
+Inv-loop image l n table₀ i₀ table i = (i ≤ n) × FigureTable image i (gates image) table
 
 abbrev μ-loop : tie.MeasureT-loop
 μ-loop image l n table₀ i₀ table i = n - i

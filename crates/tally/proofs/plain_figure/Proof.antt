@@ -8,7 +8,7 @@ use Rattle.model.specs.Image as Image
 use Rattle.model.proofs.Facts.{PlainFacts, no-kind}
 use Rattle.model.proofs.Deep.{within-reach}
 use Rattle.image.proofs.KindLaws.{words-are, u-is, cx-is, gate-is, barrier-is, measure-is, reset-is}
-use Rattle.tally.specs.Weights.{weightOf, cut}
+use Rattle.tally.specs.Weights.{weightOf, capped}
 use Rattle.tally.proofs.StatementKinds.{arguments-few}
 use Rattle.tally.proofs.TableLaws.{tabled-fewer}
 use Rattle.tally.proofs.plain_figure.Statement.{statement}
@@ -131,7 +131,7 @@ returns c =
     let m = c .before .before in
     let w = m .before in
     let a = w .before .before .before .before .before .before .before .args in
-    rw (stands w ∙ u-is _ _ _ _ _ (m .match .keys1)) (c .record-figure .ensures ∙ ap (λ (k : ℕ). cut (k * weightOf (a .j) 1 14)) (c .before .rounds-of-one .ensures))
+    rw (stands w ∙ u-is _ _ _ _ _ (m .match .keys1)) (c .record-figure .ensures ∙ ap (λ (k : ℕ). capped (k * weightOf (a .j) 1 14)) (c .before .rounds-of-one .ensures))
 
 returns-2 : tie.Need-returns-2
 unfolding plainTally
@@ -139,7 +139,7 @@ returns-2 c =
     let m = c .before .before in
     let w = m .before in
     let a = w .before .before .before .before .before .before .before .args in
-    rw (stands w ∙ cx-is _ _ _ _ _ (m .match .keys2)) (c .record-figure2 .ensures ∙ ap (λ (k : ℕ). cut (k * weightOf (a .j) 2 3)) (c .before .rounds-of-two .ensures))
+    rw (stands w ∙ cx-is _ _ _ _ _ (m .match .keys2)) (c .record-figure2 .ensures ∙ ap (λ (k : ℕ). capped (k * weightOf (a .j) 2 3)) (c .before .rounds-of-two .ensures))
 
 returns-3 : tie.Need-returns-3
 unfolding plainTally
@@ -163,7 +163,7 @@ returns-5 c =
     let m = c .before .before in
     let w = m .before in
     let a = w .before .before .before .before .before .before .before .args in
-    rw (stands w ∙ measure-is _ _ _ _ _ (m .match .keys5)) (c .record-figure3 .ensures ∙ ap (λ (k : ℕ). cut (k * weightOf (a .j) 5 3)) (c .before .rounds-of-measure .ensures))
+    rw (stands w ∙ measure-is _ _ _ _ _ (m .match .keys5)) (c .record-figure3 .ensures ∙ ap (λ (k : ℕ). capped (k * weightOf (a .j) 5 3)) (c .before .rounds-of-measure .ensures))
 
 returns-6 : tie.Need-returns-6
 unfolding plainTally
@@ -171,7 +171,7 @@ returns-6 c =
     let m = c .before .before in
     let w = m .before in
     let a = w .before .before .before .before .before .before .before .args in
-    rw (stands w ∙ reset-is _ _ _ _ _ (m .match .keys6)) (c .record-figure4 .ensures ∙ ap (λ (k : ℕ). cut (k * weightOf (a .j) 6 2)) (c .before .rounds-of-one2 .ensures))
+    rw (stands w ∙ reset-is _ _ _ _ _ (m .match .keys6)) (c .record-figure4 .ensures ∙ ap (λ (k : ℕ). capped (k * weightOf (a .j) 6 2)) (c .before .rounds-of-one2 .ensures))
 
 returns-7 : tie.Need-returns-7
 returns-7 c =

@@ -1,7 +1,7 @@
 use Prim.Native.Nat.{ℕ, _*_}
 use mathlib.Core.Path.{ap, _∙_}
 use borrow.Author.Needs.{needs}
-use Rattle.tally.specs.Weights.{cut}
+use Rattle.tally.specs.Weights.{capped}
 use Rattle.tally.proofs.record_figure.Statement.{statement}
 use Rattle.tally.proofs.record_figure.Tie as tie
 
@@ -12,7 +12,7 @@ cut-product-requires : tie.Need-cut-product-requires
 cut-product-requires c κs = search needs
 
 returns : tie.Need-returns
-returns c = c .cut-product .ensures ∙ ap (λ (w : ℕ). cut (c .before .before .args .rounds * w)) (c .before .weight .ensures)
+returns c = c .cut-product .ensures ∙ ap (λ (w : ℕ). capped (c .before .before .args .rounds * w)) (c .before .weight .ensures)
 
 pub record-figure-spec : {M : Type 1} → statement M
 record-figure-spec = tie.close (tie.spec weight-requires cut-product-requires returns)

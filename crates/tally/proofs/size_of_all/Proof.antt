@@ -7,13 +7,13 @@ use denote.Ref.{now}
 use borrow.Author.Needs.{needs}
 use Rattle.model.specs.Image.{word}
 use Rattle.model.specs.Lists.{range, sum}
-use Rattle.tally.specs.Weights.{cut}
+use Rattle.tally.specs.Weights.{capped}
 use Rattle.tally.proofs.Cuts.{sum-start, sum-more, sum-done}
 use Rattle.tally.proofs.size_of_all.Statement.{statement}
 use Rattle.tally.proofs.size_of_all.Tie as tie
 
 abbrev Inv-loop : tie.InvT-loop
-Inv-loop image at n total₀ i₀ total i = (i ≤ n) × (total ≡ cut (0 + sum (map (λ k. word image (at + k)) (range 0 i))))
+Inv-loop image at n total₀ i₀ total i = (i ≤ n) × (total ≡ capped (0 + sum (map (λ k. word image (at + k)) (range 0 i))))
 
 abbrev μ-loop : tie.MeasureT-loop
 μ-loop image at n total₀ i₀ total i = n - i
@@ -40,7 +40,7 @@ loop-again : tie.Need-loop-again Inv-loop μ-loop
 loop-again c =
     let l = c .before .before .before in
     let a = l .before .before .args in
-    (omega arith, sum-more (λ k. word (now (a .image)) (a .at + k)) 0 0 (l .loop .i) _ _ _ (l .loop .inv .1) (ap cut (c .before .word .ensures ∙ ap (λ (k : ℕ). word (now (a .image)) (a .at + k)) (sym (zero-add (l .loop .i))))) (c .cut-sum .ensures))
+    (omega arith, sum-more (λ k. word (now (a .image)) (a .at + k)) 0 0 (l .loop .i) _ _ _ (l .loop .inv .1) (ap capped (c .before .word .ensures ∙ ap (λ (k : ℕ). word (now (a .image)) (a .at + k)) (sym (zero-add (l .loop .i))))) (c .cut-sum .ensures))
 
 returns : tie.Need-returns Inv-loop μ-loop
 returns c =

@@ -3,13 +3,13 @@ use native.Mathlib.Omega.{arith}
 use denote.Ref.{now}
 use borrow.Author.Needs.{needs}
 use Rattle.model.proofs.Accepted.{accepts}
-use Rattle.tally.specs.Weights.{Tabled}
+use Rattle.tally.specs.Weights.{FigureTable}
 use Rattle.tally.proofs.TableLaws.{whole-next, tabled-fewer, tabled-of-none}
 use Rattle.tally.proofs.whole_table.Statement.{statement}
 use Rattle.tally.proofs.whole_table.Tie as tie
 
 abbrev Inv-loop : tie.InvT-loop
-Inv-loop image l gates table₀ g₀ table g = (g ≤ gates) × Tabled image gates g table
+Inv-loop image l gates table₀ g₀ table g = (g ≤ gates) × FigureTable image gates g table
 
 abbrev μ-loop : tie.MeasureT-loop
 μ-loop image l gates table₀ g₀ table g = gates - g

@@ -2,7 +2,7 @@ use mathlib.Core.Path.{refl, sym, subst, _∙_}
 use borrow.Author.Tests.{ltb-true, ltb-false}
 use borrow.Author.Needs.{needs}
 use denote.Ref.{now}
-use Rattle.writer.specs.Promise.{Appended}
+use Rattle.writer.specs.Promise.{AppendedWords}
 use Rattle.writer.proofs.WriteLaws.{appended, not-appended}
 use Rattle.writer.proofs.append.Statement.{statement}
 use Rattle.writer.proofs.append.Tie as tie
@@ -17,7 +17,7 @@ same-length : tie.Need-same-length
 same-length c = search needs
 
 returns : tie.Need-returns
-returns c = subst (λ z. Appended (now (c .before .before .before .before .before .before .args .words)) (now (c .before .before .before .before .before .before .args .out)) (c .before .before .before .before .before .before .args .at) z (now (c .before .before .before .before .before .before .args .out))) (sym (c .full .ensures)) (not-appended (c .before .before .before .before .before .before .pre) (ltb-true _ _ (sym (c .before .before .is-full .ensures) ∙ c .before .if1 .taken)))
+returns c = subst (λ z. AppendedWords (now (c .before .before .before .before .before .before .args .words)) (now (c .before .before .before .before .before .before .args .out)) (c .before .before .before .before .before .before .args .at) z (now (c .before .before .before .before .before .before .args .out))) (sym (c .full .ensures)) (not-appended (c .before .before .before .before .before .before .pre) (ltb-true _ _ (sym (c .before .before .is-full .ensures) ∙ c .before .if1 .taken)))
 
 copy-requires : tie.Need-copy-requires
 copy-requires c κs = ltb-false _ _ (sym (c .before .before .is-full .ensures) ∙ c .before .if1 .left)
