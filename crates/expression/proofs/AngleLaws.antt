@@ -15,7 +15,7 @@ use Rattle.model.specs.Evaluate.{zeroValue}
 use Rattle.model.proofs.ListLaws.{entry-of-map}
 use Rattle.model.proofs.Lengths.{length-range}
 use Rattle.model.proofs.AnglesSound.{zero-sound}
-use Rattle.writer.specs.Promise.{SoundAngles}
+use Rattle.record_writer.specs.Promise.{SoundAngles}
 use Rattle.expression.specs.Table.{valueAt, putValue, anglesIn}
 use Rattle.expression.proofs.TableLaws.{value-same, value-other}
 

@@ -9,7 +9,7 @@ use Rattle.value.specs.Value.{Sound, pi, integer, fromFloat}
 use lib.Ieee.{Float, binary32, ofBits}
 use lib.ListN.{getD}
 use mathlib.Core.List.{List}
-use Rattle.writer.specs.Promise.{SoundAngles}
+use Rattle.record_writer.specs.Promise.{SoundAngles}
 use Rattle.value.specs.Promise.{EvaluatesTo}
 use Rattle.model.specs.Image.{Binop, Unop, Binary, Unary, expressionOf}
 use Rattle.model.specs.Evaluate.{binary, unary, valueOf, zeroValue}

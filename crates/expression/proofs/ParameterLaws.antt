@@ -25,11 +25,11 @@ use Rattle.model.specs.Lists.{range}
 use Rattle.model.specs.Image.{expressionAt}
 use Rattle.model.specs.Evaluate.{evaluate, zeroValue}
 use Rattle.model.specs.Steps.{Values, have, lack, Refusal, DivideByZero, ApproximateFail, NumericalOverflow, FunctionOfFloats, also, parameterValues}
-use Rattle.writer.specs.declared.Position.{Position}
-use Rattle.writer.specs.declared.LinearizeErrorKind.{LinearizeErrorKind}
-use Rattle.writer.specs.declared.LinearizeErrorKind.the-variants as kind
-use Rattle.writer.specs.declared.Linearized.the-variants as linearized
-use Rattle.writer.specs.Promise.{SoundAngles}
+use Rattle.record_writer.specs.declared.Position.{Position}
+use Rattle.record_writer.specs.declared.LinearizeErrorKind.{LinearizeErrorKind}
+use Rattle.record_writer.specs.declared.LinearizeErrorKind.the-variants as kind
+use Rattle.record_writer.specs.declared.Linearized.the-variants as linearized
+use Rattle.record_writer.specs.Promise.{SoundAngles}
 use Rattle.expression.specs.Operands.{NoValue, RefusalOf, ParametersGiven}
 
 -- sixteen angles, one of them put in anew

@@ -13,11 +13,11 @@ use Rattle.model.specs.Check.{expressionOk}
 use Rattle.model.specs.Evaluate.{valueOf}
 use Rattle.model.specs.Steps.{Values, have, lack, also, Refusal}
 use Rattle.model.specs.Run.{refused}
-use Rattle.writer.specs.declared.Position.{Position}
-use Rattle.writer.specs.declared.LinearizeErrorKind.{LinearizeErrorKind}
-use Rattle.writer.specs.declared.Linearized.{Linearized}
-use Rattle.writer.specs.declared.Linearized.the-variants as linearized
-use Rattle.writer.specs.Promise.{SoundAngles, refusalAnswer}
+use Rattle.record_writer.specs.declared.Position.{Position}
+use Rattle.record_writer.specs.declared.LinearizeErrorKind.{LinearizeErrorKind}
+use Rattle.record_writer.specs.declared.Linearized.{Linearized}
+use Rattle.record_writer.specs.declared.Linearized.the-variants as linearized
+use Rattle.record_writer.specs.Promise.{SoundAngles, refusalAnswer}
 
 -- an entry of a kind whose operands have the values x and y
 pub record BinaryResult (kind : ℕ) (x y : Value) (r : Evaluation) : Type 0 where

@@ -14,14 +14,14 @@ use Rattle.image.specs.declared.Layout.{Layout}
 use Rattle.image.specs.declared.Span.{Span}
 use Rattle.image.specs.Layout.{StatementsOf}
 use Rattle.image.proofs.KindLaws.{words-are}
-use Rattle.writer.specs.declared.Position.{Position}
+use Rattle.record_writer.specs.declared.Position.{Position}
 use Rattle.expression.specs.Table.{anglesIn, ConstantsKept}
 use Rattle.gate.specs.declared.Call.{Call}
-use Rattle.writer.specs.declared.Linearized.{Linearized}
-use Rattle.writer.specs.Promise.{InOutput, WroteSteps, SoundAngles}
+use Rattle.record_writer.specs.declared.Linearized.{Linearized}
+use Rattle.record_writer.specs.Promise.{InOutput, WroteSteps, SoundAngles}
 use Rattle.argument.specs.Frames.{scopeFrame, RoundQubits}
 use Rattle.gate.specs.Running.{RunContext, RanSteps, plainSteps, CallStatement, callSteps}
-use Rattle.writer.specs.declared.Linearized.the-variants as linearized
+use Rattle.record_writer.specs.declared.Linearized.the-variants as linearized
 use Rattle.statement.proofs.LoopLaws.{Looped, wrote-open}
 use Rattle.gate.proofs.RanLaws.{ran-wrote}
 use Rattle.gate.proofs.BodyLaws.{opened-stands, body-facts, statement-steps, bodyStatement}

@@ -14,13 +14,13 @@ use Rattle.model.specs.Steps.{Step, write, enter, refuse, inRounds}
 use Rattle.model.specs.Run.{Answer, done, refused, full, rejected, shortTrace, traceOf, stop, after, play}
 use Rattle.model.proofs.PlayLaws.{going-stopped, rounds-next, plays-enter, plays-append, plays-stopped}
 use Rattle.model.proofs.TraceLaws.{under, underAnswer, plays-under}
-use Rattle.writer.specs.declared.Position.{Position}
-use Rattle.writer.specs.declared.LinearizeErrorKind.{LinearizeErrorKind}
-use Rattle.writer.specs.declared.LinearizeErrorKind.the-variants as kind
-use Rattle.writer.specs.declared.LinearizeError.{LinearizeError}
-use Rattle.writer.specs.declared.Linearized.{Linearized}
-use Rattle.writer.specs.declared.Linearized.the-variants as linearized
-use Rattle.writer.specs.Promise.{refusalAnswer, runAnswerOf, WroteSteps}
+use Rattle.record_writer.specs.declared.Position.{Position}
+use Rattle.record_writer.specs.declared.LinearizeErrorKind.{LinearizeErrorKind}
+use Rattle.record_writer.specs.declared.LinearizeErrorKind.the-variants as kind
+use Rattle.record_writer.specs.declared.LinearizeError.{LinearizeError}
+use Rattle.record_writer.specs.declared.Linearized.{Linearized}
+use Rattle.record_writer.specs.declared.Linearized.the-variants as linearized
+use Rattle.record_writer.specs.Promise.{refusalAnswer, runAnswerOf, WroteSteps}
 use Rattle.gate.specs.Running.{RanSteps}
 use Rattle.statement.proofs.LoopLaws.{not-done, Looped, looped-next, looped-done}
 

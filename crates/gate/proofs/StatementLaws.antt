@@ -22,10 +22,10 @@ use Rattle.model.proofs.Facts.{PlainFacts, no-kind}
 use Rattle.image.specs.declared.Layout.{Layout}
 use Rattle.image.specs.Layout.{LayoutOf}
 use Rattle.image.proofs.KindLaws.{u-is, cx-is, barrier-is, measure-is, reset-is, words-are}
-use Rattle.writer.specs.declared.Position.{Position}
-use Rattle.writer.specs.declared.Linearized.{Linearized}
+use Rattle.record_writer.specs.declared.Position.{Position}
+use Rattle.record_writer.specs.declared.Linearized.{Linearized}
 use Rattle.gate.specs.declared.Call.{Call}
-use Rattle.writer.specs.Promise.{SoundAngles, WroteSteps}
+use Rattle.record_writer.specs.Promise.{SoundAngles, WroteSteps}
 use Rattle.argument.specs.Frames.{scopeFrame, ScopeContext}
 use Rattle.unitary.specs.Named.{namedAt, ListedExpressions}
 use Rattle.gate.specs.Running.{plainSteps, callOf}

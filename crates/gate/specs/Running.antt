@@ -12,10 +12,10 @@ use Rattle.model.specs.Steps.{Step, inRounds, visitPlain, visitGate, opening}
 use Rattle.model.specs.Run.{traceOf}
 use Rattle.model.specs.Playing.{Plays}
 use Rattle.image.specs.declared.Layout.{Layout}
-use Rattle.writer.specs.declared.Position.{Position}
-use Rattle.writer.specs.declared.Linearized.{Linearized}
+use Rattle.record_writer.specs.declared.Position.{Position}
+use Rattle.record_writer.specs.declared.Linearized.{Linearized}
 use Rattle.gate.specs.declared.Call.{Call}
-use Rattle.writer.specs.Promise.{placeAt, positionOf, runAnswerOf, InOutput, SoundAngles}
+use Rattle.record_writer.specs.Promise.{placeAt, positionOf, runAnswerOf, InOutput, SoundAngles}
 use Rattle.expression.specs.Table.{anglesIn, ConstantsKept}
 use Rattle.argument.specs.Frames.{ScopeContext, CallArguments}
 

@@ -1,7 +1,7 @@
 // Opens gate calls: a statement runs a gate's body, and the body its statements, in turn.
 use image::Layout;
-use writer::Linearized;
-use writer::Position;
+use record_writer::Linearized;
+use record_writer::Position;
 ghost use mathlib.Core.Path.{_≡_};
 ghost use mathlib.Core.List.{[], _∷_};
 ghost use Prim.Native.Nat.{suc, _+_, _≤_, _<_};
@@ -12,7 +12,7 @@ ghost use Rattle.model.specs.Records.{Record};
 ghost use Rattle.model.specs.Steps.{write, openGate, opening};
 ghost use Rattle.model.proofs.Facts.{PlainFacts};
 ghost use Rattle.image.specs.Layout.{LayoutOf};
-ghost use Rattle.writer.specs.Promise.{SoundAngles, InOutput, WroteSteps};
+ghost use Rattle.record_writer.specs.Promise.{SoundAngles, InOutput, WroteSteps};
 ghost use Rattle.expression.specs.Table.{anglesIn, ConstantsKept};
 ghost use Rattle.argument.specs.Frames.{scopeFrame, ScopeContext};
 ghost use Rattle.gate.specs.Running.{RunContext, RanSteps, plainSteps, callOf, CallStatement, callSteps};
@@ -48,7 +48,7 @@ fn write_cut(
     let gate = image::gate_at(image, l, g);
     let angle = expression::zero();
     let angles = [angle; 16];
-    writer::write_opaque(out, at, g, angles, 0, formals, image::word(image, gate + 1))
+    record_writer::write_opaque(out, at, g, angles, 0, formals, image::word(image, gate + 1))
 }
 
 // A statement of kind 1, 2, 4, 5 or 6, which opens no gate.

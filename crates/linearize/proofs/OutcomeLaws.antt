@@ -25,12 +25,12 @@ use Rattle.image.proofs.CheckAnswer.{the-type}
 use Rattle.image.specs.declared.CheckAnswer.the-variants as answer
 use Rattle.image.specs.declared.CheckAnswer.{CheckAnswer}
 use Rattle.image.specs.Answer.{verdictOf, numberIn, placeIn}
-use Rattle.writer.specs.declared.Position.{Position}
-use Rattle.writer.specs.declared.LinearizeErrorKind.{LinearizeErrorKind}
-use Rattle.writer.specs.declared.LinearizeErrorKind.the-variants as kind
-use Rattle.writer.specs.declared.Linearized.{Linearized}
-use Rattle.writer.specs.declared.Linearized.the-variants as linearized
-use Rattle.writer.specs.Promise.{refusalAnswer, runAnswerOf, positionOf}
+use Rattle.record_writer.specs.declared.Position.{Position}
+use Rattle.record_writer.specs.declared.LinearizeErrorKind.{LinearizeErrorKind}
+use Rattle.record_writer.specs.declared.LinearizeErrorKind.the-variants as kind
+use Rattle.record_writer.specs.declared.Linearized.{Linearized}
+use Rattle.record_writer.specs.declared.Linearized.the-variants as linearized
+use Rattle.record_writer.specs.Promise.{refusalAnswer, runAnswerOf, positionOf}
 use Rattle.gate.specs.Running.{RanSteps}
 use Rattle.linearize.specs.Linearizes as promise
 use Rattle.linearize.specs.Linearizes.{refusedWith, Linearizes}

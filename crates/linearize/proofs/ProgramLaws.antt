@@ -18,15 +18,15 @@ use Rattle.model.proofs.Accepted.{Accepted}
 use Rattle.image.specs.declared.Layout.{Layout}
 use Rattle.image.specs.Layout.{LayoutOf}
 use Rattle.image.specs.Firsts.{RegisterStarts}
-use Rattle.writer.specs.declared.Linearized.{Linearized}
-use Rattle.writer.specs.declared.Linearized.the-variants as linearized
+use Rattle.record_writer.specs.declared.Linearized.{Linearized}
+use Rattle.record_writer.specs.declared.Linearized.the-variants as linearized
 use Rattle.statement.proofs.LoopLaws.{wrote-open}
 use Rattle.image.proofs.KindLaws.{if-at, plain-facts-at}
 use Rattle.argument.specs.Frames.{scopeFrame, formalsOf, ScopeContext}
 use Rattle.expression.specs.Table.{ConstantsKept}
 use Rattle.expression.proofs.AngleLaws.{zeros-sound}
-use Rattle.writer.specs.declared.Position.{Position}
-use Rattle.writer.specs.Promise.{InOutput, WroteSteps}
+use Rattle.record_writer.specs.declared.Position.{Position}
+use Rattle.record_writer.specs.Promise.{InOutput, WroteSteps}
 use Rattle.gate.specs.Running.{RunContext, plainSteps}
 use Rattle.linearize.specs.Tabled.{MainContext}
 use Rattle.argument.proofs.ArgumentLaws.{few-classical, count-sum}

@@ -11,10 +11,10 @@ use Rattle.model.specs.Run.{Answer, done, full, Outcome, linearize}
 use Rattle.model.specs.Tally.{recordFigure, wordBound}
 use Rattle.model.specs.Reader.{recordsIn}
 use Rattle.model.specs.Claims.{count, declared, distinct}
-use Rattle.writer.specs.declared.LinearizeErrorKind.{LinearizeErrorKind}
-use Rattle.writer.specs.declared.Linearized.{Linearized}
-use Rattle.writer.specs.declared.Linearized.the-variants as linearized
-use Rattle.writer.specs.Promise.{runAnswerOf, positionOf}
+use Rattle.record_writer.specs.declared.LinearizeErrorKind.{LinearizeErrorKind}
+use Rattle.record_writer.specs.declared.Linearized.{Linearized}
+use Rattle.record_writer.specs.declared.Linearized.the-variants as linearized
+use Rattle.record_writer.specs.Promise.{runAnswerOf, positionOf}
 
 -- a refusal before anything is written
 abbrev pub refusedWith : LinearizeErrorKind → Linearized

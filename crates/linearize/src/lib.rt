@@ -2,10 +2,10 @@
 use image::CheckAnswer;
 use image::Contents;
 use image::Layout;
-use writer::LinearizeError;
-use writer::LinearizeErrorKind;
-use writer::Linearized;
-use writer::Position;
+use record_writer::LinearizeError;
+use record_writer::LinearizeErrorKind;
+use record_writer::Linearized;
+use record_writer::Position;
 ghost use mathlib.Core.Path.{_≡_};
 ghost use mathlib.Core.List.{[], _∷_, _++_};
 ghost use Prim.Native.Nat.{_-_, _≤_, _<_};
@@ -17,7 +17,7 @@ ghost use Rattle.model.specs.Steps.{write, visitStatement, visitBody, opening, 
 ghost use Rattle.model.proofs.Accepted.{Accepted};
 ghost use Rattle.model.proofs.Facts.{PlainFacts, Facts};
 ghost use Rattle.image.specs.Layout.{LayoutOf};
-ghost use Rattle.writer.specs.Promise.{InOutput};
+ghost use Rattle.record_writer.specs.Promise.{InOutput};
 ghost use Rattle.expression.specs.Table.{anglesIn, ConstantsKept};
 ghost use Rattle.argument.specs.Frames.{scopeFrame};
 ghost use Rattle.gate.specs.Running.{RunContext, RanSteps, plainSteps};
@@ -57,7 +57,7 @@ fn visit_held(
         trace,
         at,
     ) {
-        Linearized::Done(next) => writer::write_conditional_end(out, next),
+        Linearized::Done(next) => record_writer::write_conditional_end(out, next),
         Linearized::Refused(e) => Linearized::Refused(e),
     }
 }
@@ -84,7 +84,7 @@ fn visit_conditional(
     let register = image::word(image, place + 1);
     let size = image::word(image, 9 + l.quantum + register);
     let first = bits[register as usize];
-    match writer::write_conditional_start(out, at, first, size, image::word(image, place + 2)) {
+    match record_writer::write_conditional_start(out, at, first, size, image::word(image, place + 2)) {
         Linearized::Done(next) => visit_held(
             image,
             l,

@@ -8,11 +8,11 @@ use lib.ListN.{length, getD, drop, take, length-append, length-drop, drop-of-len
 use lib.Seq.{drop-cons, length-take-le}
 use Rattle.model.specs.Run.{Numbers}
 use Rattle.model.specs.Listing.{ascii, decimal, line, fromText, refusedText}
-use Rattle.writer.specs.declared.Linearized.{Linearized}
-use Rattle.writer.specs.declared.LinearizeError.{LinearizeError}
-use Rattle.writer.specs.declared.Position.{Position}
-use Rattle.writer.specs.declared.Linearized.the-variants as linearized
-use Rattle.writer.specs.Promise.{positionOf}
+use Rattle.record_writer.specs.declared.Linearized.{Linearized}
+use Rattle.record_writer.specs.declared.LinearizeError.{LinearizeError}
+use Rattle.record_writer.specs.declared.Position.{Position}
+use Rattle.record_writer.specs.declared.Linearized.the-variants as linearized
+use Rattle.record_writer.specs.Promise.{positionOf}
 use Rattle.unit.specs.declared.Numbers.{Numbers as Told3}
 use Rattle.unit.specs.Told.{RunNumbers, numbersOf}
 use Rattle.listing_text.specs.Put.{Room, Put, PutMost}

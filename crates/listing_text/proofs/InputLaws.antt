@@ -15,7 +15,7 @@ use Rattle.model.specs.Check.{bad, contentsOk, check}
 use Rattle.model.specs.Run.{stop, rejected, accepted, runs, numbers}
 use Rattle.model.specs.Listing.{littleEndian, wordsOf, refusedText, runText, listing}
 use Rattle.listing_text.specs.Put.{Put, imageText, InFront}
-use Rattle.writer.proofs.WriteLaws.{put-more, front}
+use Rattle.record_writer.proofs.WriteLaws.{put-more, front}
 use Rattle.listing_text.proofs.PutLaws.{put-same, put-length}
 
 -- ---- eight bytes

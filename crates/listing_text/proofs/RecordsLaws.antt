@@ -7,7 +7,7 @@ use lib.ListN.{length, length-append}
 use Rattle.model.specs.Records.{Record, encode}
 use Rattle.model.specs.Reader.{nextAt, recordsIn}
 use Rattle.model.proofs.ReadBack.{next-record, reads-back}
-use Rattle.reader.specs.Answer.{nextWordsOf}
+use Rattle.record_reader.specs.Answer.{nextWordsOf}
 use Rattle.model.proofs.ListLaws.{flat-append}
 use Rattle.listing_text.specs.WordText.{recordLine, WordsOfRecords}
 use Rattle.listing_text.specs.Put.{Put, PutMost}

@@ -16,12 +16,12 @@ use Rattle.model.proofs.All.{All, nil, cons, All-front, All-members}
 use Rattle.model.proofs.AnglesSound.{step-claims}
 use Rattle.model.proofs.ReadBack.{reads-back}
 use Rattle.model.proofs.Outcome.{recordsOf, plays-fair, Ran, none, plays, ran-either, claims}
-use Rattle.writer.specs.declared.Linearized.{Linearized}
-use Rattle.writer.specs.declared.Position.{Position}
-use Rattle.writer.specs.declared.LinearizeErrorKind.{LinearizeErrorKind}
-use Rattle.writer.specs.declared.LinearizeErrorKind.the-variants as kind
-use Rattle.writer.specs.declared.Linearized.the-variants as linearized
-use Rattle.writer.specs.Promise.{runAnswerOf, refusalAnswer, positionOf}
+use Rattle.record_writer.specs.declared.Linearized.{Linearized}
+use Rattle.record_writer.specs.declared.Position.{Position}
+use Rattle.record_writer.specs.declared.LinearizeErrorKind.{LinearizeErrorKind}
+use Rattle.record_writer.specs.declared.LinearizeErrorKind.the-variants as kind
+use Rattle.record_writer.specs.declared.Linearized.the-variants as linearized
+use Rattle.record_writer.specs.Promise.{runAnswerOf, refusalAnswer, positionOf}
 use Rattle.linearize.specs.Linearizes.{Linearizes}
 use Rattle.listing_text.specs.Put.{Put, PutMost}
 use Rattle.listing_text.specs.WordText.{recordLine, WordsOfRecords, endText}

@@ -8,9 +8,9 @@ use lib.ListN.{getD, drop}
 use Rattle.model.specs.Records.{Record, encode}
 use Rattle.model.specs.Run.{told}
 use Rattle.model.specs.Listing.{ascii, decimal, line, fromText, refusedText}
-use Rattle.writer.specs.declared.Linearized.{Linearized}
-use Rattle.writer.specs.declared.Linearized.the-variants as linearized
-use Rattle.writer.specs.Promise.{refusalAnswer}
+use Rattle.record_writer.specs.declared.Linearized.{Linearized}
+use Rattle.record_writer.specs.declared.Linearized.the-variants as linearized
+use Rattle.record_writer.specs.Promise.{refusalAnswer}
 
 -- a numerator's word, "signed in two's complement"
 unfoldable pub signedText : ℕ → List ℕ

@@ -1,6 +1,6 @@
 // A run as text: a line for each record, then how it ended.
 use unit::Numbers;
-use writer::Linearized;
+use record_writer::Linearized;
 ghost use mathlib.Core.Path.{_≡_};
 ghost use mathlib.Core.List.{[], _∷_, flatMap};
 ghost use Prim.Native.Nat.{_+_, _*_, _≤_, _<_};
@@ -11,7 +11,7 @@ ghost use lib.Seq.{sets};
 ghost use Rattle.model.specs.Listing.{ascii, decimal, line, fromText, refusedText, runText, littleEndian, wordsOf, listing};
 ghost use Rattle.model.specs.Run.{runs, numbers};
 ghost use Rattle.model.specs.Reader.{recordsIn};
-ghost use Rattle.writer.specs.Promise.{positionOf};
+ghost use Rattle.record_writer.specs.Promise.{positionOf};
 ghost use Rattle.unit.specs.Told.{numbersOf};
 ghost use Rattle.listing_text.specs.Put.{Room, Put, PutMost, imageText, ListingInFront};
 ghost use Rattle.listing_text.specs.WordText.{signedText, wordText, numerator, recordLine, WordsOfRecords, twoText, endText};

@@ -9,8 +9,8 @@ use lib.ListN.{length, getD, take, drop, List·getD-eq-default, length-drop}
 use borrow.Author.Tests.{le-leb, lt-leb, lt-ltb, le-ltb, leb-true, eqb-true, eqb-false}
 use lib.Seq.{getD-drop, length-take-le}
 use native.Mathlib.Nat.{add-zero}
-use Rattle.reader.specs.declared.NextRecord.the-variants as answer
-use Rattle.reader.specs.Answer.{nextRecordOf, nextWordsOf}
+use Rattle.record_reader.specs.declared.NextRecord.the-variants as answer
+use Rattle.record_reader.specs.Answer.{nextRecordOf, nextWordsOf}
 use Rattle.model.specs.Reader.{next, end, wrong, recordLength, nextAt}
 use Rattle.model.proofs.ListLaws.{four-up}
 

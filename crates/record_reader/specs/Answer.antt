@@ -3,8 +3,8 @@ use Prim.Native.Nat.{ℕ}
 use mathlib.Core.List.{List, []}
 use lib.ListN.{length}
 use Rattle.model.specs.Reader.{Next, next, end, wrong}
-use Rattle.reader.specs.declared.NextRecord.{NextRecord}
-use Rattle.reader.specs.declared.NextRecord.the-variants as answer
+use Rattle.record_reader.specs.declared.NextRecord.{NextRecord}
+use Rattle.record_reader.specs.declared.NextRecord.the-variants as answer
 
 -- a record with its length, the end, or 17
 abbrev pub nextRecordOf : Next → NextRecord

@@ -5,7 +5,7 @@ ghost use lib.Dec.{leb};
 ghost use lib.ListN.{length, getD, drop};
 ghost use Prim.Native.Nat.{_+_, _-_, _*_, _/_, _<_};
 ghost use Rattle.model.specs.Reader.{recordLength, nextAt};
-ghost use Rattle.reader.specs.Answer.{nextRecordOf, nextWordsOf};
+ghost use Rattle.record_reader.specs.Answer.{nextRecordOf, nextWordsOf};
 
 // A record of so many words, the end, or no record: 17.
 pub enum NextRecord {

@@ -16,10 +16,10 @@ use Rattle.model.specs.Steps.{write}
 use Rattle.model.specs.Run.{full, play}
 use Rattle.model.proofs.ListLaws.{range-snoc, flat-snoc}
 use Rattle.model.proofs.PlayLaws.{sets-append, plays-write, plays-stop}
-use Rattle.writer.specs.Promise.{afterRecord, InOutput, WroteSteps, AppendedWords, placeAt}
-use Rattle.writer.specs.declared.Position.{Position}
-use Rattle.writer.specs.declared.LinearizeErrorKind.the-variants as kind
-use Rattle.writer.specs.declared.Linearized.the-variants as linearized
+use Rattle.record_writer.specs.Promise.{afterRecord, InOutput, WroteSteps, AppendedWords, placeAt}
+use Rattle.record_writer.specs.declared.Position.{Position}
+use Rattle.record_writer.specs.declared.LinearizeErrorKind.the-variants as kind
+use Rattle.record_writer.specs.declared.Linearized.the-variants as linearized
 
 -- words behind words, and a word more
 pub put-more : {out′ out″ : List ℕ} (out : List ℕ) (start i : ℕ) (ws vs : List ℕ) → i ≡ start + length ws → out′ ≡ sets out start ws → out″ ≡ sets out′ i vs → out″ ≡ sets out start (ws ++ vs)

@@ -12,11 +12,11 @@ use Rattle.model.specs.Steps.{Step, write, Refusal}
 use Rattle.model.specs.Run.{Answer, done, refused, full, rejected, shortTrace}
 use Rattle.model.specs.Playing.{Place, Plays}
 use Rattle.image.specs.Answer.{verdictOf, numberIn, placeIn}
-use Rattle.writer.specs.declared.Position.{Position}
-use Rattle.writer.specs.declared.LinearizeErrorKind.{LinearizeErrorKind}
-use Rattle.writer.specs.declared.LinearizeErrorKind.the-variants as kind
-use Rattle.writer.specs.declared.Linearized.{Linearized}
-use Rattle.writer.specs.declared.Linearized.the-variants as linearized
+use Rattle.record_writer.specs.declared.Position.{Position}
+use Rattle.record_writer.specs.declared.LinearizeErrorKind.{LinearizeErrorKind}
+use Rattle.record_writer.specs.declared.LinearizeErrorKind.the-variants as kind
+use Rattle.record_writer.specs.declared.Linearized.{Linearized}
+use Rattle.record_writer.specs.declared.Linearized.the-variants as linearized
 
 -- the answer of a kind of refusal, with the words of the trace
 abbrev pub refusalAnswer : LinearizeErrorKind → List ℕ → Answer

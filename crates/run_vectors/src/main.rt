@@ -3,10 +3,10 @@
 // records, output words and trace words told; the sum of the output words and that of the trace words; then the image's words, none
 // for the image of the line before.
 use libc::STDIN_FILENO;
-use reader::NextRecord;
+use record_reader::NextRecord;
 use vector_text::Words;
-use writer::Linearized;
-use writer::Position;
+use record_writer::Linearized;
+use record_writer::Position;
 ghost use mathlib.Core.Path.{_≡_};
 ghost use lib.ListN.{length};
 

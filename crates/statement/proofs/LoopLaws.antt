@@ -9,13 +9,13 @@ use Rattle.model.specs.Steps.{Step, inRounds}
 use Rattle.model.specs.Run.{done}
 use Rattle.model.specs.Playing.{Going}
 use Rattle.model.proofs.PlayLaws.{going-start, going-part, going-stopped, going-done, rounds-next, rounds-none, rounds-all}
-use Rattle.writer.specs.declared.Position.{Position}
-use Rattle.writer.specs.declared.LinearizeErrorKind.{LinearizeErrorKind}
-use Rattle.writer.specs.declared.LinearizeErrorKind.the-variants as kind
-use Rattle.writer.specs.declared.LinearizeError.{LinearizeError}
-use Rattle.writer.specs.declared.Linearized.{Linearized}
-use Rattle.writer.specs.declared.Linearized.the-variants as linearized
-use Rattle.writer.specs.Promise.{refusalAnswer, placeAt, InOutput, WroteSteps}
+use Rattle.record_writer.specs.declared.Position.{Position}
+use Rattle.record_writer.specs.declared.LinearizeErrorKind.{LinearizeErrorKind}
+use Rattle.record_writer.specs.declared.LinearizeErrorKind.the-variants as kind
+use Rattle.record_writer.specs.declared.LinearizeError.{LinearizeError}
+use Rattle.record_writer.specs.declared.Linearized.{Linearized}
+use Rattle.record_writer.specs.declared.Linearized.the-variants as linearized
+use Rattle.record_writer.specs.Promise.{refusalAnswer, placeAt, InOutput, WroteSteps}
 
 pub not-done : (k : LinearizeErrorKind) (t : List ℕ) → ¬ (refusalAnswer k t ≡ done)
 not-done (kind.DivideByZero p) t e = absurd (let z : _≡_ {A = ℕ} 0 1 = cc in omega arith)

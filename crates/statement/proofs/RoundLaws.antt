@@ -11,13 +11,13 @@ use Rattle.model.specs.Image.{argumentAt}
 use Rattle.model.specs.Run.{Answer, refused, play}
 use Rattle.model.specs.Playing.{Plays}
 use Rattle.model.proofs.PlayLaws.{plays-stop}
-use Rattle.writer.specs.declared.Position.{Position}
-use Rattle.writer.specs.declared.LinearizeErrorKind.the-variants as kind
-use Rattle.writer.specs.declared.LinearizeError.{LinearizeError}
-use Rattle.writer.specs.declared.Linearized.{Linearized}
-use Rattle.writer.specs.declared.Linearized.the-variants as linearized
-use Rattle.writer.specs.Promise.{fullAt, InOutput, WroteSteps, refusalAnswer, placeAt}
-use Rattle.writer.proofs.WriteLaws.{full-up}
+use Rattle.record_writer.specs.declared.Position.{Position}
+use Rattle.record_writer.specs.declared.LinearizeErrorKind.the-variants as kind
+use Rattle.record_writer.specs.declared.LinearizeError.{LinearizeError}
+use Rattle.record_writer.specs.declared.Linearized.{Linearized}
+use Rattle.record_writer.specs.declared.Linearized.the-variants as linearized
+use Rattle.record_writer.specs.Promise.{fullAt, InOutput, WroteSteps, refusalAnswer, placeAt}
+use Rattle.record_writer.proofs.WriteLaws.{full-up}
 use Rattle.argument.specs.Frames.{scopeFrame}
 use Rattle.statement.specs.Statements.{apartCX, overlapAtCX}
 

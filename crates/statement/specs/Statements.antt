@@ -12,11 +12,11 @@ use Rattle.model.specs.Records.{Record}
 use Rattle.model.specs.Image.{argumentAt}
 use Rattle.model.specs.Steps.{Step, write, refuse, Refusal, overlap, distinctly}
 use Rattle.model.proofs.All.{All}
-use Rattle.writer.specs.declared.Position.{Position}
-use Rattle.writer.specs.declared.LinearizeErrorKind.the-variants as kind
-use Rattle.writer.specs.declared.Linearized.{Linearized}
-use Rattle.writer.specs.declared.Linearized.the-variants as linearized
-use Rattle.writer.specs.Promise.{WroteSteps}
+use Rattle.record_writer.specs.declared.Position.{Position}
+use Rattle.record_writer.specs.declared.LinearizeErrorKind.the-variants as kind
+use Rattle.record_writer.specs.declared.Linearized.{Linearized}
+use Rattle.record_writer.specs.declared.Linearized.the-variants as linearized
+use Rattle.record_writer.specs.Promise.{WroteSteps}
 use Rattle.statement.specs.declared.Overlap.{Overlap}
 use Rattle.statement.specs.declared.Overlap.the-variants as overlapping
 

@@ -7,9 +7,9 @@ use Rattle.model.specs.Check.{Verdict, fine, bad}
 use Rattle.model.specs.Run as Model
 use Rattle.image.specs.Answer.{numberIn, placeIn}
 use Rattle.tally.specs.Weights.{refusedAs}
-use Rattle.writer.specs.declared.Position.{Position}
-use Rattle.writer.specs.declared.Linearized.{Linearized}
-use Rattle.writer.specs.Promise.{positionOf}
+use Rattle.record_writer.specs.declared.Position.{Position}
+use Rattle.record_writer.specs.declared.Linearized.{Linearized}
+use Rattle.record_writer.specs.Promise.{positionOf}
 use Rattle.linearize.specs.Linearizes.{Linearizes}
 use Rattle.unit.specs.declared.Numbers.{Numbers}
 use Rattle.unit.specs.Told.{RunNumbers}

@@ -5,8 +5,8 @@ use mathlib.Core.List.{List, [], _∷_}
 use Rattle.model.specs.Check.{Verdict, fine, bad}
 use Rattle.model.specs.Tally.{TallyAnswer, tallied, refused}
 use Rattle.model.specs.Run.{told, Outcome, linearize}
-use Rattle.reader.specs.declared.NextRecord.{NextRecord}
-use Rattle.reader.specs.declared.NextRecord.the-variants as answer
+use Rattle.record_reader.specs.declared.NextRecord.{NextRecord}
+use Rattle.record_reader.specs.declared.NextRecord.the-variants as answer
 
 -- number and place, 0 0 of an accepted image
 abbrev pub checkWords : Verdict → List ℕ

@@ -3,9 +3,9 @@ use mathlib.Core.Path.{_≡_}
 use Prim.Native.Nat.{ℕ}
 use mathlib.Core.List.{List}
 use Rattle.model.specs.Run as Model
-use Rattle.writer.specs.declared.LinearizeErrorKind.{LinearizeErrorKind}
-use Rattle.writer.specs.declared.Linearized.{Linearized}
-use Rattle.writer.specs.Promise.{refusalAnswer, runAnswerOf}
+use Rattle.record_writer.specs.declared.LinearizeErrorKind.{LinearizeErrorKind}
+use Rattle.record_writer.specs.declared.Linearized.{Linearized}
+use Rattle.record_writer.specs.Promise.{refusalAnswer, runAnswerOf}
 use Rattle.unit.specs.declared.Numbers.{Numbers}
 
 abbrev pub numbersOf : Numbers → Model.Numbers

@@ -1,18 +1,18 @@
 // The operations of the sequence unit: check, tally, run, next record.
 use image::CheckAnswer;
-use reader::NextRecord;
+use record_reader::NextRecord;
 use tally::Tallied;
-use writer::LinearizeErrorKind;
-use writer::Linearized;
-use writer::Position;
+use record_writer::LinearizeErrorKind;
+use record_writer::Linearized;
+use record_writer::Position;
 ghost use mathlib.Core.Path.{_≡_};
 ghost use Rattle.model.specs.Check.{check};
 ghost use Rattle.model.specs.Tally.{tally};
 ghost use Rattle.model.specs.Reader.{nextAt};
 ghost use Rattle.image.specs.Answer.{verdictOf};
 ghost use Rattle.tally.specs.Weights.{tallyAnswerOf};
-ghost use Rattle.reader.specs.Answer.{nextRecordOf as nextOf, nextWordsOf};
-ghost use Rattle.writer.specs.Promise.{positionOf};
+ghost use Rattle.record_reader.specs.Answer.{nextRecordOf as nextOf, nextWordsOf};
+ghost use Rattle.record_writer.specs.Promise.{positionOf};
 ghost use Rattle.linearize.specs.Linearizes.{Linearizes};
 ghost use Rattle.unit.specs.Told.{RefusalNumbers, RunNumbers};
 ghost use Rattle.unit.specs.Exports.{checkWords, tallyWords, nextWords, RunExport};
@@ -42,14 +42,14 @@ pub fn run(image: &[u64], depth: u64, out: &mut [u64], trace: &mut [u64]) -> Lin
 pub fn next_at(words: &[u64], at: usize) -> NextRecord
     ensures { λ r. ⌜ r ≡ nextOf (nextAt (now (words .entry)) at) ⌝ }
 {
-    reader::next_at(words, at)
+    record_reader::next_at(words, at)
 }
 
 // The record at a position, as a part of the words; none of them where there is no record.
 pub fn next_record(words: &[u64], at: usize) -> &[u64]
     ensures { λ r. ⌜ now r ≡ nextWordsOf (nextAt (now (words .entry)) at) ⌝ }
 {
-    reader::next_record(words, at)
+    record_reader::next_record(words, at)
 }
 
 // An answer's number and two places, as document 01 numbers them: 0 is finished.

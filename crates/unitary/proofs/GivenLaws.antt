@@ -17,11 +17,11 @@ use Rattle.model.specs.Run.{refused}
 use Rattle.model.proofs.ListLaws.{getD-take}
 use Rattle.model.proofs.All.{All, test, all-All, of-All, range-All, head-All, tail-All}
 use Rattle.model.proofs.EvaluateLaws.{operand}
-use Rattle.writer.specs.declared.Position.{Position}
-use Rattle.writer.specs.declared.LinearizeError.{LinearizeError}
-use Rattle.writer.specs.declared.Linearized.{Linearized}
-use Rattle.writer.specs.declared.Linearized.the-variants as linearized
-use Rattle.writer.specs.Promise.{InOutput, WroteSteps, SoundAngles, refusalAnswer}
+use Rattle.record_writer.specs.declared.Position.{Position}
+use Rattle.record_writer.specs.declared.LinearizeError.{LinearizeError}
+use Rattle.record_writer.specs.declared.Linearized.{Linearized}
+use Rattle.record_writer.specs.declared.Linearized.the-variants as linearized
+use Rattle.record_writer.specs.Promise.{InOutput, WroteSteps, SoundAngles, refusalAnswer}
 use Rattle.expression.specs.Operands.{NamesExpressions}
 use Rattle.expression.specs.Table.{valueAt, anglesIn}
 use Rattle.expression.proofs.AngleLaws.{angle-at}

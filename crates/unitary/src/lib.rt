@@ -1,8 +1,8 @@
 // Writes the records of a U: its three angles are worked out, then each qubit of its argument gets them.
 use image::Layout;
 use value::Value;
-use writer::Linearized;
-use writer::Position;
+use record_writer::Linearized;
+use record_writer::Position;
 ghost use mathlib.Core.List.{[], _∷_};
 ghost use lib.Dec.{T};
 ghost use Prim.Native.Nat.{_<_};
@@ -10,7 +10,7 @@ ghost use Rattle.model.specs.Image.{rounds, variables as variablesOf};
 ghost use Rattle.model.specs.Check.{argumentOk};
 ghost use Rattle.model.specs.Steps.{inRounds, writeU, withValues};
 ghost use Rattle.value.specs.Value.{Sound};
-ghost use Rattle.writer.specs.Promise.{InOutput, WroteSteps, SoundAngles};
+ghost use Rattle.record_writer.specs.Promise.{InOutput, WroteSteps, SoundAngles};
 ghost use Rattle.expression.specs.Table.{anglesIn, ConstantsKept};
 ghost use Rattle.argument.specs.Frames.{scopeFrame, ScopeContext};
 ghost use Rattle.unitary.specs.Named.{ListedExpressions, namedAt};
@@ -38,7 +38,7 @@ fn rounds_of_u(
     let mut now = at;
     let mut i = 0u64;
     while i < n {
-        match writer::write_u(out, now, theta, phi, lambda, argument::in_round(x, i)) {
+        match record_writer::write_u(out, now, theta, phi, lambda, argument::in_round(x, i)) {
             Linearized::Done(next) => {
                 now = next;
             }

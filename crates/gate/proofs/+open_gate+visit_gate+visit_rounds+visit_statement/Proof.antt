@@ -31,7 +31,7 @@ use Rattle.image.proofs.statements_of.Reads as statements-of-reads
 use Rattle.image.proofs.word.Reads as word-reads
 use Rattle.expression.specs.Table.{anglesIn, ConstantsKept}
 use Rattle.expression.proofs.AngleLaws.{zeros-sound}
-use Rattle.writer.specs.Promise.{SoundAngles}
+use Rattle.record_writer.specs.Promise.{SoundAngles}
 use Rattle.gate.proofs.open_gate.Reads as open-gate
 use Rattle.gate.proofs.open_gate.Kinds as open-gate-kinds
 use Rattle.gate.proofs.+open_gate+visit_gate+visit_rounds+visit_statement.Lts-open_gate as open-gate-lts

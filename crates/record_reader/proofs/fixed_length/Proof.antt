@@ -1,6 +1,6 @@
-use Rattle.reader.proofs.LengthLaws.{short, whole}
-use Rattle.reader.proofs.fixed_length.Statement.{statement}
-use Rattle.reader.proofs.fixed_length.Tie as tie
+use Rattle.record_reader.proofs.LengthLaws.{short, whole}
+use Rattle.record_reader.proofs.fixed_length.Statement.{statement}
+use Rattle.record_reader.proofs.fixed_length.Tie as tie
 
 returns : tie.Need-returns
 returns c = short _ _ (c .if1 .taken)

@@ -1,10 +1,10 @@
 use mathlib.Core.Path.{_∙_, refl}
 use lib.ListN.{drop}
-use Rattle.reader.proofs.LengthLaws.{kind-at, nine-up, of-kind, of-none}
+use Rattle.record_reader.proofs.LengthLaws.{kind-at, nine-up, of-kind, of-none}
 use denote.Ref.{now}
 use borrow.Author.Needs.{needs}
-use Rattle.reader.proofs.length_at.Statement.{statement}
-use Rattle.reader.proofs.length_at.Tie as tie
+use Rattle.record_reader.proofs.length_at.Statement.{statement}
+use Rattle.record_reader.proofs.length_at.Tie as tie
 
 sub-left : tie.Need-sub-left
 sub-left c = search needs

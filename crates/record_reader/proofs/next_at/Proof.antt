@@ -1,11 +1,11 @@
 use mathlib.Core.Path.{ap}
-use Rattle.reader.specs.Answer.{nextRecordOf}
+use Rattle.record_reader.specs.Answer.{nextRecordOf}
 use native.Mathlib.Omega.{arith}
-use Rattle.reader.proofs.LengthLaws.{at-end, found-length, none, past-end}
+use Rattle.record_reader.proofs.LengthLaws.{at-end, found-length, none, past-end}
 use denote.Ref.{now}
 use borrow.Author.Needs.{needs}
-use Rattle.reader.proofs.next_at.Statement.{statement}
-use Rattle.reader.proofs.next_at.Tie as tie
+use Rattle.record_reader.proofs.next_at.Statement.{statement}
+use Rattle.record_reader.proofs.next_at.Tie as tie
 
 length-at-requires : tie.Need-length-at-requires
 length-at-requires c κs = search needs

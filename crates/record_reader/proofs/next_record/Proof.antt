@@ -1,9 +1,9 @@
-use Rattle.reader.proofs.LengthLaws.{part-is, no-part, fits-left}
+use Rattle.record_reader.proofs.LengthLaws.{part-is, no-part, fits-left}
 use native.Mathlib.Omega.{arith}
 use denote.Ref.{now}
 use borrow.Author.Needs.{needs}
-use Rattle.reader.proofs.next_record.Statement.{statement}
-use Rattle.reader.proofs.next_record.Tie as tie
+use Rattle.record_reader.proofs.next_record.Statement.{statement}
+use Rattle.record_reader.proofs.next_record.Tie as tie
 
 length-at-requires : tie.Need-length-at-requires
 length-at-requires c κs = search needs

@@ -1,9 +1,9 @@
 use Prim.Native.Nat.{_+_, _*_}
 use native.Mathlib.Omega.{arith}
-use Rattle.reader.proofs.LengthLaws.{short, whole}
+use Rattle.record_reader.proofs.LengthLaws.{short, whole}
 use borrow.Author.Needs.{needs}
-use Rattle.reader.proofs.opaque_length.Statement.{statement}
-use Rattle.reader.proofs.opaque_length.Tie as tie
+use Rattle.record_reader.proofs.opaque_length.Statement.{statement}
+use Rattle.record_reader.proofs.opaque_length.Tie as tie
 
 returns : tie.Need-returns
 returns c = short (4 + 4 * c .before .args .p + c .before .args .q) _ (omega arith)

@@ -4,8 +4,8 @@ use lib.Seq.{getD-drop}
 use denote.Ref.{now}
 use mathlib.Core.Path.{sym}
 use borrow.Author.Needs.{needs}
-use Rattle.reader.proofs.word_behind.Statement.{statement}
-use Rattle.reader.proofs.word_behind.Tie as tie
+use Rattle.record_reader.proofs.word_behind.Statement.{statement}
+use Rattle.record_reader.proofs.word_behind.Tie as tie
 
 sub-if1 : tie.Need-sub-if1
 sub-if1 c = search needs

@@ -2,10 +2,10 @@ use mathlib.Core.Path.{refl, sym, subst, _∙_}
 use borrow.Author.Tests.{ltb-true, ltb-false}
 use borrow.Author.Needs.{needs}
 use denote.Ref.{now}
-use Rattle.writer.specs.Promise.{AppendedWords}
-use Rattle.writer.proofs.WriteLaws.{appended, not-appended}
-use Rattle.writer.proofs.append.Statement.{statement}
-use Rattle.writer.proofs.append.Tie as tie
+use Rattle.record_writer.specs.Promise.{AppendedWords}
+use Rattle.record_writer.proofs.WriteLaws.{appended, not-appended}
+use Rattle.record_writer.proofs.append.Statement.{statement}
+use Rattle.record_writer.proofs.append.Tie as tie
 
 is-full-requires : tie.Need-is-full-requires
 is-full-requires c κs = search needs

@@ -7,9 +7,9 @@ use lib.ListN.{length, take, length-set}
 use lib.Seq.{sets, take-length}
 use denote.Ref.{now}
 use borrow.Author.Needs.{needs}
-use Rattle.writer.proofs.WriteLaws.{copied}
-use Rattle.writer.proofs.copy.Statement.{statement}
-use Rattle.writer.proofs.copy.Tie as tie
+use Rattle.record_writer.proofs.WriteLaws.{copied}
+use Rattle.record_writer.proofs.copy.Statement.{statement}
+use Rattle.record_writer.proofs.copy.Tie as tie
 
 abbrev Inv-loop : tie.InvT-loop
 Inv-loop out₀ start words n i₀ out i = (i ≤ n) × (out ≡ sets out₀ start (take i words)) × (length out ≡ length out₀)

@@ -1,9 +1,9 @@
 use denote.Ref.{now}
 use lib.ListN.{length}
-use Rattle.writer.proofs.WriteLaws.{left-test}
+use Rattle.record_writer.proofs.WriteLaws.{left-test}
 use borrow.Author.Needs.{needs}
-use Rattle.writer.proofs.is_full.Statement.{statement}
-use Rattle.writer.proofs.is_full.Tie as tie
+use Rattle.record_writer.proofs.is_full.Statement.{statement}
+use Rattle.record_writer.proofs.is_full.Tie as tie
 
 sub-result : tie.Need-sub-result
 sub-result c = search needs

@@ -2,9 +2,9 @@ use native.Mathlib.Omega.{arith}
 use lib.ListN.{length-set}
 use denote.Ref.{now}
 use borrow.Author.Needs.{needs}
-use Rattle.writer.proofs.AngleLaws.{angle-put}
-use Rattle.writer.proofs.put_angle.Statement.{statement}
-use Rattle.writer.proofs.put_angle.Tie as tie
+use Rattle.record_writer.proofs.AngleLaws.{angle-put}
+use Rattle.record_writer.proofs.put_angle.Statement.{statement}
+use Rattle.record_writer.proofs.put_angle.Tie as tie
 
 signed-requires : tie.Need-signed-requires
 signed-requires c κs = search needs

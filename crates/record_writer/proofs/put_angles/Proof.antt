@@ -7,10 +7,10 @@ use lib.ListN.{length, take}
 use lib.Seq.{sets}
 use denote.Ref.{now}
 use borrow.Author.Needs.{needs}
-use Rattle.writer.proofs.AngleLaws.{angle-sound, angles-none, angles-more}
+use Rattle.record_writer.proofs.AngleLaws.{angle-sound, angles-none, angles-more}
 use Rattle.model.specs.Records.{angleWords}
-use Rattle.writer.proofs.put_angles.Statement.{statement}
-use Rattle.writer.proofs.put_angles.Tie as tie
+use Rattle.record_writer.proofs.put_angles.Statement.{statement}
+use Rattle.record_writer.proofs.put_angles.Tie as tie
 
 abbrev Inv-loop : tie.InvT-loop
 Inv-loop words₀ start n angles i₀ words i = (i ≤ n) × (words ≡ sets words₀ start (flatMap angleWords (take i angles))) × (length words ≡ length words₀)

@@ -5,9 +5,9 @@ use lib.ListN.{set, length-set}
 use denote.Ref.{now}
 use borrow.Author.Needs.{needs}
 use Rattle.model.specs.Records.{Record, encode, kind, fields}
-use Rattle.writer.proofs.WriteLaws.{written, three-put}
-use Rattle.writer.proofs.put_cx.Statement.{statement}
-use Rattle.writer.proofs.put_cx.Tie as tie
+use Rattle.record_writer.proofs.WriteLaws.{written, three-put}
+use Rattle.record_writer.proofs.put_cx.Statement.{statement}
+use Rattle.record_writer.proofs.put_cx.Tie as tie
 
 mul-out : tie.Need-mul-out
 mul-out c = search needs

@@ -1,9 +1,9 @@
 use native.Mathlib.Omega.{arith}
 use borrow.Author.Needs.{needs}
 use Rattle.rational.proofs.Soundness.{nonzero}
-use Rattle.writer.proofs.AngleLaws.{complement}
-use Rattle.writer.proofs.signed.Statement.{statement}
-use Rattle.writer.proofs.signed.Tie as tie
+use Rattle.record_writer.proofs.AngleLaws.{complement}
+use Rattle.record_writer.proofs.signed.Statement.{statement}
+use Rattle.record_writer.proofs.signed.Tie as tie
 
 sub-result : tie.Need-sub-result
 sub-result c = search needs

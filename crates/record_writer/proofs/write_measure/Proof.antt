@@ -1,8 +1,8 @@
 use mathlib.Core.Path.{refl}
 use borrow.Author.Needs.{needs}
 use Rattle.model.specs.Records.{Record, encode, kind, fields}
-use Rattle.writer.proofs.write_measure.Statement.{statement}
-use Rattle.writer.proofs.write_measure.Tie as tie
+use Rattle.record_writer.proofs.write_measure.Statement.{statement}
+use Rattle.record_writer.proofs.write_measure.Tie as tie
 
 slice-aggregate-append : tie.Need-slice-aggregate-append
 slice-aggregate-append c = search needs

@@ -1,10 +1,10 @@
 use native.Mathlib.Omega.{arith}
 use lib.ListN.{take, length-take}
 use borrow.Author.Needs.{needs}
-use Rattle.writer.proofs.AngleLaws.{opaque-words}
+use Rattle.record_writer.proofs.AngleLaws.{opaque-words}
 use Rattle.model.specs.Records.{Record}
-use Rattle.writer.proofs.write_opaque.Statement.{statement}
-use Rattle.writer.proofs.write_opaque.Tie as tie
+use Rattle.record_writer.proofs.write_opaque.Statement.{statement}
+use Rattle.record_writer.proofs.write_opaque.Tie as tie
 
 array-write-words : tie.Need-array-write-words
 array-write-words c = search needs

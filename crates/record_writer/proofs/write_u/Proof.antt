@@ -1,8 +1,8 @@
 use borrow.Author.Needs.{needs}
-use Rattle.writer.proofs.AngleLaws.{u-words}
+use Rattle.record_writer.proofs.AngleLaws.{u-words}
 use Rattle.model.specs.Records.{Record}
-use Rattle.writer.proofs.write_u.Statement.{statement}
-use Rattle.writer.proofs.write_u.Tie as tie
+use Rattle.record_writer.proofs.write_u.Statement.{statement}
+use Rattle.record_writer.proofs.write_u.Tie as tie
 
 array-write-words : tie.Need-array-write-words
 array-write-words c = search needs
