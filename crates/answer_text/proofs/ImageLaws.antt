@@ -9,7 +9,7 @@ use lib.Dec.{eqb, ltb, leb}
 use lib.ListN.{length, getD, take, drop, replicate}
 use lib.Seq.{sets}
 use Rattle.model.specs.Lists.{range, all}
-use Rattle.model.specs.Check.{Verdict, fine, bad, check}
+use Rattle.model.specs.Check.{Flaw, fine, bad, check}
 use Rattle.model.specs.Tally.{tallied, refused, figures, ifAccepted, tally}
 use Rattle.model.specs.Listing.{littleEndian, wordsOf}
 use Rattle.unit.specs.Exports.{checkWords, tallyWords}
@@ -23,7 +23,7 @@ use Rattle.answer_text.specs.Answers.{numbersLine, checkAnswer, tallyAns
 pub check-two : (image : List ℕ) {answer : List ℕ} → answer ≡ checkWords (check image) → 2 ≡ length answer
 check-two image e = go (check image) ∙ ap length (sym e)
   where
-    go : (v : Verdict) → 2 ≡ length (checkWords v)
+    go : (v : Flaw) → 2 ≡ length (checkWords v)
     go fine = refl
     go (bad n p) = refl
 
@@ -31,7 +31,7 @@ pub tally-eleven : (image : List ℕ) (depth : ℕ) {answer : List ℕ} → answ
 unfolding tally ifAccepted figures range
 tally-eleven image depth e = go (check image) (all (λ n. leb n 4294967295) (figures image depth)) ∙ ap length (sym e)
   where
-    go : (v : Verdict) (b : Bool) → 11 ≡ length (tallyWords (ifAccepted v (cond b (tallied (figures image depth)) (refused 16 0))))
+    go : (v : Flaw) (b : Bool) → 11 ≡ length (tallyWords (ifAccepted v (cond b (tallied (figures image depth)) (refused 16 0))))
     go fine true = refl
     go fine false = refl
     go (bad n p) b = refl

@@ -11,7 +11,7 @@ use lib.Seq.{sets, set-comm, length-sets}
 use Rattle.model.specs.Lists.{range}
 use Rattle.model.specs.Records.{encode}
 use Rattle.model.specs.Steps.{Step, write, enter, refuse, inRounds}
-use Rattle.model.specs.Run.{Answer, done, refused, full, rejected, shortTrace, traceOf, stop, after, play}
+use Rattle.model.specs.Run.{Answer, done, refused, full, flawed, shortTrace, traceOf, stop, after, play}
 use Rattle.model.proofs.PlayLaws.{going-stopped, rounds-next, plays-enter, plays-append, plays-stopped}
 use Rattle.model.proofs.TraceLaws.{under, underAnswer, plays-under}
 use Rattle.record_writer.specs.declared.Position.{Position}
@@ -95,7 +95,7 @@ abbrev Inner : Answer → Type 0
 Inner done = Unit {0}
 Inner (refused t x) = Unit {0}
 Inner (full t) = Unit {0}
-Inner (rejected n p) = ⊥
+Inner (flawed n p) = ⊥
 Inner shortTrace = ⊥
 
 play-inner : (n : ℕ) (ss : List Step) → Inner (play n ss .answer)

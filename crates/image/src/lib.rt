@@ -5,7 +5,7 @@ ghost use lib.ListN.{length, set};
 ghost use Prim.Native.Nat.{_+_, _<_, _≤_, min, max};
 ghost use Rattle.model.specs.Lists.{range, sum};
 ghost use Rattle.model.specs.Image.{word, gateAt, statementAt, argumentAt, parameterAt, expressionAt, argumentSize, classicalArgumentSize, rounds};
-ghost use Rattle.image.specs.Answer.{verdictOf, numberIn, placeIn};
+ghost use Rattle.image.specs.Answer.{answerFlaw, numberIn, placeIn};
 ghost use Rattle.image.specs.Layout.{LayoutOf, ReadAs, GatesAccepted, StatementsOf};
 ghost use Rattle.image.specs.Firsts.{RegisterStarts};
 
@@ -258,7 +258,7 @@ pub fn statements_of(image: &[u64], l: Layout, scope: u64) -> Span
 
 // The number of an answer; 0 is an accepted image.
 pub fn number_of(answer: CheckAnswer) -> u64
-    ensures { λ r. ⌜ r ≡ numberIn (verdictOf answer) ⌝ }
+    ensures { λ r. ⌜ r ≡ numberIn (answerFlaw answer) ⌝ }
 {
     match answer {
         CheckAnswer::Accepted => 0,
@@ -275,7 +275,7 @@ pub fn number_of(answer: CheckAnswer) -> u64
 
 // The place of an answer; 0 where it has none.
 pub fn place_of(answer: CheckAnswer) -> u64
-    ensures { λ r. ⌜ r ≡ placeIn (verdictOf answer) ⌝ }
+    ensures { λ r. ⌜ r ≡ placeIn (answerFlaw answer) ⌝ }
 {
     match answer {
         CheckAnswer::Accepted => 0,

@@ -3,12 +3,12 @@ use Prim.Native.Nat.{ℕ, _≤_}
 use native.Mathlib.Omega.{arith}
 use mathlib.Core.Path.{_≡_, refl, sym, _∙_}
 use borrow.Author.Tests.{eq-eqb, ne-eqb}
-use Rattle.model.specs.Check.{Verdict, fine, bad}
+use Rattle.model.specs.Check.{Flaw, fine, bad}
 use Rattle.model.proofs.ListLaws.{four-up}
 use Rattle.image_entries.specs.declared.Fault.{Fault}
 use Rattle.image_entries.specs.Faults.{verdictOfFault}
 
-pub fault-none : (f : Fault) (v : Verdict) → verdictOfFault f ≡ v → f .number ≡ 0 → v ≡ fine
+pub fault-none : (f : Fault) (v : Flaw) → verdictOfFault f ≡ v → f .number ≡ 0 → v ≡ fine
 fault-none f v e z = sym e ∙ rw (eq-eqb (f .number) 0 z) refl
 
 pub verdict-none : (f : Fault) → f .number ≡ 0 → fine ≡ verdictOfFault f

@@ -10,7 +10,7 @@ use Rattle.model.specs.Lists.{range}
 use Rattle.model.proofs.All.{range-All}
 use Rattle.model.proofs.Accepted.{passes, none-bad}
 use Rattle.model.specs.Image.{word, firstQubit, firstBit, gates}
-use Rattle.model.specs.Check.{Verdict, fine, bad, orElse, firstBad, quantumRegisterFlaw, classicalRegisterFlaw, registers, contentsOk, gateFlaw, gateEntries, statementEntries, check}
+use Rattle.model.specs.Check.{Flaw, fine, bad, orElse, firstBad, quantumRegisterFlaw, classicalRegisterFlaw, registers, contentsOk, gateFlaw, gateEntries, statementEntries, check}
 use Rattle.image_entries.specs.declared.Fault.{Fault}
 use Rattle.image.specs.declared.Layout.{Layout}
 use Rattle.image_entries.specs.Faults.{verdictOfFault, registerFlaw}
@@ -18,22 +18,22 @@ use Rattle.image.specs.Layout.{LayoutOf, GatesAccepted}
 use Rattle.image_check.proofs.NumberLaws.{Known, check-known}
 
 -- a fault, or none
-pub fault-first : (f : Fault) (v w : Verdict) → verdictOfFault f ≡ v → ¬ (f .number ≡ 0) → verdictOfFault f ≡ orElse v w
+pub fault-first : (f : Fault) (v w : Flaw) → verdictOfFault f ≡ v → ¬ (f .number ≡ 0) → verdictOfFault f ≡ orElse v w
 fault-first f v w e z = e ∙ stands v (sym e ∙ rw (ne-eqb (f .number) 0 z) refl)
   where
-    stands : (v : Verdict) → v ≡ bad (f .number) (f .place) → v ≡ orElse v w
+    stands : (v : Flaw) → v ≡ bad (f .number) (f .place) → v ≡ orElse v w
     stands fine d = absurd (let q : _≡_ {A = ℕ} 0 1 = cc in omega arith)
     stands (bad n p) d = refl
 
-pub fault-next : (v w : Verdict) → v ≡ fine → w ≡ orElse v w
+pub fault-next : (v w : Flaw) → v ≡ fine → w ≡ orElse v w
 fault-next v w e = sym (rw e refl)
 
 -- the registers, as the code reads them
 module _ (image : List ℕ) (l : Layout) where
-  abbrev pub quantumPart : Verdict
+  abbrev pub quantumPart : Flaw
   quantumPart = firstBad (registerFlaw (λ i. word image (9 + i))) (λ i. 9 + i) (range 0 (l .quantum))
 
-  abbrev pub classicalPart : Verdict
+  abbrev pub classicalPart : Flaw
   classicalPart = firstBad (registerFlaw (λ i. word image (9 + l .quantum + i))) (λ i. 9 + l .quantum + i) (range 0 (l .classical))
 
   registers-read : LayoutOf image l → registers image ≡ orElse quantumPart classicalPart
@@ -42,9 +42,9 @@ module _ (image : List ℕ) (l : Layout) where
 
   -- the four parts in their turn
   pub in-turn : LayoutOf image l → orElse quantumPart (orElse classicalPart (orElse (gateEntries image) (statementEntries image))) ≡ orElse (registers image) (orElse (gateEntries image) (statementEntries image))
-  in-turn h = grouped quantumPart classicalPart (orElse (gateEntries image) (statementEntries image)) ∙ ap (λ (v : Verdict). orElse v (orElse (gateEntries image) (statementEntries image))) (sym (registers-read h))
+  in-turn h = grouped quantumPart classicalPart (orElse (gateEntries image) (statementEntries image)) ∙ ap (λ (v : Flaw). orElse v (orElse (gateEntries image) (statementEntries image))) (sym (registers-read h))
     where
-      grouped : (a b c : Verdict) → orElse a (orElse b c) ≡ orElse (orElse a b) c
+      grouped : (a b c : Flaw) → orElse a (orElse b c) ≡ orElse (orElse a b) c
       grouped fine b c = refl
       grouped (bad n p) b c = refl
 

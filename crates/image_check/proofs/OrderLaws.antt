@@ -8,7 +8,7 @@ use lib.Dec.{eqb}
 use borrow.Author.Tests.{ne-eqb}
 use Rattle.model.specs.Lists.{range}
 use Rattle.model.specs.Image.{gates, statementAt, scopeStatements}
-use Rattle.model.specs.Check.{Verdict, fine, bad, firstBad, orElse, flaw, everyStatement, statementEntries}
+use Rattle.model.specs.Check.{Flaw, fine, bad, firstBad, orElse, flaw, everyStatement, statementEntries}
 use Rattle.model.proofs.Ranges.{one-more, bad-next, bad-here, bad-none}
 use Rattle.image_entries.specs.declared.Fault.{Fault}
 use Rattle.image_entries.specs.Faults.{verdictOfFault}
@@ -19,7 +19,7 @@ pub fault-is : (k p : ℕ) → ¬ (k ≡ 0) → cond (eqb k 0) fine (bad k p) �
 fault-is k p n = rw (ne-eqb k 0 n) refl
 
 -- ---- the first bad statement of a scope, from s on
-module _ (number place : ℕ → ℕ) (v : Verdict) where
+module _ (number place : ℕ → ℕ) (v : Flaw) where
   abbrev pub From : ℕ → ℕ → Type 0
   From s n = firstBad number place (range s (n - s)) ≡ v
 
@@ -51,12 +51,12 @@ module _ {A : Type 0} (number place : A → ℕ) where
   bad-map : {B : Type 0} (f : B → A) (xs : List B) → firstBad number place (map f xs) ≡ firstBad (λ x. number (f x)) (λ x. place (f x)) xs
   unfolding firstBad
   bad-map f [] = refl
-  bad-map f (x ∷ xs) = ap (λ (v : Verdict). cond (eqb (number (f x)) 0) v (bad (number (f x)) (place (f x)))) (bad-map f xs)
+  bad-map f (x ∷ xs) = ap (λ (v : Flaw). cond (eqb (number (f x)) 0) v (bad (number (f x)) (place (f x)))) (bad-map f xs)
 
 -- ---- the scopes from i to below n
 module _ (image : List ℕ) where
-  abbrev pub scopeVerdict : ℕ → Verdict
-  scopeVerdict scope = firstBad (λ s. flaw image scope s) (statementAt image) (scopeStatements image scope)
+  abbrev pub scopeFlaw : ℕ → Flaw
+  scopeFlaw scope = firstBad (λ s. flaw image scope s) (statementAt image) (scopeStatements image scope)
 
   abbrev flawOf : ℕ × ℕ → ℕ
   flawOf x = flaw image (x .0) (x .1)
@@ -67,15 +67,15 @@ module _ (image : List ℕ) where
   abbrev entriesOf : ℕ → List (ℕ × ℕ)
   entriesOf scope = map (λ s. (scope, s)) (scopeStatements image scope)
 
-  abbrev scopesFrom : ℕ → ℕ → Verdict
+  abbrev scopesFrom : ℕ → ℕ → Flaw
   scopesFrom i n = firstBad flawOf placeOf (flatMap entriesOf (range i (n - i)))
 
-  step : (i n : ℕ) → i < n → scopesFrom i n ≡ orElse (scopeVerdict i) (scopesFrom (i + 1) n)
+  step : (i n : ℕ) → i < n → scopesFrom i n ≡ orElse (scopeFlaw i) (scopesFrom (i + 1) n)
   unfolding flatMap
   step i n h =
       ap (λ (l : List ℕ). firstBad flawOf placeOf (flatMap entriesOf l)) (one-more i n h)
       ∙ bad-append flawOf placeOf (entriesOf i) (flatMap entriesOf (range (i + 1) (n - (i + 1))))
-      ∙ ap (λ (v : Verdict). orElse v (scopesFrom (i + 1) n)) (bad-map flawOf placeOf (λ s. (i, s)) (scopeStatements image i))
+      ∙ ap (λ (v : Flaw). orElse v (scopesFrom (i + 1) n)) (bad-map flawOf placeOf (λ s. (i, s)) (scopeStatements image i))
 
   -- what is left to find is what all of them hold
   abbrev pub Scopes : ℕ → ℕ → Type 0
@@ -87,14 +87,14 @@ module _ (image : List ℕ) where
       let size : n + 1 - 0 ≡ suc (gates image) = omega arith in
       ap (λ (k : ℕ). firstBad flawOf placeOf (flatMap entriesOf (range 0 k))) size
 
-  pub scopes-next : (i n : ℕ) (f : Fault) → Scopes i n → i ≤ n → verdictOfFault f ≡ scopeVerdict i → f .number ≡ 0 → Scopes (i + 1) n
+  pub scopes-next : (i n : ℕ) (f : Fault) → Scopes i n → i ≤ n → verdictOfFault f ≡ scopeFlaw i → f .number ≡ 0 → Scopes (i + 1) n
   scopes-next i n f h j e z =
-      sym (step i (n + 1) (omega arith) ∙ ap (λ (v : Verdict). orElse v (scopesFrom (i + 1) (n + 1))) (fault-none f (scopeVerdict i) e z)) ∙ h
+      sym (step i (n + 1) (omega arith) ∙ ap (λ (v : Flaw). orElse v (scopesFrom (i + 1) (n + 1))) (fault-none f (scopeFlaw i) e z)) ∙ h
 
-  pub scopes-here : (i n : ℕ) (f : Fault) → Scopes i n → i ≤ n → verdictOfFault f ≡ scopeVerdict i → ¬ (f .number ≡ 0) → verdictOfFault f ≡ statementEntries image
+  pub scopes-here : (i n : ℕ) (f : Fault) → Scopes i n → i ≤ n → verdictOfFault f ≡ scopeFlaw i → ¬ (f .number ≡ 0) → verdictOfFault f ≡ statementEntries image
   scopes-here i n f h j e z =
       let b = fault-is (f .number) (f .place) z in
-      b ∙ sym (step i (n + 1) (omega arith) ∙ ap (λ (v : Verdict). orElse v (scopesFrom (i + 1) (n + 1))) (sym e ∙ b)) ∙ h
+      b ∙ sym (step i (n + 1) (omega arith) ∙ ap (λ (v : Flaw). orElse v (scopesFrom (i + 1) (n + 1))) (sym e ∙ b)) ∙ h
 
   pub scopes-end : (i n : ℕ) → Scopes i n → n < i → fine ≡ statementEntries image
   unfolding flatMap firstBad range

@@ -9,7 +9,7 @@ ghost use Prim.Native.Nat.{ℕ, _≤_};
 ghost use Rattle.model.specs.Lists.{all};
 ghost use Rattle.model.specs.Image.{U, CX, Gate, Barrier, Measure, Reset, statement, statementAt, scopeStatements};
 ghost use Rattle.model.specs.Check.{firstBad, expressionOk, downward, conditionalFlaw, plainFlaw, flaw, registers, gateEntries, statementEntries, check, firstOf, inConditional, orElse};
-ghost use Rattle.image.specs.Answer.{verdictOf};
+ghost use Rattle.image.specs.Answer.{answerFlaw};
 ghost use Rattle.image.specs.Layout.{LayoutOf, GatesAccepted};
 ghost use Rattle.image_entries.specs.Faults.{verdictOfFault};
 ghost use Rattle.image_entries.specs.Judging.{JudgementTables};
@@ -443,7 +443,7 @@ fn first_fault(image: &[u64], l: Layout) -> Fault
 // The answer with a fault's number.
 fn answer_of(f: Fault) -> CheckAnswer
     requires { ⌜ (f .number ≤ 8) × ((f .number ≡ 1) → ⊥) ⌝ }
-    ensures { λ r. ⌜ verdictOf r ≡ verdictOfFault f ⌝ }
+    ensures { λ r. ⌜ answerFlaw r ≡ verdictOfFault f ⌝ }
 {
     let number = f.number;
     match number {
@@ -460,7 +460,7 @@ fn answer_of(f: Fault) -> CheckAnswer
 
 // Accepts an image, or tells what is wrong with it and where.
 pub fn check(image: &[u64]) -> CheckAnswer
-    ensures { λ r. ⌜ verdictOf r ≡ check (now (image .entry)) ⌝ }
+    ensures { λ r. ⌜ answerFlaw r ≡ check (now (image .entry)) ⌝ }
 {
     let read = image::read_contents(image);
     let Contents::Right(l) = read else {

@@ -3,12 +3,12 @@ use Prim.Native.Nat.{ℕ, suc}
 use mathlib.Core.Bool.{cond}
 use mathlib.Core.List.{[], _∷_, map}
 use lib.Dec.{eqb, leb}
-use Rattle.model.specs.Check.{Verdict, fine, bad, firstOf}
+use Rattle.model.specs.Check.{Flaw, fine, bad, firstOf}
 use Rattle.model.specs.Lists.{range, sum, every}
 use Rattle.image_entries.specs.declared.Fault.{Fault}
 
 -- a fault that a part of the check found: number 0 is none
-abbrev pub verdictOfFault : Fault → Verdict
+abbrev pub verdictOfFault : Fault → Flaw
 verdictOfFault f = cond (eqb (f .number) 0) fine (bad (f .number) (f .place))
 
 -- register r of some sizes, as quantumRegisterFlaw and classicalRegisterFlaw say

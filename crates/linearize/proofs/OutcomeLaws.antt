@@ -11,9 +11,9 @@ use lib.ListN.{length, take, drop}
 use lib.Seq.{sets-eq, take-append-seam}
 use Rattle.model.specs.Lists.{range, sum}
 use Rattle.model.specs.Image.{mainStatements}
-use Rattle.model.specs.Check.{Verdict, fine, bad, check}
+use Rattle.model.specs.Check.{Flaw, fine, bad, check}
 use Rattle.model.specs.Steps.{steps}
-use Rattle.model.specs.Run.{Answer, done, full, traceOf, Played, rejected, accepted, play, runs, output, Outcome, laidOver, outcomeOf, linearize}
+use Rattle.model.specs.Run.{Answer, done, full, traceOf, Played, flawed, accepted, play, runs, output, Outcome, laidOver, outcomeOf, linearize}
 use Rattle.model.specs.Tally.{recordFigure, wordBound}
 use Rattle.model.specs.Reader.{recordsIn}
 use Rattle.model.specs.Claims.{Claims, count, declared, distinct}
@@ -24,7 +24,7 @@ use denote.Enum.Declared.{tagOf}
 use Rattle.image.proofs.CheckAnswer.{the-type}
 use Rattle.image.specs.declared.CheckAnswer.the-variants as answer
 use Rattle.image.specs.declared.CheckAnswer.{CheckAnswer}
-use Rattle.image.specs.Answer.{verdictOf, numberIn, placeIn}
+use Rattle.image.specs.Answer.{answerFlaw, numberIn, placeIn}
 use Rattle.record_writer.specs.declared.Position.{Position}
 use Rattle.record_writer.specs.declared.LinearizeErrorKind.{LinearizeErrorKind}
 use Rattle.record_writer.specs.declared.LinearizeErrorKind.the-variants as kind
@@ -106,11 +106,11 @@ module _ (image : List ℕ) (depth : ℕ) (out trace : List ℕ) where
   unfolding linearize runs output flatMap traceOf
   short-trace h = linearizes image depth out trace (sym (rw (lt-ltb (length trace) 256 h) refl))
 
-  pub not-accepted : {c : CheckAnswer} → 256 ≤ length trace → verdictOf c ≡ check image → ¬ (verdictOf c ≡ fine) → Linearizes image depth out trace (refusedWith (kind.Rejected c)) out trace
+  pub not-accepted : {c : CheckAnswer} → 256 ≤ length trace → answerFlaw c ≡ check image → ¬ (answerFlaw c ≡ fine) → Linearizes image depth out trace (refusedWith (kind.Rejected c)) out trace
   unfolding linearize runs accepted output flatMap traceOf
-  not-accepted {c} h e n = linearizes image depth out trace (sym (rw (le-ltb (length trace) 256 h, ← e) (go (verdictOf c) n)))
+  not-accepted {c} h e n = linearizes image depth out trace (sym (rw (le-ltb (length trace) 256 h, ← e) (go (answerFlaw c) n)))
     where
-      go : (v : Verdict) → ¬ (v ≡ fine) → outcomeOf (accepted v (play (length out) (steps image depth))) out trace ≡ record { answer = rejected (numberIn v) (placeIn v); records = 0; outputWords = 0; traceWords = 0; outputLeft = out; traceLeft = trace }
+      go : (v : Flaw) → ¬ (v ≡ fine) → outcomeOf (accepted v (play (length out) (steps image depth))) out trace ≡ record { answer = flawed (numberIn v) (placeIn v); records = 0; outputWords = 0; traceWords = 0; outputLeft = out; traceLeft = trace }
       go fine n = absurd (n refl)
       go (bad k p) n = refl
 
@@ -118,7 +118,7 @@ module _ (image : List ℕ) (depth : ℕ) (out trace : List ℕ) where
 bad-is-not-fine : {n p : ℕ} → ¬ (bad n p ≡ fine)
 bad-is-not-fine e = let z : _≡_ {A = ℕ} 0 1 = cc in omega arith
 
-pub not-fine : (v : CheckAnswer) → OneOf (1 ∷ 2 ∷ 3 ∷ 4 ∷ 5 ∷ 6 ∷ 7 ∷ 8 ∷ []) (tagOf the-type v) → ¬ (verdictOf v ≡ fine)
+pub not-fine : (v : CheckAnswer) → OneOf (1 ∷ 2 ∷ 3 ∷ 4 ∷ 5 ∷ 6 ∷ 7 ∷ 8 ∷ []) (tagOf the-type v) → ¬ (answerFlaw v ≡ fine)
 not-fine answer.Accepted k e = absurd (miss (1 ∷ 2 ∷ 3 ∷ 4 ∷ 5 ∷ 6 ∷ 7 ∷ 8 ∷ []) 0 tt k)
 not-fine answer.Contents k e = bad-is-not-fine e
 not-fine (answer.Register p) k e = bad-is-not-fine e

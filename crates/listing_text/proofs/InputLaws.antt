@@ -12,7 +12,7 @@ use lib.ListN.{length, getD, take, drop, set, replicate, length-replicate}
 use lib.Seq.{sets, sets-eq, length-sets, length-take-le, drop-cons, drop-drop}
 use Rattle.model.specs.Lists.{every}
 use Rattle.model.specs.Check.{bad, contentsOk, check}
-use Rattle.model.specs.Run.{stop, rejected, accepted, runs, numbers}
+use Rattle.model.specs.Run.{stop, flawed, accepted, runs, numbers}
 use Rattle.model.specs.Listing.{littleEndian, wordsOf, refusedText, runText, listing}
 use Rattle.listing_text.specs.Put.{Put, imageText, InFront}
 use Rattle.record_writer.proofs.WriteLaws.{put-more, front}
@@ -91,7 +91,7 @@ cut-same f long h m n bytes e = go (ltb m 8193) refl e
     go false c d =
         h (wordsOf n bytes) (omega (arith, length-words n bytes)) ∙ sym (h (wordsOf m bytes) (omega (arith, length-words m bytes, ltb-false m 8193 c)))
 
-long-run : (depth : ℕ) (image : List ℕ) → 8192 < length image → runs image depth 8192 256 ≡ stop (rejected 1 0)
+long-run : (depth : ℕ) (image : List ℕ) → 8192 < length image → runs image depth 8192 256 ≡ stop (flawed 1 0)
 unfolding runs accepted
 long-run depth image h = rw (too-long image h) refl
 
@@ -162,7 +162,7 @@ image-put input {n} {ws′} {depth} e r d p =
     let f : take n ws′ ≡ wordsOf n (drop 8 input) = read-front (replicate 8193 0) (drop 8 input) (cut-fits (length input / 8 - 1) e) r in
     put-same
     (ap (λ (l : List ℕ). runText (runs l depth 8192 256)) f
-    ∙ ap runText (cut-same (λ (l : List ℕ). runs l depth 8192 256) (stop (rejected 1 0)) (long-run depth) (length input / 8 - 1) n (drop 8 input) e)
+    ∙ ap runText (cut-same (λ (l : List ℕ). runs l depth 8192 256) (stop (flawed 1 0)) (long-run depth) (length input / 8 - 1) n (drop 8 input) e)
     ∙ ap (λ (k : ℕ). runText (runs (wordsOf (length input / 8 - 1) (drop 8 input)) k 8192 256)) d)
     p
 

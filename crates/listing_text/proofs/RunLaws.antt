@@ -8,7 +8,7 @@ use lib.Seq.{take-append-seam, length-take-le}
 use Rattle.value.specs.Value.{Sound}
 use Rattle.model.specs.Records.{Record, encode}
 use Rattle.model.specs.Steps.{Step, write, enter, refuse, steps}
-use Rattle.model.specs.Run.{Answer, Played, runs, output, traceOf, told, laidOver, linearize}
+use Rattle.model.specs.Run.{Answer, Played, runs, output, traceOf, answerNumbers, laidOver, linearize}
 use Rattle.model.specs.Reader.{recordsIn}
 use Rattle.model.specs.Claims.{anglesOf}
 use Rattle.model.specs.Listing.{fromText, refusedText, closing, recordText, runText}
@@ -51,7 +51,7 @@ written-sound image depth n m = go (ran-either image depth n m)
 
 -- ---- the end of an answer
 
-refused-closing : (k : LinearizeErrorKind) (t : List ℕ) (n : ℕ) → traceOf (refusalAnswer k t) ≡ t → fromText t ++ refusedText (told (refusalAnswer k t)) ≡ closing (refusalAnswer k t) n
+refused-closing : (k : LinearizeErrorKind) (t : List ℕ) (n : ℕ) → traceOf (refusalAnswer k t) ≡ t → fromText t ++ refusedText (answerNumbers (refusalAnswer k t)) ≡ closing (refusalAnswer k t) n
 unfolding closing traceOf fromText
 refused-closing (kind.DivideByZero p) t n e = refl
 refused-closing (kind.ApproximateFail p f) t n e = refl
@@ -117,12 +117,12 @@ module _ {image : List ℕ} {depth : ℕ} {out trace : List ℕ} {r : Linearized
 
   -- ---- with an output of 8,192 words and a trace of 256, into a text that is long enough
 
-  module _ (eo : length out ≡ 8192) (et : length trace ≡ 256) {at : Position} (told : at ≡ positionOf r) where
+  module _ (eo : length out ≡ 8192) (et : length trace ≡ 256) {at : Position} (at-end : at ≡ positionOf r) where
     abbrev n : ℕ
     n = at .words
 
     en : n ≡ positionOf r .words
-    en = ap (λ x. x .words) told
+    en = ap (λ x. x .words) at-end
 
     same-out : length out′ ≡ length out
     unfolding linearize

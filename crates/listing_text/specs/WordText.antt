@@ -6,7 +6,7 @@ use mathlib.Core.List.{List, [], _∷_, _++_, flatMap}
 use lib.Dec.{eqb, ltb, leb}
 use lib.ListN.{getD, drop}
 use Rattle.model.specs.Records.{Record, encode}
-use Rattle.model.specs.Run.{told}
+use Rattle.model.specs.Run.{answerNumbers}
 use Rattle.model.specs.Listing.{ascii, decimal, line, fromText, refusedText}
 use Rattle.record_writer.specs.declared.Linearized.{Linearized}
 use Rattle.record_writer.specs.declared.Linearized.the-variants as linearized
@@ -45,4 +45,4 @@ twoText a b = (32 ∷ decimal a) ++ ((32 ∷ decimal b) ++ 10 ∷ [])
 -- an answer's closing lines, with the words of its trace
 unfoldable pub endText : Linearized → List ℕ → List ℕ
 endText (linearized.Done p) t = line (ascii "done" ∷ decimal (p .records) ∷ [])
-endText (linearized.Refused e) t = fromText t ++ refusedText (told (refusalAnswer (e .kind) t))
+endText (linearized.Refused e) t = fromText t ++ refusedText (answerNumbers (refusalAnswer (e .kind) t))

@@ -9,7 +9,7 @@ use lib.ListN.{getD}
 use Rattle.model.specs.Lists.{range, sum}
 use Rattle.model.proofs.All.{All, nil, cons, and-T, test, of-All, flat-All, range-All}
 use Rattle.model.specs.Image.{gates, gateParameters, gateArguments, quantumRegisters, classicalRegisters, quantumSize, classicalSize, qubits, bits, firstQubit, firstBit, scopeStatements, quantumRegisterAt, classicalRegisterAt}
-use Rattle.model.specs.Check.{Verdict, fine, bad, orElse, firstOf, firstBad, contentsOk, quantumRegisterFlaw, classicalRegisterFlaw, gateOk, gateFlaw, flaw, everyStatement, registers, gateEntries, statementEntries, check}
+use Rattle.model.specs.Check.{Flaw, fine, bad, orElse, firstOf, firstBad, contentsOk, quantumRegisterFlaw, classicalRegisterFlaw, gateOk, gateFlaw, flaw, everyStatement, registers, gateEntries, statementEntries, check}
 
 -- tests that give a number each: where none is given the i-th passes
 abbrev pub numbered : List (Bool × ℕ) → Bool
@@ -27,11 +27,11 @@ passes i (t ∷ ts) e n = go (t .0) refl e (and-T (ltb 0 (t .1)) (numbered ts) n
     go true p q n later (suc j) = later j q (n .1)
     go false p q n later j = absurd (omega (arith, ltb→lt 0 (t .1) (n .0)))
 
-or-else : (u v : Verdict) → orElse u v ≡ fine → (u ≡ fine) × (v ≡ fine)
+or-else : (u v : Flaw) → orElse u v ≡ fine → (u ≡ fine) × (v ≡ fine)
 or-else fine v e = (refl, e)
 or-else (bad n p) v e = absurd (let z : _≡_ {A = ℕ} 0 1 = cc in omega arith)
 
-pick : (b : Bool) (v : Verdict) (n p : ℕ) → cond b v (bad n p) ≡ fine → T b × (v ≡ fine)
+pick : (b : Bool) (v : Flaw) (n p : ℕ) → cond b v (bad n p) ≡ fine → T b × (v ≡ fine)
 pick true v n p e = (tt, e)
 pick false v n p e = absurd (let z : _≡_ {A = ℕ} 0 1 = cc in omega arith)
 

@@ -7,7 +7,7 @@ use mathlib.Core.Logic.{_⊎_, inl, inr, ⊎-elim}
 use mathlib.Core.List.{List, [], _∷_, List·Memᴰ·not-nil, List·Memᴰ·cases-cons}
 use borrow.Author.Tests.{eqb-true, eqb-false}
 use lib.Dec.{eqb}
-use Rattle.model.specs.Check.{Verdict, fine, bad, orElse, firstBad, contentsOk, registers, gateEntries, statementEntries, check}
+use Rattle.model.specs.Check.{Flaw, fine, bad, orElse, firstBad, contentsOk, registers, gateEntries, statementEntries, check}
 use Rattle.model.specs.Claims.{FirstOfList, CheckClaims}
 
 -- the first of a list whose number is not 0
@@ -42,7 +42,7 @@ first-bad number place (x ∷ l) n p e = go (eqb (number x) 0) refl e (first-bad
           is-bad = λ d. eqb-false (number x) 0 z (cc);
         }
 
-or-bad : (u v : Verdict) (n p : ℕ) → orElse u v ≡ bad n p → (u ≡ bad n p) ⊎ (u ≡ fine) × (v ≡ bad n p)
+or-bad : (u v : Flaw) (n p : ℕ) → orElse u v ≡ bad n p → (u ≡ bad n p) ⊎ (u ≡ fine) × (v ≡ bad n p)
 or-bad fine v n p e = inr (refl, e)
 or-bad (bad m q) v n p e = inl e
 

@@ -12,9 +12,9 @@ use borrow.Author.Tests.{ltb-false}
 use Rattle.model.specs.Lists.{range, sum, all}
 use Rattle.model.specs.Image.{mainStatements}
 use Rattle.model.specs.Records.{Record, kind, encode}
-use Rattle.model.specs.Check.{Verdict, fine, bad, check}
+use Rattle.model.specs.Check.{Flaw, fine, bad, check}
 use Rattle.model.specs.Steps.{Step, write, enter, refuse, steps}
-use Rattle.model.specs.Run.{Answer, done, full, rejected, shortTrace, Played, stop, after, traceOf, play, accepted, runs, output, laidOver, linearize}
+use Rattle.model.specs.Run.{Answer, done, full, flawed, shortTrace, Played, stop, after, traceOf, play, accepted, runs, output, laidOver, linearize}
 use Rattle.model.specs.Tally.{weightTally, ofKind, theWords, recordFigure, entryFigure, wordBound}
 use Rattle.model.specs.Reader.{recordsIn}
 use Rattle.model.specs.Claims.{count, declared, distinct, Claims, written, recordsFound}
@@ -186,10 +186,10 @@ module _ (w : List ℕ) (depth outWords traceWords : ℕ) where
   unfolding runs accepted traceOf
   ran-either = go (ltb traceWords 256) refl (check w) refl
     where
-      go : (b : Bool) → ltb traceWords 256 ≡ b → (v : Verdict) → check w ≡ v → Ran (cond b (stop shortTrace) (accepted v (play outWords (steps w depth))))
+      go : (b : Bool) → ltb traceWords 256 ≡ b → (v : Flaw) → check w ≡ v → Ran (cond b (stop shortTrace) (accepted v (play outWords (steps w depth))))
       go true l v c = none shortTrace (λ e. absurd (let z : _≡_ {A = ℕ} 0 1 = cc in omega arith)) (λ t e. absurd (let z : _≡_ {A = ℕ} 0 1 = cc in omega arith)) refl
       go false l fine c = plays c l
-      go false l (bad n p) c = none (rejected n p) (λ e. absurd (let z : _≡_ {A = ℕ} 0 1 = cc in omega arith)) (λ t e. absurd (let z : _≡_ {A = ℕ} 0 1 = cc in omega arith)) refl
+      go false l (bad n p) c = none (flawed n p) (λ e. absurd (let z : _≡_ {A = ℕ} 0 1 = cc in omega arith)) (λ t e. absurd (let z : _≡_ {A = ℕ} 0 1 = cc in omega arith)) refl
 
   -- of each kind no more records are written than the tally says, and as many where the run is done
   records-most : (k : ℕ) → weighsRecords (ofKind k) (ran .written) ≤ recordFigure w depth k

@@ -13,7 +13,7 @@ use lib.Seq.{sets, sets-eq, length-sets}
 use Rattle.model.specs.Lists.{range}
 use Rattle.model.specs.Records.{Record, encode}
 use Rattle.model.specs.Steps.{Step, write, enter, refuse, inRounds}
-use Rattle.model.specs.Run.{Answer, done, refused, full, rejected, shortTrace, Played, stop, after, play, output, laidOver}
+use Rattle.model.specs.Run.{Answer, done, refused, full, flawed, shortTrace, Played, stop, after, play, output, laidOver}
 use Rattle.model.specs.Playing.{Place, room, Plays, Going}
 use Rattle.model.proofs.ReadBack.{words-enough}
 
@@ -72,7 +72,7 @@ next : List Step → Place → Answer → Place × Answer
 next ss p done = comes ss p
 next ss p (refused t x) = (p, refused t x)
 next ss p (full t) = (p, full t)
-next ss p (rejected n q) = (p, rejected n q)
+next ss p (flawed n q) = (p, flawed n q)
 next ss p shortTrace = (p, shortTrace)
 
 abbrev onward : List Step → Place × Answer → Place × Answer
@@ -83,7 +83,7 @@ unfolding next
 stays ss p done h = absurd (h refl)
 stays ss p (refused t x) h = refl
 stays ss p (full t) h = refl
-stays ss p (rejected n q) h = refl
+stays ss p (flawed n q) h = refl
 stays ss p shortTrace h = refl
 
 comes-append : (s ss : List Step) (p : Place) → comes (s ++ ss) p ≡ onward ss (comes s p)

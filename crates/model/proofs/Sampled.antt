@@ -2,7 +2,7 @@
 use Prim.Native.Nat.{ℕ}
 use mathlib.Core.List.{List, [], _∷_}
 use lib.ListN.{length}
-use Rattle.model.specs.Run.{Played, told, traceOf, runs, output}
+use Rattle.model.specs.Run.{Played, answerNumbers, traceOf, runs, output}
 use Rattle.model.specs.Tally.{TallyAnswer, tallied, refused, tally}
 
 pub record Sample : Type 0 where
@@ -28,7 +28,7 @@ tallyNumbers (tallied nine) = nine
 tallyNumbers (refused n p) = n ∷ p ∷ []
 
 abbrev tellingOf : Played → List ℕ
-tellingOf p = let n = told (p .answer) in n .number ∷ n .place ∷ n .second ∷ length (p .written) ∷ []
+tellingOf p = let n = answerNumbers (p .answer) in n .number ∷ n .place ∷ n .second ∷ length (p .written) ∷ []
 
 unfoldable pub computed : Sample → List (List ℕ)
 computed s =

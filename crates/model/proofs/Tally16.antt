@@ -8,7 +8,7 @@ use mathlib.Core.List.{List, [], _∷_, List·Memᴰ, List·Memᴰ·head, List·
 use borrow.Author.Tests.{leb-false}
 use lib.Dec.{T, leb, leb→le}
 use Rattle.model.specs.Lists.{all}
-use Rattle.model.specs.Check.{Verdict, fine, bad, check}
+use Rattle.model.specs.Check.{Flaw, fine, bad, check}
 use Rattle.model.specs.Tally.{tallied, refused, figures, ifAccepted, tally}
 use Rattle.model.proofs.All.{all-All, members-All}
 
@@ -35,7 +35,7 @@ module _ (image : List ℕ) (depth : ℕ) where
   unfolding tally ifAccepted
   refused-16 f = go (check image) small f refl
     where
-      go : (v : Verdict) (b : Bool) → v ≡ fine → small ≡ b → (ifAccepted v (cond b (tallied (figures image depth)) (refused 16 0)) ≡ refused 16 0) ↔ Passes 4294967295 (figures image depth)
+      go : (v : Flaw) (b : Bool) → v ≡ fine → small ≡ b → (ifAccepted v (cond b (tallied (figures image depth)) (refused 16 0)) ≡ refused 16 0) ↔ Passes 4294967295 (figures image depth)
       go (bad n p) b f e = absurd (let z : _≡_ {A = ℕ} 0 1 = cc in omega arith)
       go fine true f e =
           let each = all-All _ (figures image depth) (subst T (sym e) tt) in
@@ -46,7 +46,7 @@ module _ (image : List ℕ) (depth : ℕ) where
   unfolding tally ifAccepted
   tallied-figures l = go (check image) small
     where
-      go : (v : Verdict) (b : Bool) → ifAccepted v (cond b (tallied (figures image depth)) (refused 16 0)) ≡ tallied l → l ≡ figures image depth
+      go : (v : Flaw) (b : Bool) → ifAccepted v (cond b (tallied (figures image depth)) (refused 16 0)) ≡ tallied l → l ≡ figures image depth
       go (bad n p) b e = cc
       go fine true e = cc
       go fine false e = cc

@@ -10,7 +10,7 @@ use Rattle.value.specs.declared.Value.{Value}
 use Rattle.model.specs.Image.{Statement, Gate, Conditional, statement, statementAt, gateBody, scopeStatements}
 use Rattle.model.specs.Records.{Record, encode}
 use Rattle.model.specs.Steps.{Step, write, enter, refuse, Frame, Opening, Values, have, lack, given, inRounds, qubitIn, argumentQubits, parameterValues, withValues, writeU, writeCX, distinctly, writeOpaque, writeMeasure, writeReset, pushFrame, openGate, visitGate, visitPlain, visitConditional, visitStatement, visitBody, opening}
-use Rattle.model.specs.Run.{Answer, done, refused, full, rejected, shortTrace, Played, stop, after, play, output}
+use Rattle.model.specs.Run.{Answer, done, refused, full, flawed, shortTrace, Played, stop, after, play, output}
 use Rattle.model.specs.Playing.{Place, room, Plays}
 
 map-append : (f : Step → Step) (s t : List Step) → map f (s ++ t) ≡ map f s ++ map f t
@@ -37,7 +37,7 @@ module _ (u : List ℕ) where
   underAnswer done = done
   underAnswer (refused t x) = refused (u ++ t) x
   underAnswer (full t) = full (u ++ t)
-  underAnswer (rejected n p) = rejected n p
+  underAnswer (flawed n p) = flawed n p
   underAnswer shortTrace = shortTrace
 
   abbrev pub deeper : Frame → Frame

@@ -9,9 +9,9 @@ use Rattle.model.specs.Image.{Statement, U, CX, Gate, Barrier, Measure, 
 use Rattle.model.specs.Image.{word, quantumRegisters, classicalRegisters, gates, mainStatements, allStatements, arguments, parameters, expressions, quantumRegisterAt, classicalRegisterAt, gateAt, statementAt, expressionAt, quantumSize, classicalSize, firstQubit, firstBit, gateParameters, gateArguments, gateBody, bodyStart, bodyLength, parameter, argumentRegister, argumentIndex, variables, scopeStatements, argumentSize, classicalArgumentSize}
 
 -- nothing wrong, or a number with its place
-pub data Verdict : Type 0 where
-  fine : Verdict
-  bad : (number place : ℕ) → Verdict
+pub data Flaw : Type 0 where
+  fine : Flaw
+  bad : (number place : ℕ) → Flaw
 
 -- the first test that fails gives its number; 0 is none
 unfoldable pub firstOf : List (Bool × ℕ) → ℕ
@@ -19,11 +19,11 @@ firstOf [] = 0
 firstOf (t ∷ ts) = cond (t .0) (firstOf ts) (t .1)
 
 -- "each at the first bad one": the first entry whose number is not 0, with its place
-unfoldable pub firstBad : {A : Type 0} → (A → ℕ) → (A → ℕ) → List A → Verdict
+unfoldable pub firstBad : {A : Type 0} → (A → ℕ) → (A → ℕ) → List A → Flaw
 firstBad number place [] = fine
 firstBad number place (x ∷ xs) = let later = firstBad number place xs in cond (eqb (number x) 0) later (bad (number x) (place x))
 
-abbrev pub orElse : Verdict → Verdict → Verdict
+abbrev pub orElse : Flaw → Flaw → Flaw
 orElse fine v = v
 orElse (bad n p) v = bad n p
 
@@ -153,17 +153,17 @@ module _ (image : List ℕ) where
   everyStatement = flatMap (λ scope. map (λ s. (scope, s)) (scopeStatements image scope)) (range 0 (suc (gates image)))
 
   -- "quantum registers first"
-  unfoldable pub registers : Verdict
+  unfoldable pub registers : Flaw
   registers =
       orElse (firstBad quantumRegisterFlaw (quantumRegisterAt image) (range 0 (quantumRegisters image)))
       (firstBad classicalRegisterFlaw (classicalRegisterAt image) (range 0 (classicalRegisters image)))
 
-  unfoldable pub gateEntries : Verdict
+  unfoldable pub gateEntries : Flaw
   gateEntries = firstBad gateFlaw (gateAt image) (range 0 (gates image))
 
   -- the first bad statement, which document 01 leaves open
-  unfoldable pub statementEntries : Verdict
+  unfoldable pub statementEntries : Flaw
   statementEntries = firstBad (λ x. flaw (x .0) (x .1)) (λ x. statementAt image (x .1)) everyStatement
 
-  unfoldable pub check : Verdict
+  unfoldable pub check : Flaw
   check = cond contentsOk (orElse registers (orElse gateEntries statementEntries)) (bad 1 0)

@@ -10,7 +10,7 @@ use lib.Dec.{eqb, ltb, leb}
 use Rattle.rational.specs.declared.Rational64.{Rational64}
 use Rattle.value.specs.declared.Value.{Value}
 use Rattle.model.specs.Records.{Record, kind, fields}
-use Rattle.model.specs.Run.{Numbers, numbers, Answer, done, refused, full, rejected, shortTrace, told, Played, runs}
+use Rattle.model.specs.Run.{Numbers, numbers, Answer, done, refused, full, flawed, shortTrace, answerNumbers, Played, runs}
 
 -- ---- text
 
@@ -70,10 +70,10 @@ refusedText n = line (ascii "refused" ∷ decimal (n .number) ∷ decimal (n .pl
 -- "A finished run closes with `done` and the number of records, the head among them."
 unfoldable pub closing : Answer → ℕ → List ℕ
 closing done n = line (ascii "done" ∷ decimal n ∷ [])
-closing (refused t r) n = fromText t ++ refusedText (told (refused t r))
-closing (full t) n = fromText t ++ refusedText (told (full t))
-closing (rejected k p) n = refusedText (told (rejected k p))
-closing shortTrace n = refusedText (told shortTrace)
+closing (refused t r) n = fromText t ++ refusedText (answerNumbers (refused t r))
+closing (full t) n = fromText t ++ refusedText (answerNumbers (full t))
+closing (flawed k p) n = refusedText (answerNumbers (flawed k p))
+closing shortTrace n = refusedText (answerNumbers shortTrace)
 
 unfoldable pub runText : Played → List ℕ
 runText p = flatMap recordText (p .written) ++ closing (p .answer) (length (p .written))

@@ -5,7 +5,7 @@ use mathlib.Core.List.{List, [], _∷_, _++_, flatMap}
 use lib.ListN.{length, drop}
 use lib.Dec.{leb, ltb}
 use Rattle.model.specs.Records.{Record, encode}
-use Rattle.model.specs.Check.{Verdict, fine, bad, check}
+use Rattle.model.specs.Check.{Flaw, fine, bad, check}
 use Rattle.model.specs.Steps.{Refusal, DivideByZero, ApproximateFail, NumericalOverflow, OverlappingRegs, FunctionOfFloats, Step, write, enter, refuse, steps}
 
 -- how a run ends: finished, a step's refusal, an output that is full (14), check's refusal, a trace that is too short (15)
@@ -13,7 +13,7 @@ pub data Answer : Type 0 where
   done : Answer
   refused : (trace : List ℕ) → Refusal → Answer
   full : (trace : List ℕ) → Answer
-  rejected : (number place : ℕ) → Answer
+  flawed : (number place : ℕ) → Answer
   shortTrace : Answer
 
 -- document 01's number, place and second place, the f32's bits for 10; "unused 0". 0 is finished.
@@ -25,23 +25,23 @@ pub record Numbers : Type 0 where
 abbrev pub numbers : ℕ → ℕ → ℕ → Numbers
 numbers n p q = record { number = n; place = p; second = q }
 
-unfoldable pub told : Answer → Numbers
-told done = numbers 0 0 0
-told (refused t (DivideByZero p)) = numbers 9 p 0
-told (refused t (ApproximateFail p f)) = numbers 10 p f
-told (refused t (NumericalOverflow p)) = numbers 11 p 0
-told (refused t (OverlappingRegs p q)) = numbers 12 p q
-told (refused t (FunctionOfFloats p)) = numbers 13 p 0
-told (full t) = numbers 14 0 0
-told (rejected n p) = numbers n p 0
-told shortTrace = numbers 15 0 0
+unfoldable pub answerNumbers : Answer → Numbers
+answerNumbers done = numbers 0 0 0
+answerNumbers (refused t (DivideByZero p)) = numbers 9 p 0
+answerNumbers (refused t (ApproximateFail p f)) = numbers 10 p f
+answerNumbers (refused t (NumericalOverflow p)) = numbers 11 p 0
+answerNumbers (refused t (OverlappingRegs p q)) = numbers 12 p q
+answerNumbers (refused t (FunctionOfFloats p)) = numbers 13 p 0
+answerNumbers (full t) = numbers 14 0 0
+answerNumbers (flawed n p) = numbers n p 0
+answerNumbers shortTrace = numbers 15 0 0
 
 -- "Only 9 to 14 write a trace."
 unfoldable pub traceOf : Answer → List ℕ
 traceOf done = []
 traceOf (refused t r) = t
 traceOf (full t) = t
-traceOf (rejected n p) = []
+traceOf (flawed n p) = []
 traceOf shortTrace = []
 
 -- the records written, the bodies entered, and the answer
@@ -68,9 +68,9 @@ play room (write t r ∷ ss) =
     let rest = after r (play (room - length (encode r)) ss) in
     cond (leb (length (encode r)) room) rest (stop (full t))
 
-unfoldable pub accepted : Verdict → Played → Played
+unfoldable pub accepted : Flaw → Played → Played
 accepted fine p = p
-accepted (bad n place) p = stop (rejected n place)
+accepted (bad n place) p = stop (flawed n place)
 
 -- "15, place 0, if the trace has under 256 words; then check's."
 unfoldable pub runs : List ℕ → ℕ → ℕ → ℕ → Played

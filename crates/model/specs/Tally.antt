@@ -6,7 +6,7 @@ use mathlib.Core.Option.{Option, none, some}
 use lib.Dec.{eqb, leb}
 use Rattle.model.specs.Lists.{range, sum, largest, all}
 use Rattle.model.specs.Image.{Statement, U, CX, Gate, Barrier, Measure, Reset, Conditional, Unknown, statement, gateParameters, gateArguments, gateBody, qubits, bits, mainStatements, argumentSize, classicalArgumentSize, rounds, scopeStatements}
-use Rattle.model.specs.Check.{Verdict, fine, bad, check}
+use Rattle.model.specs.Check.{Flaw, fine, bad, check}
 
 -- Each figure adds something up: `weight kind words` for a record, and `entry` for a body entry. `opened` says what a scope's statements come to where a body is opened.
 module _ (image : List ℕ) (weight : ℕ → ℕ → ℕ) (entry : ℕ) where
@@ -75,7 +75,7 @@ pub data TallyAnswer : Type 0 where
   tallied : (nine : List ℕ) → TallyAnswer
   refused : (number place : ℕ) → TallyAnswer
 
-unfoldable pub ifAccepted : Verdict → TallyAnswer → TallyAnswer
+unfoldable pub ifAccepted : Flaw → TallyAnswer → TallyAnswer
 ifAccepted fine a = a
 ifAccepted (bad n p) a = refused n p
 

@@ -16,7 +16,7 @@ use Rattle.model.proofs.Accepted.{Accepted, accepts}
 use Rattle.model.proofs.Deep.{deep-figures}
 use Rattle.image.specs.declared.CheckAnswer.{CheckAnswer}
 use Rattle.image.proofs.CheckAnswer.{the-type}
-use Rattle.image.specs.Answer.{verdictOf}
+use Rattle.image.specs.Answer.{answerFlaw}
 use Rattle.image.specs.declared.CheckAnswer.the-variants as answer
 use Rattle.tally.specs.Weights.{weightOf, entryOf, capped, refusedAs}
 
@@ -87,7 +87,7 @@ module _ (image : List ℕ) (depth n m : ℕ) (nine : List ℕ) (ok : check imag
       rw (ok, same, passing (figures image (n + 1)) (omega arith)) refl
 
 -- an image that is refused
-pub not-accepted : (v : CheckAnswer) (a : TallyAnswer) → OneOf (1 ∷ 2 ∷ 3 ∷ 4 ∷ 5 ∷ 6 ∷ 7 ∷ 8 ∷ []) (tagOf the-type v) → refusedAs (verdictOf v) ≡ ifAccepted (verdictOf v) a
+pub not-accepted : (v : CheckAnswer) (a : TallyAnswer) → OneOf (1 ∷ 2 ∷ 3 ∷ 4 ∷ 5 ∷ 6 ∷ 7 ∷ 8 ∷ []) (tagOf the-type v) → refusedAs (answerFlaw v) ≡ ifAccepted (answerFlaw v) a
 unfolding ifAccepted
 not-accepted answer.Accepted a k = absurd (miss (1 ∷ 2 ∷ 3 ∷ 4 ∷ 5 ∷ 6 ∷ 7 ∷ 8 ∷ []) 0 tt k)
 not-accepted answer.Contents a k = refl

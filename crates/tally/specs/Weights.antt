@@ -6,11 +6,11 @@ use mathlib.Core.List.{List, [], _∷_}
 use mathlib.Core.Option.{Option}
 use lib.Dec.{eqb, ltb}
 use lib.ListN.{getD}
-use Rattle.model.specs.Check.{Verdict, fine, bad, check}
+use Rattle.model.specs.Check.{Flaw, fine, bad, check}
 use Rattle.model.specs.Tally.{bodyTally, openingTally, TallyAnswer, tallied, refused}
 use Rattle.image.specs.declared.Layout.{Layout}
 use Rattle.image.specs.Layout.{LayoutOf}
-use Rattle.image.specs.Answer.{verdictOf}
+use Rattle.image.specs.Answer.{answerFlaw}
 use Rattle.tally.specs.declared.Figures.{Figures}
 use Rattle.tally.specs.declared.Tallied.{Tallied}
 use Rattle.tally.specs.declared.Tallied.the-variants as answer
@@ -54,11 +54,11 @@ abbrev pub nineOf : Figures → List ℕ
 nineOf f = f .u ∷ f .cx ∷ f .opaque ∷ f .barrier ∷ f .measure ∷ f .reset ∷ f .conditional ∷ f .entries ∷ f .words ∷ []
 
 -- what the answers say in document 01's numbers
-abbrev pub refusedAs : Verdict → TallyAnswer
+abbrev pub refusedAs : Flaw → TallyAnswer
 refusedAs fine = refused 0 0
 refusedAs (bad n p) = refused n p
 
 abbrev pub tallyAnswerOf : Tallied → TallyAnswer
 tallyAnswerOf (answer.Figures f) = tallied (nineOf f)
-tallyAnswerOf (answer.Refused c) = refusedAs (verdictOf c)
+tallyAnswerOf (answer.Refused c) = refusedAs (answerFlaw c)
 tallyAnswerOf answer.TooLarge = refused 16 0

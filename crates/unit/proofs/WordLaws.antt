@@ -3,7 +3,7 @@ use Prim.Native.Nat.{ℕ}
 use mathlib.Core.Path.{_≡_, refl, ap, ap₂, _∙_}
 use mathlib.Core.List.{List, [], _∷_}
 use lib.ListN.{take}
-use Rattle.model.specs.Check.{Verdict, fine, bad}
+use Rattle.model.specs.Check.{Flaw, fine, bad}
 use Rattle.model.specs.Run as Model
 use Rattle.image.specs.Answer.{numberIn, placeIn}
 use Rattle.tally.specs.Weights.{refusedAs}
@@ -15,11 +15,11 @@ use Rattle.unit.specs.declared.Numbers.{Numbers}
 use Rattle.unit.specs.Told.{RunNumbers}
 use Rattle.unit.specs.Exports.{checkWords, tallyWords, runWords, RunExport}
 
-pub check-words : (v : Verdict) → numberIn v ∷ placeIn v ∷ [] ≡ checkWords v
+pub check-words : (v : Flaw) → numberIn v ∷ placeIn v ∷ [] ≡ checkWords v
 check-words fine = refl
 check-words (bad n p) = refl
 
-pub refused-words : (v : Verdict) → numberIn v ∷ placeIn v ∷ 0 ∷ 0 ∷ 0 ∷ 0 ∷ 0 ∷ 0 ∷ 0 ∷ 0 ∷ 0 ∷ [] ≡ tallyWords (refusedAs v)
+pub refused-words : (v : Flaw) → numberIn v ∷ placeIn v ∷ 0 ∷ 0 ∷ 0 ∷ 0 ∷ 0 ∷ 0 ∷ 0 ∷ 0 ∷ 0 ∷ [] ≡ tallyWords (refusedAs v)
 refused-words fine = refl
 refused-words (bad n p) = refl
 

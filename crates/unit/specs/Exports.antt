@@ -2,14 +2,14 @@
 use Prim.Native.Nat.{ℕ}
 use mathlib.Core.Path.{_≡_}
 use mathlib.Core.List.{List, [], _∷_}
-use Rattle.model.specs.Check.{Verdict, fine, bad}
+use Rattle.model.specs.Check.{Flaw, fine, bad}
 use Rattle.model.specs.Tally.{TallyAnswer, tallied, refused}
-use Rattle.model.specs.Run.{told, Outcome, linearize}
+use Rattle.model.specs.Run.{answerNumbers, Outcome, linearize}
 use Rattle.record_reader.specs.declared.NextRecord.{NextRecord}
 use Rattle.record_reader.specs.declared.NextRecord.the-variants as answer
 
 -- number and place, 0 0 of an accepted image
-abbrev pub checkWords : Verdict → List ℕ
+abbrev pub checkWords : Flaw → List ℕ
 checkWords fine = 0 ∷ 0 ∷ []
 checkWords (bad n p) = n ∷ p ∷ []
 
@@ -26,7 +26,7 @@ nextWords answer.Wrong = 17 ∷ 0 ∷ []
 
 -- number, place, second place, records, output words and trace words
 abbrev pub runWords : Outcome → List ℕ
-runWords o = told (o .answer) .number ∷ told (o .answer) .place ∷ told (o .answer) .second ∷ o .records ∷ o .outputWords ∷ o .traceWords ∷ []
+runWords o = answerNumbers (o .answer) .number ∷ answerNumbers (o .answer) .place ∷ answerNumbers (o .answer) .second ∷ o .records ∷ o .outputWords ∷ o .traceWords ∷ []
 
 -- a run's whole outcome
 pub record RunExport (image : List ℕ) (depth : ℕ) (out trace out′ trace′ answer : List ℕ) : Type 0 where

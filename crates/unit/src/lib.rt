@@ -9,7 +9,7 @@ ghost use mathlib.Core.Path.{_≡_};
 ghost use Rattle.model.specs.Check.{check};
 ghost use Rattle.model.specs.Tally.{tally};
 ghost use Rattle.model.specs.Reader.{nextAt};
-ghost use Rattle.image.specs.Answer.{verdictOf};
+ghost use Rattle.image.specs.Answer.{answerFlaw};
 ghost use Rattle.tally.specs.Weights.{tallyAnswerOf};
 ghost use Rattle.record_reader.specs.Answer.{nextRecordOf as nextOf, nextWordsOf};
 ghost use Rattle.record_writer.specs.Promise.{positionOf};
@@ -19,7 +19,7 @@ ghost use Rattle.unit.specs.Exports.{checkWords, tallyWords, nextWords, 
 
 // Whether an image is a checked program: accepted, or the number and the place of what is wrong.
 pub fn check(image: &[u64]) -> CheckAnswer
-    ensures { λ r. ⌜ verdictOf r ≡ check (now (image .entry)) ⌝ }
+    ensures { λ r. ⌜ answerFlaw r ≡ check (now (image .entry)) ⌝ }
 {
     image_check::check(image)
 }

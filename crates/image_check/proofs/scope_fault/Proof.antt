@@ -5,12 +5,12 @@ use denote.Ref.{now}
 use borrow.Author.Needs.{needs}
 use Rattle.model.specs.Image.{statementAt}
 use Rattle.model.specs.Check.{flaw}
-use Rattle.image_check.proofs.OrderLaws.{scopeVerdict, From, from-start, from-next, from-here, from-end}
+use Rattle.image_check.proofs.OrderLaws.{scopeFlaw, From, from-start, from-next, from-here, from-end}
 use Rattle.image_check.proofs.scope_fault.Statement.{statement}
 use Rattle.image_check.proofs.scope_fault.Tie as tie
 
 abbrev Inv-loop : tie.InvT-loop
-Inv-loop image l levels reaches scope first end s₀ s = (s ≤ end) × From (flaw image scope) (statementAt image) (scopeVerdict image scope) s end
+Inv-loop image l levels reaches scope first end s₀ s = (s ≤ end) × From (flaw image scope) (statementAt image) (scopeFlaw image scope) s end
 
 abbrev μ-loop : tie.MeasureT-loop
 μ-loop image l levels reaches scope first end s₀ s = end - s
@@ -24,7 +24,7 @@ add-end c = search needs
 loop-holds : tie.Need-loop-holds Inv-loop μ-loop
 loop-holds c =
     let a = c .before .before .before .before .before .args in
-    (omega arith, from-start (flaw (now (a .image)) (a .scope)) (statementAt (now (a .image))) (scopeVerdict (now (a .image)) (a .scope)) _ _ _ _ (c .before .statements-of .ensures .statements-are) refl refl)
+    (omega arith, from-start (flaw (now (a .image)) (a .scope)) (statementAt (now (a .image))) (scopeFlaw (now (a .image)) (a .scope)) _ _ _ _ (c .before .statements-of .ensures .statements-are) refl refl)
 
 statement-flaw-requires : tie.Need-statement-flaw-requires Inv-loop μ-loop
 statement-flaw-requires c κs = search needs
@@ -35,7 +35,7 @@ statement-at-requires c κs = search needs
 returns : tie.Need-returns Inv-loop μ-loop
 returns c =
     let a = c .before .before .before .before .before .before .before .before .before .before .args in
-    from-here (flaw (now (a .image)) (a .scope)) (statementAt (now (a .image))) (scopeVerdict (now (a .image)) (a .scope)) _ _ _ _
+    from-here (flaw (now (a .image)) (a .scope)) (statementAt (now (a .image))) (scopeFlaw (now (a .image)) (a .scope)) _ _ _ _
     (c .before .before .before .before .loop .inv .1) (c .before .before .before .loop-test .taken) (c .before .before .statement-flaw .ensures) (c .before .if1 .taken) (c .statement-at .ensures)
 
 add-s : tie.Need-add-s Inv-loop μ-loop
@@ -48,14 +48,14 @@ loop-again : tie.Need-loop-again Inv-loop μ-loop
 loop-again c =
     let a = c .before .before .before .before .before .before .before .before .before .args in (
       omega arith,
-      from-next (flaw (now (a .image)) (a .scope)) (statementAt (now (a .image))) (scopeVerdict (now (a .image)) (a .scope)) _ _ _
+      from-next (flaw (now (a .image)) (a .scope)) (statementAt (now (a .image))) (scopeFlaw (now (a .image)) (a .scope)) _ _ _
           (c .before .before .before .loop .inv .1) (c .before .before .loop-test .taken) (c .before .statement-flaw .ensures) (c .if1 .left),
     )
 
 returns-2 : tie.Need-returns-2 Inv-loop μ-loop
 returns-2 c =
     let a = c .before .before .before .before .before .before .before .args in
-    from-end (flaw (now (a .image)) (a .scope)) (statementAt (now (a .image))) (scopeVerdict (now (a .image)) (a .scope)) _ _ (c .before .loop .inv .1) (c .loop-test .left)
+    from-end (flaw (now (a .image)) (a .scope)) (statementAt (now (a .image))) (scopeFlaw (now (a .image)) (a .scope)) _ _ (c .before .loop .inv .1) (c .loop-test .left)
 
 pub scope-fault-spec : {M : Type 1} → statement M
 scope-fault-spec =

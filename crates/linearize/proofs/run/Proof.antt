@@ -2,7 +2,7 @@ use native.Mathlib.Omega.{arith}
 use mathlib.Core.Path.{sym, ap, _∙_}
 use borrow.Author.Needs.{needs}
 use Rattle.linearize.proofs.OutcomeLaws.{short-trace, not-accepted, not-fine}
-use Rattle.image.specs.Answer.{verdictOf}
+use Rattle.image.specs.Answer.{answerFlaw}
 use Rattle.linearize.proofs.run.Statement.{statement}
 use Rattle.linearize.proofs.run.Tie as tie
 
@@ -19,7 +19,7 @@ enum-told : tie.Need-enum-told
 enum-told c = search needs
 
 run-accepted-requires : tie.Need-run-accepted-requires
-run-accepted-requires c κs = (sym (c .before .before .before .before .check .ensures) ∙ ap verdictOf (c .before .before .enum-told .given .1), omega (arith, c .before .before .before .before .before .if1 .left))
+run-accepted-requires c κs = (sym (c .before .before .before .before .check .ensures) ∙ ap answerFlaw (c .before .before .enum-told .given .1), omega (arith, c .before .before .before .before .before .if1 .left))
 
 refused-requires-2 : tie.Need-refused-requires-2
 refused-requires-2 c κs = search needs

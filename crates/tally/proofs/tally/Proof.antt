@@ -1,7 +1,7 @@
 use mathlib.Core.Path.{sym, ap, _∙_}
 use borrow.Author.Needs.{needs}
 use Rattle.model.specs.Tally as Model
-use Rattle.image.specs.Answer.{verdictOf}
+use Rattle.image.specs.Answer.{answerFlaw}
 use Rattle.tally.proofs.NineFigures.{not-accepted}
 use Rattle.tally.proofs.tally.Statement.{statement}
 use Rattle.tally.proofs.tally.Tie as tie
@@ -15,7 +15,7 @@ enum-told c = search needs
 accepted-tally-requires : tie.Need-accepted-tally-requires
 accepted-tally-requires c κs =
     let r = c .before .before in
-    sym (r .check .ensures) ∙ ap verdictOf (c .enum-told .given .1)
+    sym (r .check .ensures) ∙ ap answerFlaw (c .enum-told .given .1)
 
 returns : tie.Need-returns
 returns c = search needs

@@ -2,7 +2,7 @@ use mathlib.Core.Path.{ap, _∙_}
 use borrow.Author.Needs.{needs}
 use Rattle.unit.proofs.WordLaws.{check-words}
 use Rattle.unit.specs.Exports.{checkWords}
-use Rattle.image.specs.Answer.{verdictOf}
+use Rattle.image.specs.Answer.{answerFlaw}
 use Rattle.unit.proofs.cowhirame_check.Statement.{statement}
 use Rattle.unit.proofs.cowhirame_check.Tie as tie
 
@@ -16,7 +16,7 @@ place-of-requires : tie.Need-place-of-requires
 place-of-requires c κs = search needs
 
 returns : tie.Need-returns
-returns c = rw (c .before .before .number-of .ensures, c .before .place-of .ensures) (check-words (verdictOf (c .before .before .before .check .result)) ∙ ap checkWords (c .before .before .before .check .ensures))
+returns c = rw (c .before .before .number-of .ensures, c .before .place-of .ensures) (check-words (answerFlaw (c .before .before .before .check .result)) ∙ ap checkWords (c .before .before .before .check .ensures))
 
 pub cowhirame-check-spec : {M : Type 1} → statement M
 cowhirame-check-spec =

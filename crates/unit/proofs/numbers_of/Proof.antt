@@ -1,6 +1,6 @@
 use mathlib.Core.Path.{refl}
 use borrow.Author.Needs.{needs}
-use Rattle.model.specs.Run.{told}
+use Rattle.model.specs.Run.{answerNumbers}
 use Rattle.unit.proofs.numbers_of.Statement.{statement}
 use Rattle.unit.proofs.numbers_of.Tie as tie
 
@@ -14,11 +14,11 @@ of-kind-requires : tie.Need-of-kind-requires
 of-kind-requires c κs = search needs
 
 returns : tie.Need-returns
-unfolding told
+unfolding answerNumbers
 returns c = record { each = λ t. rw (c .enum-told .given .1) refl }
 
 returns-2 : tie.Need-returns-2
-unfolding told
+unfolding answerNumbers
 returns-2 c = record { each = λ t. rw (c .before .before .r .given .1) (c .of-kind .ensures .each t) }
 
 pub numbers-of-spec : {M : Type 1} → statement M

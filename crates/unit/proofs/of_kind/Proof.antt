@@ -1,6 +1,6 @@
 use mathlib.Core.Path.{refl}
 use borrow.Author.Needs.{needs}
-use Rattle.model.specs.Run.{told}
+use Rattle.model.specs.Run.{answerNumbers}
 use Rattle.unit.proofs.of_kind.Statement.{statement}
 use Rattle.unit.proofs.of_kind.Tie as tie
 
@@ -41,35 +41,35 @@ enum-told-2 : tie.Need-enum-told-2
 enum-told-2 c = search needs
 
 returns : tie.Need-returns
-unfolding told
+unfolding answerNumbers
 returns c = record { each = λ t. rw (c .before .kind .given .1) refl }
 
 returns-2 : tie.Need-returns-2
-unfolding told
+unfolding answerNumbers
 returns-2 c = record { each = λ t. rw (c .before .before .kind2 .given .1, c .bits-of .ensures) refl }
 
 returns-3 : tie.Need-returns-3
-unfolding told
+unfolding answerNumbers
 returns-3 c = record { each = λ t. rw (c .before .kind3 .given .1) refl }
 
 returns-4 : tie.Need-returns-4
-unfolding told
+unfolding answerNumbers
 returns-4 c = record { each = λ t. rw (c .before .kind4 .given .1) refl }
 
 returns-5 : tie.Need-returns-5
-unfolding told
+unfolding answerNumbers
 returns-5 c = record { each = λ t. rw (c .before .kind5 .given .1) refl }
 
 returns-6 : tie.Need-returns-6
-unfolding told
+unfolding answerNumbers
 returns-6 c = record { each = λ t. rw (c .enum-told .given .1) refl }
 
 returns-7 : tie.Need-returns-7
-unfolding told
+unfolding answerNumbers
 returns-7 c = record { each = λ t. rw (c .before .before .before .kind6 .given .1, c .before .number-of .ensures, c .place-of .ensures) refl }
 
 returns-8 : tie.Need-returns-8
-unfolding told
+unfolding answerNumbers
 returns-8 c = record { each = λ t. rw (c .enum-told2 .given .1) refl }
 
 pub of-kind-spec : {M : Type 1} → statement M

@@ -1,7 +1,7 @@
 use mathlib.Core.Path.{refl}
 use borrow.Author.Needs.{needs}
 use Rattle.unit.proofs.WordLaws.{refused-words}
-use Rattle.image.specs.Answer.{verdictOf}
+use Rattle.image.specs.Answer.{answerFlaw}
 use Rattle.unit.proofs.tally_words.Statement.{statement}
 use Rattle.unit.proofs.tally_words.Tie as tie
 
@@ -24,7 +24,7 @@ returns : tie.Need-returns
 returns c = rw (c .before .t .given .1) refl
 
 returns-2 : tie.Need-returns-2
-returns-2 c = rw (c .before .before .before .t2 .given .1, c .before .number-of .ensures, c .place-of .ensures) (refused-words (verdictOf (c .before .before .before .t2 .given .0 .0)))
+returns-2 c = rw (c .before .before .before .t2 .given .1, c .before .number-of .ensures, c .place-of .ensures) (refused-words (answerFlaw (c .before .before .before .t2 .given .0 .0)))
 
 returns-3 : tie.Need-returns-3
 returns-3 c = search needs
