@@ -13,8 +13,9 @@ use Rattle.model.specs.Check.{argumentOk, classicalArgumentOk, matching}
 use Rattle.model.specs.Steps.{resolveQreg, qubitIn, bitIn}
 use Rattle.model.proofs.ListLaws.{getD-take}
 use Rattle.model.proofs.All.{test, all-All, head-All, tail-All}
-use Rattle.model.proofs.Accepted.{Accepted, few-arguments}
-use Rattle.model.proofs.StepsSound.{FrameOk, argument, bit-below, matched}
+use Rattle.model.proofs.Accepted.{few-arguments}
+use Rattle.model.specs.Accepted.{Accepted, FrameOk}
+use Rattle.model.proofs.StepsSound.{argument, bit-below, matched}
 use Rattle.value.specs.declared.Value.{Value}
 use Rattle.image.specs.declared.Layout.{Layout}
 use Rattle.image.specs.Firsts.{RegisterStarts}
@@ -36,7 +37,7 @@ same-argument p q = λ i. record { first = p i; size = q i }
 
 module _ (image : List ℕ) (acc : Accepted image) (formals : List ℕ) (a : ℕ) where
   -- a formal, in a body
-  pub body-register : (scope : ℕ) (qs : List ℕ) → FrameOk image acc scope [] qs → ¬ (scope ≡ 0) → T (argumentOk image scope a) → argumentRegister image a < 16
+  pub body-register : (scope : ℕ) (qs : List ℕ) → FrameOk image scope [] qs → ¬ (scope ≡ 0) → T (argumentOk image scope a) → argumentRegister image a < 16
   unfolding argumentOk
   body-register zero qs f h k = absurd (h refl)
   body-register (suc g) qs f h k = omega (arith, ltb→lt (argumentRegister image a) (gateArguments image g) (test 0 _ k), few-arguments acc g (f .0))

@@ -10,8 +10,7 @@ use Rattle.model.specs.Lists.{range, sum, all}
 use Rattle.model.specs.Check.{argumentOk, matching}
 use Rattle.model.specs.Image.{word, quantumSize, classicalSize, quantumRegisters, classicalRegisters, gateArguments, variables, argumentSize, classicalArgumentSize, argumentRegister, argumentIndex, firstBit}
 use Rattle.model.specs.Steps.{Frame, resolveQreg, qubitIn}
-use Rattle.model.proofs.Accepted.{Accepted}
-use Rattle.model.proofs.StepsSound.{FrameOk}
+use Rattle.model.specs.Accepted.{Accepted, FrameOk}
 use Rattle.image.specs.declared.Layout.{Layout}
 use Rattle.image.specs.Layout.{LayoutOf}
 use Rattle.image.specs.Firsts.{RegisterStarts}
@@ -33,7 +32,7 @@ pub record ScopeContext (image : List ℕ) (l : Layout) (qubits bits : List ℕ)
   pub quantum : RegisterStarts (quantumSize image) (quantumRegisters image) qubits
   pub classical : RegisterStarts (classicalSize image) (classicalRegisters image) bits
   pub wide : length formals ≡ 16
-  pub ready : FrameOk image accepted scope [] (take (formalsOf image scope) formals)
+  pub ready : FrameOk image scope [] (take (formalsOf image scope) formals)
 
 -- ---- arguments
 

@@ -7,7 +7,8 @@ use mathlib.Core.List.{List, [], _∷_, _++_, map, flatMap, append-assoc, append
 use lib.ListN.{length, getD, take, drop, length-drop, length-append, length-map}
 use lib.Seq.{sets, length-take-le, getD-drop, getD-take, take-take, drop-drop, take-append-le, drop-append-le, take-at, drop-at, length-sets, take-nil}
 use Rattle.model.specs.Records.{Record, kind, fields, encode, angleWords, fractionWords}
-use Rattle.model.proofs.All.{All, nil, cons, All-append}
+use Rattle.model.proofs.All.{All-append}
+use Rattle.model.specs.All.{All, nil, cons}
 use Rattle.model.proofs.ListLaws.{flat-append}
 use Rattle.model.proofs.Lengths.{length-words}
 use Rattle.model.proofs.PlayLaws.{sets-append}

@@ -5,7 +5,7 @@ use mathlib.Core.List.{List, _++_, flatMap}
 use lib.ListN.{length, take, drop}
 use lib.Seq.{sets}
 use Rattle.model.specs.Records.{Record, encode}
-use Rattle.model.proofs.All.{All}
+use Rattle.model.specs.All.{All}
 use Rattle.model.proofs.CopyLaws.{Plain, copiedWords}
 
 -- some words of the output are records of bodies, none of them a barrier

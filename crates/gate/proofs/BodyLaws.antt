@@ -13,9 +13,9 @@ use Rattle.model.specs.Records.{Record}
 use Rattle.model.specs.Steps.{Frame, Step, write, enter, inRounds, qubitIn, pushFrame, openGate, writeOpaque, visitGate, visitPlain, visitStatement, visitBody, opening}
 use Rattle.model.proofs.All.{all-All}
 use Rattle.model.proofs.Accepted as accepted
-use Rattle.model.proofs.Accepted.{Accepted}
-use Rattle.model.proofs.Facts.{PlainFacts, Facts, run-facts}
-use Rattle.model.proofs.StepsSound.{Declared, all-below}
+use Rattle.model.specs.Accepted.{Accepted, PlainFacts, Facts, Declared}
+use Rattle.model.proofs.Facts.{run-facts}
+use Rattle.model.proofs.StepsSound.{all-below}
 use Rattle.model.proofs.TraceLaws.{under, opening-under}
 use Rattle.image.specs.declared.Layout.{Layout}
 use Rattle.gate.specs.declared.Call.{Call}
@@ -56,7 +56,7 @@ module _ {image : List ℕ} {l : Layout} {qs bs : List ℕ} {scope : ℕ} {forma
             omega (arith, c .known, st .laid .gates-is),
             omega arith,
             length-take (gateArguments image (call .gate)) q ∙ omega (arith, arguments-are, c .arguments-fit .few, k .full),
-            subst (Declared image (st .accepted)) (sym new-qubits)
+            subst (Declared image) (sym new-qubits)
                 (all-below image (st .accepted) (scopeFrame image scope [] formals) (st .ready) i (range (call .argument) (call .arguments)) (all-All _ _ (c .arguments-fit .each)) (c .arguments-fit .match) h),
           );
         }

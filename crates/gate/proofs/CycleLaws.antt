@@ -9,7 +9,7 @@ use Rattle.value.specs.declared.Value.{Value}
 use Rattle.model.specs.Lists.{range}
 use Rattle.model.specs.Image.{word, statement, statementOf, statementAt, gates, scopeStatements, rounds}
 use Rattle.model.specs.Steps.{Frame, Step, qubitIn, pushFrame, writeOpaque, visitGate, visitPlain, opening}
-use Rattle.model.proofs.Facts.{PlainFacts}
+use Rattle.model.specs.Accepted.{PlainFacts}
 use Rattle.image.specs.declared.Layout.{Layout}
 use Rattle.image.specs.declared.Span.{Span}
 use Rattle.image.specs.Layout.{StatementsOf}

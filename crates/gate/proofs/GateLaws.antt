@@ -12,7 +12,7 @@ use Rattle.model.specs.Check.{expressionOk, downward}
 use Rattle.model.specs.Steps.{Frame, refuse, Refusal, have, lack, given, parameterValues, withValues, visitPlain}
 use Rattle.model.proofs.All.{all-All, All-all, All-of}
 use Rattle.model.proofs.Accepted.{few-parameters, few-arguments}
-use Rattle.model.proofs.Facts.{PlainFacts}
+use Rattle.model.specs.Accepted.{PlainFacts}
 use Rattle.image.specs.declared.Layout.{Layout}
 use Rattle.image.proofs.KindLaws.{gate-is, words-are}
 use Rattle.gate.specs.declared.Call.{Call}

@@ -15,10 +15,11 @@ use Rattle.model.specs.Check.{expressionOk, argumentOk, classicalArgumentOk, ma
 use Rattle.model.specs.Records.{Record}
 use Rattle.model.specs.Steps.{write, inRounds, withValues, qubitIn, argumentQubits, writeU, writeCX, writeMeasure, writeReset, visitPlain}
 use Rattle.model.specs.Evaluate.{zeroValue}
-use Rattle.model.proofs.All.{nil, cons, All-getD}
-use Rattle.model.proofs.Accepted.{Accepted, few-parameters}
-use Rattle.model.proofs.StepsSound.{FrameOk}
-use Rattle.model.proofs.Facts.{PlainFacts, no-kind}
+use Rattle.model.proofs.All.{All-getD}
+use Rattle.model.specs.All.{nil, cons}
+use Rattle.model.proofs.Accepted.{few-parameters}
+use Rattle.model.specs.Accepted.{Accepted, FrameOk, PlainFacts}
+use Rattle.model.proofs.Facts.{no-kind}
 use Rattle.image.specs.declared.Layout.{Layout}
 use Rattle.image.specs.Layout.{LayoutOf}
 use Rattle.image.proofs.KindLaws.{u-is, cx-is, barrier-is, measure-is, reset-is, words-are}
@@ -77,7 +78,7 @@ cut-is g qubits {m} {n} {out} {out′} {at} {r} e w = subst (λ (k : ℕ). Wrote
 -- ---- angles of a U
 
 -- a body has at most 16 variables
-pub few-variables : (image : List ℕ) (acc : Accepted image) (scope : ℕ) (qs : List ℕ) → FrameOk image acc scope [] qs → variables image scope ≤ 16
+pub few-variables : (image : List ℕ) (acc : Accepted image) (scope : ℕ) (qs : List ℕ) → FrameOk image scope [] qs → variables image scope ≤ 16
 unfolding variables
 few-variables image acc zero qs f = omega arith
 few-variables image acc (suc g) qs f = few-parameters acc g (f .0)

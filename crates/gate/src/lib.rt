@@ -10,7 +10,7 @@ ghost use lib.Seq.{sets};
 ghost use Rattle.model.specs.Image.{word, statement, statementAt, gateArguments};
 ghost use Rattle.model.specs.Records.{Record};
 ghost use Rattle.model.specs.Steps.{write, openGate, opening};
-ghost use Rattle.model.proofs.Facts.{PlainFacts};
+ghost use Rattle.model.specs.Accepted.{PlainFacts};
 ghost use Rattle.image.specs.Layout.{LayoutOf};
 ghost use Rattle.record_writer.specs.Promise.{SoundAngles, InOutput, WroteSteps};
 ghost use Rattle.expression.specs.Table.{anglesIn, ConstantsKept};

@@ -14,7 +14,8 @@ use borrow.Author.Tests.{lt-ltb, le-ltb, le-leb, eq-eqb, ne-eqb, ltb-true, ltb-f
 use Rattle.model.specs.Lists.{every}
 use Rattle.model.specs.Image.{Expr, Pi, Real, Int, Var, Binary, Unary, expressionOf, word, expression, expressionAt, expressions, parameter, parameterAt}
 use Rattle.model.specs.Check.{entryOk, expressionOk}
-use Rattle.model.proofs.All.{All, nil, cons, and-T, T-and}
+use Rattle.model.proofs.All.{and-T, T-and}
+use Rattle.model.specs.All.{All, nil, cons}
 use Rattle.image_entries.specs.Judging.{accepts, JudgementTables, leafFits, wordsOk, JudgementIs}
 use Rattle.image.proofs.KindLaws.{entry-is}
 

@@ -11,10 +11,10 @@ use Rattle.model.specs.Lists.{range, sum}
 use Rattle.model.specs.Image.{Conditional, word, quantumRegisters, quantumSize, firstQubit, statement, statementAt, mainStatements, classicalRegisters, classicalSize, firstBit, variables, scopeStatements}
 use Rattle.model.specs.Records.{Record}
 use Rattle.model.specs.Steps.{Step, write, inRounds, visitPlain, visitConditional, visitStatement, visitBody, opening, mainFrame, headRecord, steps}
-use Rattle.model.proofs.Facts.{PlainFacts, Facts, run-facts}
+use Rattle.model.proofs.Facts.{run-facts}
+use Rattle.model.specs.Accepted.{PlainFacts, Facts, Accepted}
 use Rattle.model.specs.Run.{play}
 use Rattle.model.proofs.PlayLaws.{plays-stop}
-use Rattle.model.proofs.Accepted.{Accepted}
 use Rattle.image.specs.declared.Layout.{Layout}
 use Rattle.image.specs.Layout.{LayoutOf}
 use Rattle.image.specs.Firsts.{RegisterStarts}

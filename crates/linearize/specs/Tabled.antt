@@ -2,7 +2,7 @@
 use Prim.Native.Nat.{ℕ}
 use mathlib.Core.List.{List}
 use Rattle.model.specs.Image.{quantumSize, quantumRegisters, classicalSize, classicalRegisters}
-use Rattle.model.proofs.Accepted.{Accepted}
+use Rattle.model.specs.Accepted.{Accepted}
 use Rattle.image.specs.declared.Layout.{Layout}
 use Rattle.image.specs.Layout.{LayoutOf}
 use Rattle.image.specs.Firsts.{RegisterStarts}

@@ -12,7 +12,8 @@ use Rattle.model.specs.Run.{Answer, Played, runs, output, traceOf, answerNumber
 use Rattle.model.specs.Reader.{recordsIn}
 use Rattle.model.specs.Claims.{anglesOf}
 use Rattle.model.specs.Listing.{fromText, refusedText, closing, recordText, runText}
-use Rattle.model.proofs.All.{All, nil, cons, All-front, All-members}
+use Rattle.model.proofs.All.{All-front, All-members}
+use Rattle.model.specs.All.{All, nil, cons}
 use Rattle.model.proofs.AnglesSound.{step-claims}
 use Rattle.model.proofs.ReadBack.{reads-back}
 use Rattle.model.proofs.Outcome.{recordsOf, plays-fair, Ran, none, plays, ran-either, claims}

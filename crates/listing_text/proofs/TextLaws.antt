@@ -15,7 +15,8 @@ use Rattle.value.specs.Value.{Sound}
 use Rattle.model.specs.Records.{Record, kind, fields, encode, fractionWords, angleWords}
 use Rattle.model.specs.Claims.{anglesOf}
 use Rattle.model.specs.Listing.{decimal, line, fractionText, angleText, fieldsText, recordText}
-use Rattle.model.proofs.All.{All, head-All, tail-All}
+use Rattle.model.proofs.All.{head-All, tail-All}
+use Rattle.model.specs.All.{All}
 use Rattle.listing_text.specs.WordText.{signedText, numerator, wordsText, recordLine}
 use Rattle.listing_text.proofs.SignLaws.{no-sign, minus-sign}
 use Rattle.listing_text.proofs.LineLaws.{numerator-opaque, numerator-behind}

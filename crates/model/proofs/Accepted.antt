@@ -1,4 +1,4 @@
--- What holds of an image that the check accepts.
+-- Laws of `Accepted`: an image that the check accepts has what it says.
 use Prim.Native.Nat.{ℕ, zero, suc, _≤_, _<_}
 use native.Mathlib.Omega.{arith}
 use mathlib.Core.Path.{_≡_, refl, sym, subst}
@@ -7,7 +7,9 @@ use mathlib.Core.List.{List, [], _∷_, map}
 use lib.Dec.{T, ltb, eqb, leb→le, ltb→lt, eqb→eq}
 use lib.ListN.{getD}
 use Rattle.model.specs.Lists.{range, sum}
-use Rattle.model.proofs.All.{All, nil, cons, and-T, test, of-All, flat-All, range-All}
+use Rattle.model.specs.All.{All, nil, cons}
+use Rattle.model.specs.Accepted.{Accepted}
+use Rattle.model.proofs.All.{and-T, test, of-All, flat-All, range-All}
 use Rattle.model.specs.Image.{gates, gateParameters, gateArguments, quantumRegisters, classicalRegisters, quantumSize, classicalSize, qubits, bits, firstQubit, firstBit, scopeStatements, quantumRegisterAt, classicalRegisterAt}
 use Rattle.model.specs.Check.{Flaw, fine, bad, orElse, firstOf, firstBad, contentsOk, quantumRegisterFlaw, classicalRegisterFlaw, gateOk, gateFlaw, flaw, everyStatement, registers, gateEntries, statementEntries, check}
 
@@ -41,15 +43,6 @@ none-bad number place [] e = nil
 none-bad number place (x ∷ l) e =
     let s = pick (eqb (number x) 0) (firstBad number place l) (number x) (place x) e in
     cons (eqb→eq (number x) 0 (s .0)) (none-bad number place l (s .1))
-
-pub record Accepted (w : List ℕ) : Type 0 where
-  pub fewGates : gates w ≤ 128
-  pub qsizes : (r : ℕ) → r < quantumRegisters w → 1 ≤ quantumSize w r
-  pub csizes : (r : ℕ) → r < classicalRegisters w → 1 ≤ classicalSize w r
-  pub fewQubits : qubits w ≤ 4096
-  pub fewBits : bits w ≤ 4096
-  pub gateEntry : (g : ℕ) → g < gates w → T (gateOk w g)
-  pub flawless : (scope : ℕ) → scope ≤ gates w → All (λ s. flaw w scope s ≡ 0) (scopeStatements w scope)
 
 -- with each register the total so far is at most 4096, so with all of them
 in-all : (sizes : ℕ → ℕ) (n : ℕ) → ((r : ℕ) → r < n → sum (map sizes (range 0 (suc r))) ≤ 4096) → sum (map sizes (range 0 n)) ≤ 4096

@@ -1,4 +1,4 @@
--- Facts about every element of a list.
+-- Laws of `All`: facts about every element of a list, made and taken apart.
 use Prim.Native.Nat.{ℕ, zero, suc, _+_, _≤_, _<_}
 use native.Mathlib.Nat.{not-suc-le-zero, eq-or-lt-of-le}
 use native.Mathlib.Omega.{arith}
@@ -9,10 +9,7 @@ use mathlib.Core.List.{List, [], _∷_, _++_, map, flatMap, List·Memᴰ, List·
 use lib.Dec.{T}
 use lib.ListN.{length, getD}
 use Rattle.model.specs.Lists.{range, every, all}
-
-pub data All {A : Type 0} (P : A → Type 0) : List A → Type 0 where
-  nil : All P []
-  cons : {x : A} {xs : List A} → P x → All P xs → All P (x ∷ xs)
+use Rattle.model.specs.All.{All, nil, cons}
 
 -- tests
 pub and-T : (a b : Bool) → T (a && b) → T a × T b

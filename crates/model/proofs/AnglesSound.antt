@@ -17,7 +17,8 @@ use Rattle.model.specs.Evaluate.{zeroValue, binary, unary, valueOf, eval
 use Rattle.model.specs.Records.{Record}
 use Rattle.model.specs.Steps.{Step, write, enter, refuse, Frame, Values, have, lack, also, parameterValues, pushFrame, headRecord}
 use Rattle.model.specs.Claims.{anglesOf, StepClaims}
-use Rattle.model.proofs.All.{All, nil, cons, All-weaken, members-All}
+use Rattle.model.proofs.All.{All-weaken, members-All}
+use Rattle.model.specs.All.{All, nil, cons}
 use Rattle.model.proofs.Origins.{Writes, writes-U, writes-CX, writes-opaque, writes-barrier, writes-measure, writes-reset, writes-start, writes-end, Reached, main, called, Origin, head, writes, cuts, enters, refuses, origins}
 use Rattle.model.proofs.Depth.{depth-rule}
 

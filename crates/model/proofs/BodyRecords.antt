@@ -13,9 +13,10 @@ use Rattle.model.specs.Image.{Statement, Gate, Conditional, statement, g
 use Rattle.model.specs.Records.{Record, encode}
 use Rattle.model.specs.Steps.{Refusal, Step, write, enter, refuse, Frame, Opening, Values, have, lack, given, inRounds, overlap, qubitIn, withValues, writeU, writeCX, distinctly, writeOpaque, pushFrame, openGate, visitGate, visitPlain, visitConditional, visitStatement, visitBody, opening}
 use Rattle.model.specs.Run.{full, Played, stop, after, play}
-use Rattle.model.proofs.All.{All, nil, cons, All-members}
-use Rattle.model.proofs.Accepted.{Accepted}
-use Rattle.model.proofs.Facts.{Facts, facts}
+use Rattle.model.proofs.All.{All-members}
+use Rattle.model.specs.All.{All, nil, cons}
+use Rattle.model.specs.Accepted.{Accepted, Facts}
+use Rattle.model.proofs.Facts.{facts}
 use Rattle.model.proofs.Silent.{bodyFrame}
 use Rattle.model.proofs.CopyLaws.{Plain, plain-U, plain-CX, plain-opaque}
 

@@ -17,8 +17,9 @@ use Rattle.model.specs.Steps.{Step, openGate, opening}
 use Rattle.model.specs.Run.{done, play, output}
 use Rattle.model.specs.Playing.{Place, room, Plays}
 use Rattle.model.specs.Claims.{differ}
-use Rattle.model.proofs.All.{All, nil, cons, test, all-All, All-getD}
-use Rattle.model.proofs.Accepted.{Accepted}
+use Rattle.model.proofs.All.{test, all-All, All-getD}
+use Rattle.model.specs.All.{All, nil, cons}
+use Rattle.model.specs.Accepted.{Accepted}
 use Rattle.model.proofs.Lengths.{length-words}
 use Rattle.model.proofs.ReadBack.{words-enough}
 use Rattle.model.proofs.PlayLaws.{output-fits}

@@ -13,8 +13,10 @@ use Rattle.model.specs.Image.{Statement, Gate, Conditional, statement, g
 use Rattle.model.specs.Check.{plainFlaw, downward, conditionalOk, conditionalFlaw, flaw}
 use Rattle.model.specs.Steps.{Step, enter, Frame, Opening, inRounds, withValues, openGate, visitGate, visitPlain, visitConditional, visitStatement, visitBody, opening, pushFrame, mainFrame, steps}
 use Rattle.model.specs.Tally.{openGateTally, gateTally, plainTally, conditionalTally, statementTally, bodyTally, openingTally, weightTally, ofKind, theWords, recordFigure, entryFigure, wordBound, figures}
-use Rattle.model.proofs.All.{All, nil, cons, test, All-weaken}
-use Rattle.model.proofs.Accepted.{Accepted, passes}
+use Rattle.model.proofs.All.{test, All-weaken}
+use Rattle.model.specs.All.{All, nil, cons}
+use Rattle.model.proofs.Accepted.{passes}
+use Rattle.model.specs.Accepted.{Accepted, callsBelow}
 
 flat-same : (f g : ℕ → List Step) {l : List ℕ} → All (λ i. f i ≡ g i) l → flatMap f l ≡ flatMap g l
 unfolding flatMap
@@ -32,23 +34,18 @@ inner-flaw true m n e = e
 inner-flaw false m n e = absurd (omega arith)
 
 module _ (image : List ℕ) where
-  -- a scope's statements call only gates below this
-  abbrev pub reach : ℕ → ℕ
-  reach zero = gates image
-  reach (suc h) = h
+  calls-below-few : (scope : ℕ) → scope ≤ gates image → callsBelow image scope ≤ gates image
+  calls-below-few zero h = omega arith
+  calls-below-few (suc g) h = omega arith
 
-  reach-few : (scope : ℕ) → scope ≤ gates image → reach scope ≤ gates image
-  reach-few zero h = omega arith
-  reach-few (suc g) h = omega arith
-
-  pub within-reach : (scope g : ℕ) → g < gates image → T (downward image scope g) → g < reach scope
+  pub called-below : (scope g : ℕ) → g < gates image → T (downward image scope g) → g < callsBelow image scope
   unfolding downward
-  within-reach zero g h t = h
-  within-reach (suc k) g h t = ltb→lt g k t
+  called-below zero g h t = h
+  called-below (suc k) g h t = ltb→lt g k t
 
-  called : (ifFlaw : ℕ → ℕ → ℕ → ℕ) (scope s g p a : ℕ) → plainFlaw image ifFlaw scope s (Gate g p a) ≡ 0 → g < reach scope
+  called : (ifFlaw : ℕ → ℕ → ℕ → ℕ) (scope s g p a : ℕ) → plainFlaw image ifFlaw scope s (Gate g p a) ≡ 0 → g < callsBelow image scope
   unfolding plainFlaw
-  called ifFlaw scope s g p a e = within-reach scope g (ltb→lt _ _ (test 1 _ (passes 0 _ e tt))) (passes 1 _ e tt)
+  called ifFlaw scope s g p a e = called-below scope g (ltb→lt _ _ (test 1 _ (passes 0 _ e tt))) (passes 1 _ e tt)
 
   -- ---- steps
 
@@ -58,7 +55,7 @@ module _ (image : List ℕ) where
       (g : ℕ) → g < n → (t : List ℕ) (values : List Value) (qubits : List ℕ) → let new : Frame = record { scope = suc g; trace = t; values = values; qubits = qubits } in
       openGate image o new g ≡ openGate image o′ new g
 
-  module _ (n : ℕ) (o o′ : Opening) (alike : Alike n o o′) (frame : Frame) (below : reach (frame .scope) ≤ n) where
+  module _ (n : ℕ) (o o′ : Opening) (alike : Alike n o o′) (frame : Frame) (below : callsBelow image (frame .scope) ≤ n) where
     gate-same : (s g : ℕ) (al : List ℕ) (xs : List Value) (i : ℕ) → g < n → visitGate image o frame s g al xs i ≡ visitGate image o′ frame s g al xs i
     unfolding visitGate pushFrame
     gate-same s g al xs i h = rw (alike g h)
@@ -110,7 +107,7 @@ module _ (image : List ℕ) where
     abbrev AlikeTally : ℕ → Option (ℕ → ℕ) → Option (ℕ → ℕ) → Type 0
     AlikeTally n o o′ = (g : ℕ) → g < n → openGateTally image weight entry o g ≡ openGateTally image weight entry o′ g
 
-    module _ (n : ℕ) (o o′ : Option (ℕ → ℕ)) (alike : AlikeTally n o o′) (scope : ℕ) (below : reach scope ≤ n) where
+    module _ (n : ℕ) (o o′ : Option (ℕ → ℕ)) (alike : AlikeTally n o o′) (scope : ℕ) (below : callsBelow image scope ≤ n) where
       gate-tally : (g : ℕ) → g < n → gateTally image weight entry o g ≡ gateTally image weight entry o′ g
       unfolding gateTally
       gate-tally g h = rw (alike g h)
@@ -148,8 +145,8 @@ module _ (image : List ℕ) where
           λ g k. ap (λ m. entry + m) (body-tally n _ _ (alike-tally n a b (omega arith) (omega arith) (omega arith)) (suc g) (omega arith) (accepted .flawless (suc g) (omega arith)))
 
       -- a scope's statements come to the same where all that they may call is opened
-      pub deep-body : (scope a b : ℕ) → scope ≤ gates image → reach scope ≤ a → reach scope ≤ b → bodyTally image weight entry (openingTally image weight entry a) scope ≡ bodyTally image weight entry (openingTally image weight entry b) scope
-      deep-body scope a b h p q = body-tally (reach scope) _ _ (alike-tally (reach scope) a b (reach-few scope h) p q) scope (omega arith) (accepted .flawless scope h)
+      pub deep-body : (scope a b : ℕ) → scope ≤ gates image → callsBelow image scope ≤ a → callsBelow image scope ≤ b → bodyTally image weight entry (openingTally image weight entry a) scope ≡ bodyTally image weight entry (openingTally image weight entry b) scope
+      deep-body scope a b h p q = body-tally (callsBelow image scope) _ _ (alike-tally (callsBelow image scope) a b (calls-below-few scope h) p q) scope (omega arith) (accepted .flawless scope h)
 
       deep-weights : (d e : ℕ) → gates image < d → gates image < e → weightTally image weight entry d ≡ weightTally image weight entry e
       unfolding weightTally

@@ -10,7 +10,8 @@ use Rattle.model.specs.Lists.{every}
 use Rattle.model.specs.Image.{Expr, Pi, Real, Int, Var, Binary, Unary, expression, expressionAt}
 use Rattle.model.specs.Evaluate.{unary, binary, valueOf, evaluate}
 use Rattle.model.specs.Check.{entryOk, expressionOk}
-use Rattle.model.proofs.All.{nil, cons, test, All-every}
+use Rattle.model.proofs.All.{test, All-every}
+use Rattle.model.specs.All.{nil, cons}
 
 module _ (image : List ℕ) (v : ℕ) (values : List Value) where
   -- an operand: of smaller number than its user e, and well formed to k levels

@@ -1,4 +1,4 @@
--- What check's acceptance says of each statement: ranges, downward calls, levels and sizes. One law, for every later operation.
+-- Laws of `Facts`: each statement of an accepted image has them. One law, for every later operation.
 use Prim.Native.Nat.{ℕ, zero, suc, _+_, _≤_, _<_}
 use native.Mathlib.Omega.{arith}
 use mathlib.Core.Path.{_≡_, refl, sym, subst}
@@ -8,45 +8,17 @@ use lib.Dec.{T, leb→le, ltb→lt, eqb→eq}
 use Rattle.model.specs.Lists.{range, all}
 use Rattle.model.specs.Image.{Statement, U, CX, Gate, Barrier, Measure, Reset, Conditional, Unknown, statementOf, statement, expressions, arguments, parameters, gates, mainStatements, allStatements, classicalRegisters, gateParameters, gateArguments, parameter, variables, argumentSize, classicalArgumentSize, scopeStatements}
 use Rattle.model.specs.Check.{expressionOk, argumentOk, classicalArgumentOk, downward, matching, plainFlaw, inConditional, conditionalOk, conditionalFlaw, flaw}
-use Rattle.model.proofs.All.{All, test, members-All, All-members, range-All}
-use Rattle.model.proofs.Accepted.{Accepted, passes}
+use Rattle.model.specs.All.{All}
+use Rattle.model.specs.Accepted.{Accepted, PlainFacts, Facts}
+use Rattle.model.proofs.All.{test, members-All, All-members, range-All}
+use Rattle.model.proofs.Accepted.{passes}
 
 module _ (image : List ℕ) where
-  -- a statement other than an if, in a scope
-  abbrev pub PlainFacts : ℕ → Statement → Type 0
-  PlainFacts scope (U theta phi lambda q) =
-      (theta < expressions image) × (phi < expressions image) × (lambda < expressions image) × (q < arguments image)
-      × T (all (expressionOk image (variables image scope) 32) (theta ∷ phi ∷ lambda ∷ [])) × T (argumentOk image scope q)
-  PlainFacts scope (CX a b) =
-      (a < arguments image) × (b < arguments image) × T (argumentOk image scope a) × T (argumentOk image scope b) × T (matching (argumentSize image scope a ∷ argumentSize image scope b ∷ []))
-  PlainFacts scope (Gate g p a) =
-      (g < gates image) × (p + gateParameters image g ≤ parameters image) × (a + gateArguments image g ≤ arguments image) × T (downward image scope g)
-      × T (all (λ i. expressionOk image (variables image scope) 32 (parameter image i)) (range p (gateParameters image g)))
-      × T (all (argumentOk image scope) (range a (gateArguments image g))) × T (matching (map (argumentSize image scope) (range a (gateArguments image g))))
-  PlainFacts scope (Barrier a n) = (a + n ≤ arguments image) × T (all (argumentOk image scope) (range a n))
-  PlainFacts scope (Measure q c) =
-      (scope ≡ 0) × (q < arguments image) × (c < arguments image) × T (argumentOk image scope q) × T (classicalArgumentOk image c) × T (matching (argumentSize image scope q ∷ classicalArgumentSize image c ∷ []))
-  PlainFacts scope (Reset q) = (scope ≡ 0) × (q < arguments image) × T (argumentOk image scope q)
-  PlainFacts scope (Conditional r v t) = ⊥
-  PlainFacts scope Unknown = ⊥
-
-  -- any statement: an if with what it holds
-  abbrev pub Facts : ℕ → Statement → Type 0
-  Facts scope (Conditional r v t) =
-      (scope ≡ 0) × (r < classicalRegisters image) × (mainStatements image ≤ t) × (t < allStatements image) × T (inConditional image (statement image t)) × PlainFacts scope (statement image t)
-  Facts scope (U a b c d) = PlainFacts scope (U a b c d)
-  Facts scope (CX a b) = PlainFacts scope (CX a b)
-  Facts scope (Gate g p a) = PlainFacts scope (Gate g p a)
-  Facts scope (Barrier a n) = PlainFacts scope (Barrier a n)
-  Facts scope (Measure q c) = PlainFacts scope (Measure q c)
-  Facts scope (Reset q) = PlainFacts scope (Reset q)
-  Facts scope Unknown = ⊥
-
   four : _≡_ {A = ℕ} 4 0 → ⊥
   four e = omega arith
 
   -- a statement with no flaw; an if's must not be 0
-  pub plain-facts : (f : ℕ → ℕ → ℕ → ℕ) (scope s : ℕ) → ((r v t : ℕ) → ¬ (f r v t ≡ 0)) → (x : Statement) → plainFlaw image f scope s x ≡ 0 → PlainFacts scope x
+  pub plain-facts : (f : ℕ → ℕ → ℕ → ℕ) (scope s : ℕ) → ((r v t : ℕ) → ¬ (f r v t ≡ 0)) → (x : Statement) → plainFlaw image f scope s x ≡ 0 → PlainFacts image scope x
   unfolding plainFlaw
   plain-facts f scope s h (U a b c d) e =
       let t = passes 0 _ e tt in
@@ -67,17 +39,17 @@ module _ (image : List ℕ) where
   plain-facts f scope s h (Conditional r v t) e = h r v t e
   plain-facts f scope s h Unknown e = four e
 
-  conditional-facts : (scope s r v t : ℕ) → conditionalFlaw image scope s r v t ≡ 0 → Facts scope (Conditional r v t)
+  conditional-facts : (scope s r v t : ℕ) → conditionalFlaw image scope s r v t ≡ 0 → Facts image scope (Conditional r v t)
   unfolding conditionalFlaw conditionalOk
   conditional-facts scope s r v t e = go (conditionalOk image scope s r t) refl e
     where
-      go : (b : Bool) → conditionalOk image scope s r t ≡ b → cond b (plainFlaw image (λ r v t. 4) scope t (statement image t)) 4 ≡ 0 → Facts scope (Conditional r v t)
+      go : (b : Bool) → conditionalOk image scope s r t ≡ b → cond b (plainFlaw image (λ r v t. 4) scope t (statement image t)) 4 ≡ 0 → Facts image scope (Conditional r v t)
       go true c e =
           let k = subst T (sym c) tt in
           (eqb→eq _ _ (test 0 _ k), ltb→lt _ _ (test 2 _ k), leb→le _ _ (test 3 _ k), ltb→lt _ _ (test 4 _ k), test 5 _ k, plain-facts (λ r v t. 4) scope t (λ r v t d. four d) (statement image t) e)
       go false c e = absurd (four e)
 
-  flaw-facts : (scope s : ℕ) (x : Statement) → plainFlaw image (conditionalFlaw image scope s) scope s x ≡ 0 → Facts scope x
+  flaw-facts : (scope s : ℕ) (x : Statement) → plainFlaw image (conditionalFlaw image scope s) scope s x ≡ 0 → Facts image scope x
   unfolding plainFlaw
   flaw-facts scope s (Conditional r v t) e = conditional-facts scope s r v t e
   flaw-facts scope s (U a b c d) e = plain-facts (λ r v t. 4) scope s (λ r v t d. four d) (U a b c d) e
@@ -89,20 +61,20 @@ module _ (image : List ℕ) where
   flaw-facts scope s Unknown e = four e
 
   -- the law: each statement of each scope of an accepted image
-  pub facts : Accepted image → (scope s : ℕ) → scope ≤ gates image → List·Memᴰ s (scopeStatements image scope) → Facts scope (statement image s)
+  pub facts : Accepted image → (scope s : ℕ) → scope ≤ gates image → List·Memᴰ s (scopeStatements image scope) → Facts image scope (statement image s)
   unfolding flaw
   facts acc scope s h m = flaw-facts scope s (statement image s) (members-All (acc .flawless scope h) s m)
 
   -- of a scope's statements that stand in a row
-  pub run-facts : Accepted image → (scope first count i : ℕ) → scope ≤ gates image → scopeStatements image scope ≡ range first count → i < count → Facts scope (statement image (first + i))
+  pub run-facts : Accepted image → (scope first count i : ℕ) → scope ≤ gates image → scopeStatements image scope ≡ range first count → i < count → Facts image scope (statement image (first + i))
   run-facts acc scope first count i within run h =
-      let each = All-members {P = λ s. Facts scope (statement image s)} (scopeStatements image scope) (λ s m. facts acc scope s within m) in
-      range-All {P = λ s. Facts scope (statement image s)} first count (first + i) (subst (All (λ s. Facts scope (statement image s))) run each) (omega arith) (omega arith)
+      let each = All-members {P = λ s. Facts image scope (statement image s)} (scopeStatements image scope) (λ s m. facts acc scope s within m) in
+      range-All {P = λ s. Facts image scope (statement image s)} first count (first + i) (subst (All (λ s. Facts image scope (statement image s))) run each) (omega arith) (omega arith)
 
   -- ---- by a statement's first word
 
   -- other kinds are no plain statement
-  pub no-kind : (scope kind a b c d : ℕ) → (1 ≤ kind → 7 ≤ kind) → PlainFacts scope (statementOf kind a b c d) → ⊥
+  pub no-kind : (scope kind a b c d : ℕ) → (1 ≤ kind → 7 ≤ kind) → PlainFacts image scope (statementOf kind a b c d) → ⊥
   unfolding statementOf
   no-kind scope zero a b c d h f = f
   no-kind scope (suc zero) a b c d h f = absurd (let k = h (omega arith) in omega arith)
@@ -115,7 +87,7 @@ module _ (image : List ℕ) where
   no-kind scope (suc (suc (suc (suc (suc (suc (suc (suc k)))))))) a b c d h f = f
 
   -- a statement that is no if has the facts of a plain one
-  pub no-if : (scope kind a b c d : ℕ) → ¬ (kind ≡ 7) → Facts scope (statementOf kind a b c d) → PlainFacts scope (statementOf kind a b c d)
+  pub no-if : (scope kind a b c d : ℕ) → ¬ (kind ≡ 7) → Facts image scope (statementOf kind a b c d) → PlainFacts image scope (statementOf kind a b c d)
   unfolding statementOf
   no-if scope zero a b c d h f = f
   no-if scope (suc zero) a b c d h f = f

@@ -13,7 +13,8 @@ use Rattle.model.specs.Image.{Statement, Gate, Conditional, statement, a
 use Rattle.model.specs.Evaluate.{zeroValue}
 use Rattle.model.specs.Records.{Record}
 use Rattle.model.specs.Steps.{Refusal, OverlappingRegs, Step, write, enter, refuse, Frame, mainFrame, Values, have, lack, given, inRounds, overlap, qubitIn, bitIn, argumentQubits, parameterValues, withValues, writeU, writeCX, distinctly, writeOpaque, writeMeasure, writeReset, pushFrame, openGate, visitGate, visitPlain, visitConditional, visitStatement, visitBody, opening, headRecord, steps}
-use Rattle.model.proofs.All.{All, nil, cons, All-append, All-flat, All-range, All-members}
+use Rattle.model.proofs.All.{All-append, All-flat, All-range, All-members}
+use Rattle.model.specs.All.{All, nil, cons}
 
 module _ (image : List ℕ) where
   -- statement s, which says x, runs in a scope: as one of its statements, or as what an if among them holds

@@ -18,8 +18,10 @@ use Rattle.model.specs.Run.{Answer, done, full, flawed, shortTrace, Play
 use Rattle.model.specs.Tally.{weightTally, ofKind, theWords, recordFigure, entryFigure, wordBound}
 use Rattle.model.specs.Reader.{recordsIn}
 use Rattle.model.specs.Claims.{count, declared, distinct, Claims, written, recordsFound}
-use Rattle.model.proofs.All.{All, nil, cons, head-All, tail-All, All-front, All-of, members-All}
-use Rattle.model.proofs.Accepted.{Accepted, accepts}
+use Rattle.model.proofs.All.{head-All, tail-All, All-front, All-of, members-All}
+use Rattle.model.specs.All.{All, nil, cons}
+use Rattle.model.proofs.Accepted.{accepts}
+use Rattle.model.specs.Accepted.{Accepted}
 use Rattle.model.proofs.Counts.{weighs, clean, steps-tallied}
 use Rattle.model.proofs.TypedRecords.{declaredRecord, distinctRecord}
 use Rattle.model.proofs.StepsSound.{Good, steps-good}

@@ -16,10 +16,12 @@ use Rattle.model.specs.Check.{matching, argumentOk, classicalArgumentOk,
 use Rattle.model.specs.Records.{Record}
 use Rattle.model.specs.Steps.{Step, write, enter, refuse, Frame, holder, clash, overlap, offsetsOf, offsets, resolveQreg, qubitIn, bitIn, argumentQubits, pushFrame, headRecord, steps}
 use Rattle.model.specs.Claims.{inRegister, differ, isQubit}
-use Rattle.model.proofs.All.{All, nil, cons, head-All, tail-All, test, All-every, all-All, All-all, All-weaken, All-front, All-back, All-getD, All-members, members-All, All-flat, All-of, of-All, All-range}
+use Rattle.model.proofs.All.{head-All, tail-All, test, All-every, all-All, All-all, All-weaken, All-front, All-back, All-getD, All-members, members-All, All-flat, All-of, of-All, All-range}
+use Rattle.model.specs.All.{All, nil, cons}
 use Rattle.model.proofs.Lengths.{length-range}
 use Rattle.model.proofs.BarrierLaws.{rising-all, rising-rises}
-use Rattle.model.proofs.Accepted.{Accepted, passes}
+use Rattle.model.proofs.Accepted.{passes}
+use Rattle.model.specs.Accepted.{Accepted, Declared, FrameOk}
 use Rattle.model.proofs.TypedRecords.{declaredRecord, distinctRecord}
 use Rattle.model.proofs.Origins.{Runs, itself, held, Call, calledFrame, Writes, writes-U, writes-CX, writes-opaque, writes-barrier, writes-measure, writes-reset, writes-start, writes-end, Reached, main, called, Origin, head, writes, cuts, enters, refuses, origins}
 
@@ -100,18 +102,10 @@ guarded false m n e = absurd (omega arith)
 module _ (w : List ℕ) (acc : Accepted w) where
   -- ---- frames
 
-  abbrev pub Declared : List ℕ → Type 0
-  Declared qs = All (λ q. T (isQubit w q)) qs
-
-  -- a frame of an accepted program: in a body the trace has at most a frame for main and one for each gate above, and the formals' qubits are declared
-  abbrev pub FrameOk : ℕ → List ℕ → List ℕ → Type 0
-  FrameOk zero t qs = length t ≡ 0
-  FrameOk (suc g) t qs = (g < gates w) × (length t ≤ 2 * (gates w - g)) × (length qs ≡ gateArguments w g) × Declared qs
-
   abbrev pub Ready : Frame → Type 0
-  Ready frame = FrameOk (frame .scope) (frame .trace) (frame .qubits)
+  Ready frame = FrameOk w (frame .scope) (frame .trace) (frame .qubits)
 
-  in-scope : (scope : ℕ) (t qs : List ℕ) → FrameOk scope t qs → (scope ≤ gates w) × (length t ≤ 256)
+  in-scope : (scope : ℕ) (t qs : List ℕ) → FrameOk w scope t qs → (scope ≤ gates w) × (length t ≤ 256)
   in-scope zero t qs ok = omega arith
   in-scope (suc g) t qs ok = omega (arith, acc .fewGates)
 
@@ -130,7 +124,7 @@ module _ (w : List ℕ) (acc : Accepted w) where
 
   -- ---- arguments
 
-  pub argument : (scope : ℕ) (t qs : List ℕ) (a i : ℕ) → FrameOk scope t qs → T (argumentOk w scope a) → (¬ (argumentSize w scope a ≡ 1) → i < argumentSize w scope a)
+  pub argument : (scope : ℕ) (t qs : List ℕ) (a i : ℕ) → FrameOk w scope t qs → T (argumentOk w scope a) → (¬ (argumentSize w scope a ≡ 1) → i < argumentSize w scope a)
       → resolveQreg w scope qs a + cond (eqb (argumentSize w scope a) 1) 0 i < qubits w
   unfolding resolveQreg argumentSize argumentOk firstQubit
   argument zero t qs a i ok h k =
@@ -151,7 +145,7 @@ module _ (w : List ℕ) (acc : Accepted w) where
   unfolding firstBit
   register-below r h = omega (arith, sum-below (classicalSize w) 0 (classicalRegisters w) r h, ap (classicalSize w) (zero-add r))
 
-  opaque-declared : (g : ℕ) (xs : List Value) (qs : List ℕ) → g < gates w → Declared qs → T (declaredRecord w (Record.Opaque g xs qs))
+  opaque-declared : (g : ℕ) (xs : List Value) (qs : List ℕ) → g < gates w → Declared w qs → T (declaredRecord w (Record.Opaque g xs qs))
   unfolding declaredRecord
   opaque-declared g xs qs h k = All-every (cons (lt→ltb _ _ h) (cons (All-all (isQubit w) k) nil))
 
@@ -170,14 +164,14 @@ module _ (w : List ℕ) (acc : Accepted w) where
 
     -- arguments whose sizes match
     pub all-below : (i : ℕ) (al : List ℕ) → All (λ a. T (argumentOk w (frame .scope) a)) al → T (matching (map (argumentSize w (frame .scope)) al))
-        → i < rounds w (frame .scope) al → Declared (map (qubitIn w frame i) al)
+        → i < rounds w (frame .scope) al → Declared w (map (qubitIn w frame i) al)
     unfolding rounds matching
     all-below i al h m k =
         let sizes = of-All (argumentSize w (frame .scope)) al (all-All _ _ m) in
         All-of (qubitIn w frame i) (All-members al λ a n. qubit-below a i (members-All h a n) (matched _ _ i (members-All sizes a n) k))
 
     -- a whole argument
-    pub whole-below : (a : ℕ) → T (argumentOk w (frame .scope) a) → Declared (argumentQubits w frame a)
+    pub whole-below : (a : ℕ) → T (argumentOk w (frame .scope) a) → Declared w (argumentQubits w frame a)
     unfolding argumentQubits
     whole-below a h = All-of (λ i. qubitIn w frame i a) (All-range 0 (argumentSize w (frame .scope) a) (λ i x y. qubit-below a i h (λ n. omega arith)))
 
@@ -185,7 +179,7 @@ module _ (w : List ℕ) (acc : Accepted w) where
     sound h = flawless (bounds .0) h
 
     call-below : {s g p a : ℕ} {xs : List Value} {i : ℕ} → Call w frame s g p a xs i
-        → (g < gates w) × T (downward w (frame .scope) g) × Declared (map (qubitIn w frame i) (range a (gateArguments w g)))
+        → (g < gates w) × T (downward w (frame .scope) g) × Declared w (map (qubitIn w frame i) (range a (gateArguments w g)))
     unfolding plainFlaw
     call-below {g} {a} {i} c =
         let e = sound (c .runs) .1 in
@@ -226,7 +220,7 @@ module _ (w : List ℕ) (acc : Accepted w) where
         let k = call-below c in
         (k .0, rw length-append (shorter (frame .scope) ready (k .0) (k .1)), length-map (range a (gateArguments w g)) (qubitIn w frame i) ∙ length-range a (gateArguments w g), k .2)
       where
-        shorter : (scope : ℕ) → FrameOk scope (frame .trace) (frame .qubits) → g < gates w → T (downward w scope g) → length (frame .trace) + 2 ≤ 2 * (gates w - g)
+        shorter : (scope : ℕ) → FrameOk w scope (frame .trace) (frame .qubits) → g < gates w → T (downward w scope g) → length (frame .trace) + 2 ≤ 2 * (gates w - g)
         shorter zero ok h d = omega arith
         shorter (suc f) ok h d = let q : g < f = ltb→lt g f d in omega arith
 

@@ -16,9 +16,10 @@ use Rattle.model.specs.Image.{Statement, Gate, Conditional, statementOf,
 use Rattle.model.specs.Records.{Record, kind, fractionWords, angleWords, pair, fields, encode}
 use Rattle.model.specs.Steps.{Step, write, enter, refuse, Frame, mainFrame, Opening, Values, have, lack, given, inRounds, overlap, offsets, qubitIn, parameterValues, withValues, writeU, writeCX, distinctly, writeOpaque, writeMeasure, writeReset, pushFrame, openGate, visitGate, visitPlain, visitConditional, visitStatement, visitBody, opening, headRecord, steps}
 use Rattle.model.specs.Claims.{inRegister, rises, isQubit, anglesOf}
-use Rattle.model.proofs.All.{All, nil, cons, head-All, tail-All, and-T, test, All-every, all-All, All-all, All-weaken, All-append, All-flat, All-range}
+use Rattle.model.proofs.All.{head-All, tail-All, and-T, test, All-every, all-All, All-all, All-weaken, All-append, All-flat, All-range}
+use Rattle.model.specs.All.{All, nil, cons}
 use Rattle.model.proofs.All.{members-All, All-members}
-use Rattle.model.proofs.Accepted.{Accepted}
+use Rattle.model.specs.Accepted.{Accepted}
 use Rattle.model.proofs.Lengths.{length-range, length-offsets, length-values}
 use Rattle.model.proofs.TypedRecords.{declaredRecord, distinctRecord}
 

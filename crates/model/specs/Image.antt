@@ -11,7 +11,7 @@ use Rattle.model.specs.Lists.{range, sum, largest}
 -- "Statement, 5, unused words 0. Kind 1 U: three expressions, argument. 2 CX: two arguments. 3 call: gate, first parameter, first argument. 4 barrier: first argument, how many. 5 measure: quantum argument, classical argument. 6 reset: argument. 7 if: classical register, value, statement."
 pub data Statement : Type 0 where
   U : (theta phi lambda argument : ℕ) → Statement
-  CX : (copy xor : ℕ) → Statement
+  CX : (control target : ℕ) → Statement
   Gate : (gate parameter argument : ℕ) → Statement
   Barrier : (argument count : ℕ) → Statement
   Measure : (from to : ℕ) → Statement

@@ -10,4 +10,6 @@ pub mod Reader
 pub mod Listing
 pub mod Cases
 pub mod Claims
+pub mod All
+pub mod Accepted
 pub mod Playing

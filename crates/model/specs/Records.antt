@@ -10,7 +10,7 @@ use Rattle.value.specs.declared.Value.{Value}
 pub data Record : Type 0 where
   Head : (qubits bits : List (ℕ × ℕ)) → Record
   U : (theta phi lambda : Value) (qubit : ℕ) → Record
-  CX : (copy xor : ℕ) → Record
+  CX : (control target : ℕ) → Record
   Opaque : (gate : ℕ) (angles : List Value) (qubits : List ℕ) → Record
   Barrier : (qubits : List ℕ) → Record
   Measure : (qubit bit : ℕ) → Record

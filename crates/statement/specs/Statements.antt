@@ -11,7 +11,7 @@ use Rattle.model.specs.Lists.{range}
 use Rattle.model.specs.Records.{Record}
 use Rattle.model.specs.Image.{argumentAt}
 use Rattle.model.specs.Steps.{Step, write, refuse, Refusal, overlap, distinctly}
-use Rattle.model.proofs.All.{All}
+use Rattle.model.specs.All.{All}
 use Rattle.record_writer.specs.declared.Position.{Position}
 use Rattle.record_writer.specs.declared.LinearizeErrorKind.the-variants as kind
 use Rattle.record_writer.specs.declared.Linearized.{Linearized}

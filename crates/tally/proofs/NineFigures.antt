@@ -12,7 +12,8 @@ use Rattle.model.specs.Lists.{range, largest, all}
 use Rattle.model.specs.Image.{gates}
 use Rattle.model.specs.Check.{fine, check}
 use Rattle.model.specs.Tally.{weightTally, recordFigure, entryFigure, wordBound, figures, TallyAnswer, tallied, refused, ifAccepted, tally}
-use Rattle.model.proofs.Accepted.{Accepted, accepts}
+use Rattle.model.proofs.Accepted.{accepts}
+use Rattle.model.specs.Accepted.{Accepted}
 use Rattle.model.proofs.Deep.{deep-figures}
 use Rattle.image.specs.declared.CheckAnswer.{CheckAnswer}
 use Rattle.image.proofs.CheckAnswer.{the-type}

@@ -11,7 +11,8 @@ use Rattle.model.specs.Image.{statement, word, gates, mainStatements, statement
 use Rattle.model.specs.Check.{fine, check}
 use Rattle.model.specs.Tally.{plainTally, conditionalTally, statementTally, bodyTally, weightTally}
 use Rattle.model.proofs.Accepted.{accepts}
-use Rattle.model.proofs.Facts.{PlainFacts, Facts, run-facts}
+use Rattle.model.proofs.Facts.{run-facts}
+use Rattle.model.specs.Accepted.{PlainFacts, Facts}
 use Rattle.image.specs.declared.Layout.{Layout}
 use Rattle.image.proofs.KindLaws.{if-at}
 use Rattle.tally.specs.Weights.{weightOf, entryOf, capped, openingFor, AcceptedLayout}

@@ -7,7 +7,7 @@ use mathlib.Core.Option.{Option}
 use Rattle.model.specs.Lists.{range, sum}
 use Rattle.model.specs.Image.{Statement, U, CX, Gate, Barrier, Measure, Reset, Conditional, Unknown, arguments, allStatements, argumentSize}
 use Rattle.model.specs.Tally.{plainTally}
-use Rattle.model.proofs.Facts.{PlainFacts}
+use Rattle.model.specs.Accepted.{PlainFacts}
 use Rattle.image.specs.declared.Layout.{Layout}
 use Rattle.image.specs.Layout.{LayoutOf}
 

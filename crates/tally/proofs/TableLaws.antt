@@ -11,8 +11,8 @@ use lib.Seq.{getD-set-same, getD-set-other}
 use borrow.Author.Tests.{eqb-true, eqb-false}
 use Rattle.model.specs.Image.{gates}
 use Rattle.model.specs.Tally.{bodyTally}
-use Rattle.model.proofs.Accepted.{Accepted}
-use Rattle.model.proofs.Deep.{reach, deep-body}
+use Rattle.model.specs.Accepted.{Accepted, callsBelow}
+use Rattle.model.proofs.Deep.{deep-body}
 use Rattle.tally.specs.Weights.{weightOf, entryOf, capped, openingFor, body, FigureTable, RowFilled}
 
 module _ (image : List ℕ) (n : ℕ) where
@@ -25,7 +25,7 @@ module _ (image : List ℕ) (n : ℕ) where
   begun g first = (λ k h. absurd (omega arith), λ h k p q. refl)
 
   -- what the body may call
-  pub begun-below : (g j : ℕ) (first table : List ℕ) → FigureTable image n g first → Begun g j first table → FigureTable image n (reach image (g + 1)) table
+  pub begun-below : (g j : ℕ) (first table : List ℕ) → FigureTable image n g first → Begun g j first table → FigureTable image n (callsBelow image (g + 1)) table
   begun-below g j first table tab b = rw (add-one g) (record { holds = λ k h i e p q. b .1 h i (omega arith) q ∙ tab .holds k h i e p q })
 
   pub begun-next : (g j x : ℕ) (first table next : List ℕ) → Begun g j first table → j < 9 → 9 * g + j < length table → x ≡ capped (bodyTally image (weightOf j) (entryOf j) (openingFor image j n) (g + 1)) → next ≡ set table (9 * g + j) x → Begun g (j + 1) first next

@@ -11,8 +11,7 @@ ghost use Rattle.model.specs.Lists.{range, sum, largest};
 ghost use Rattle.model.specs.Image.{word, statement, argumentSize, classicalArgumentSize, rounds, gates, gateArguments, qubits, bits};
 ghost use Rattle.model.specs.Check.{fine, check};
 ghost use Rattle.model.specs.Tally.{gateTally, plainTally, conditionalTally, statementTally, bodyTally, weightTally, figures, tally};
-ghost use Rattle.model.proofs.Facts.{PlainFacts, Facts};
-ghost use Rattle.model.proofs.Deep.{reach};
+ghost use Rattle.model.specs.Accepted.{PlainFacts, Facts, callsBelow};
 ghost use Rattle.image.specs.Layout.{LayoutOf};
 ghost use Rattle.tally.specs.Weights.{weightOf, entryOf, capped, openingFor, AcceptedLayout, FigureTable, RowFilled, nineOf, tallyAnswerOf};
 
@@ -193,7 +192,7 @@ fn plain_figure(
     s: u64,
     j: u64,
 ) -> u64
-    requires { ⌜ AcceptedLayout (now image) l × FigureTable (now image) n (reach (now image) scope) (now table) × PlainFacts (now image) scope (statement (now image) s) × (s ≤ 8192) × (j < 9) ⌝ }
+    requires { ⌜ AcceptedLayout (now image) l × FigureTable (now image) n (callsBelow (now image) scope) (now table) × PlainFacts (now image) scope (statement (now image) s) × (s ≤ 8192) × (j < 9) ⌝ }
     ensures { λ r. ⌜ r ≡ capped (plainTally (now (image .entry)) (weightOf j) (entryOf j) (λ t. 0) (openingFor (now (image .entry)) j n) scope (statement (now (image .entry)) s)) ⌝ }
 {
     let at = image::statement_at(image, l, s);
@@ -223,7 +222,7 @@ fn conditional_figure(
     t: u64,
     j: u64,
 ) -> u64
-    requires { ⌜ AcceptedLayout (now image) l × FigureTable (now image) n (reach (now image) scope) (now table) × PlainFacts (now image) scope (statement (now image) t) × (t ≤ 8192) × (j < 9) ⌝ }
+    requires { ⌜ AcceptedLayout (now image) l × FigureTable (now image) n (callsBelow (now image) scope) (now table) × PlainFacts (now image) scope (statement (now image) t) × (t ≤ 8192) × (j < 9) ⌝ }
     ensures { λ r. ⌜ r ≡ capped (conditionalTally (now (image .entry)) (weightOf j) (entryOf j) (openingFor (now (image .entry)) j n) scope t) ⌝ }
 {
     let inner = plain_figure(image, l, table, n, scope, t, j);
@@ -239,7 +238,7 @@ fn statement_figure(
     s: u64,
     j: u64,
 ) -> u64
-    requires { ⌜ AcceptedLayout (now image) l × FigureTable (now image) n (reach (now image) scope) (now table) × Facts (now image) scope (statement (now image) s) × (s ≤ 8192) × (j < 9) ⌝ }
+    requires { ⌜ AcceptedLayout (now image) l × FigureTable (now image) n (callsBelow (now image) scope) (now table) × Facts (now image) scope (statement (now image) s) × (s ≤ 8192) × (j < 9) ⌝ }
     ensures { λ r. ⌜ r ≡ capped (statementTally (now (image .entry)) (weightOf j) (entryOf j) (openingFor (now (image .entry)) j n) scope s) ⌝ }
 {
     let at = image::statement_at(image, l, s);
@@ -254,7 +253,7 @@ fn statement_figure(
 
 // The statements of a scope.
 fn body_figure(image: &[u64], l: Layout, table: &[u64; 1152], n: u64, scope: u64, j: u64) -> u64
-    requires { ⌜ AcceptedLayout (now image) l × FigureTable (now image) n (reach (now image) scope) (now table) × (scope ≤ l .gates) × (j < 9) ⌝ }
+    requires { ⌜ AcceptedLayout (now image) l × FigureTable (now image) n (callsBelow (now image) scope) (now table) × (scope ≤ l .gates) × (j < 9) ⌝ }
     ensures { λ r. ⌜ r ≡ capped (bodyTally (now (image .entry)) (weightOf j) (entryOf j) (openingFor (now (image .entry)) j n) scope) ⌝ }
 {
     let span = image::statements_of(image, l, scope);

@@ -15,7 +15,8 @@ use Rattle.model.specs.Records.{Record}
 use Rattle.model.specs.Steps.{Step, write, Refusal, have, lack, also, given, parameterValues, withValues, inRounds, qubitIn, writeU}
 use Rattle.model.specs.Run.{refused}
 use Rattle.model.proofs.ListLaws.{getD-take}
-use Rattle.model.proofs.All.{All, test, all-All, of-All, range-All, head-All, tail-All}
+use Rattle.model.proofs.All.{test, all-All, of-All, range-All, head-All, tail-All}
+use Rattle.model.specs.All.{All}
 use Rattle.model.proofs.EvaluateLaws.{operand}
 use Rattle.record_writer.specs.declared.Position.{Position}
 use Rattle.record_writer.specs.declared.LinearizeError.{LinearizeError}

@@ -5,8 +5,9 @@ use denote.Ref.{now}
 use borrow.Author.Needs.{needs}
 use Rattle.model.specs.Tally.{plainTally}
 use Rattle.model.specs.Image as Image
-use Rattle.model.proofs.Facts.{PlainFacts, no-kind}
-use Rattle.model.proofs.Deep.{within-reach}
+use Rattle.model.proofs.Facts.{no-kind}
+use Rattle.model.specs.Accepted.{PlainFacts}
+use Rattle.model.proofs.Deep.{called-below}
 use Rattle.image.proofs.KindLaws.{words-are, u-is, cx-is, gate-is, barrier-is, measure-is, reset-is}
 use Rattle.tally.specs.Weights.{weightOf, capped}
 use Rattle.tally.proofs.StatementKinds.{arguments-few}
@@ -90,7 +91,7 @@ call-figure-requires c κs =
     let laid = pre .0 .laid in
     let few = arguments-few _ _ laid in
     let f = known-as w (gate-is _ _ _ _ _ (c .match .keys3)) in
-    (pre .0, tabled-fewer _ _ _ _ _ (within-reach _ _ _ (f .0) (f .3)) (pre .1), omega (arith, laid .gates-is, f .0), omega (arith, few, f .2), pre .4)
+    (pre .0, tabled-fewer _ _ _ _ _ (called-below _ _ _ (f .0) (f .3)) (pre .1), omega (arith, laid .gates-is, f .0), omega (arith, few, f .2), pre .4)
 
 barrier-figure-requires : tie.Need-barrier-figure-requires
 barrier-figure-requires c κs =
