@@ -593,7 +593,7 @@ class CutAngles(Unchanged):
         self.write(CALL, statement[1], len(values), len(qubits), *self.angle_words(values), *qubits)
 
 
-@mutant("a cut gate that tells its parameters, without the angles")
+@mutant("a cut gate with the count of its parameters, without the angles")
 class CutCount(Unchanged):
     def cut(self, statement, values, qubits):
         self.write(CALL, statement[1], len(values), len(qubits), *qubits)
