@@ -1,5 +1,6 @@
-#!/usr/bin/env python3
 """Images and depths with the answers of the tally, printed to standard output.
+
+    python3 -m oracle.vectors.tally_vectors
 
 The answers are those of reference.py, a second reading of document 01.  The
 random part has a fixed seed, so the output is the same everywhere, to the byte.
@@ -21,11 +22,10 @@ from collections import Counter
 from math import comb
 from random import Random
 
-import images
-import reference
-from image_vectors import NOTHING, PI_ENTRY, gate, opaque, runs, variable
-from reference import BARRIER, CALL, CX, IF, MEASURE, RESET, U
-from test_reference import K1, changed, image
+from oracle.reference import reference
+from oracle.reference.reference import BARRIER, CALL, CX, IF, MEASURE, RESET, U
+from oracle.vectors import random_images
+from oracle.vectors.entries import K1, NOTHING, PI_ENTRY, changed, decimal_words, gate, image, opaque, variable
 
 WORD_MAX = 2**64 - 1
 LIMIT = 4294967295
@@ -49,7 +49,7 @@ def vector(words, depth):
     if (depth, *words) not in made:
         made.add((depth, *words))
         counts[refusal[0]] += 1
-        lines.append(" ".join((*map(str, (depth, *refusal, *figures)), *runs(words))))
+        lines.append(" ".join((*map(str, (depth, *refusal, *figures)), *decimal_words(words))))
     return answer
 
 
@@ -657,15 +657,15 @@ def refusals():
 SEED = 20170712
 
 
-def random_images(count):
+def random_vectors(count):
     heading("Random images, one in four damaged")
     rng = Random(SEED)
     depths = 0, 1, 2, 3, 4, 129, WORD_MAX
     before = len(lines)
     while len(lines) < before + count:
-        words = images.random_program(rng)
+        words = random_images.random_program(rng)
         if rng.randrange(4) == 0:
-            words = images.damaged(rng, words)
+            words = random_images.damaged(rng, words)
         if len(words) < 120:
             vector(words, rng.choice(depths))
 
@@ -689,7 +689,7 @@ def main():
     shared_bodies()
     everything()
     refusals()
-    random_images(100)
+    random_vectors(100)
     print("\n".join(lines))
     print(*(f"{number}: {counts[number]}" for number in range(17) if counts[number]), file=sys.stderr)
 

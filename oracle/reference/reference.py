@@ -1,5 +1,4 @@
-#!/usr/bin/env python3
-"""A second reading of document 01: check, tally, run, reader and listing.
+"""A second reading of document 01: check, tally, run, record reader and listing.
 
 It is made so that another program can be compared with it.  It was written
 from document 01 and its settled readings only, with no sight of the code it
@@ -7,20 +6,18 @@ tests.  A word is a Python integer below 2^64; sums and products are taken on
 unbounded integers, so nothing wraps.  Sentences of document 01 stand in
 quotation marks beside the lines that render them.
 
-    check(words)                        None, or (number, place)
+    check(words)                        the flaw, (number, place), or None
     tally(words, depth)                 the nine figures of an accepted image
     tally_operation(words, depth)       ("refused", number, place), or the figures
     run(words, depth, output, trace)    an Outcome; the last two are lengths lent
     next_record(words, position)        ("record", length), "end" or 17
     listing(data)                       the listing program's text, as bytes
-
-Started as a program it is the listing program.
+    listing_input(words, depth)         the bytes that the listing program reads
 """
 
-import sys
 from collections import namedtuple
 
-import angles
+from oracle.reference import angles
 
 # ------------------------------------------------------------------- image
 # "A lent slice of u64 words, contents first: total words, then counts of
@@ -135,7 +132,7 @@ INNER_KINDS = U, CX, CALL, MEASURE, RESET  # "of kind 1, 2, 3, 5 or 6"
 
 
 def check(words):
-    """None for an accepted image, else (number, place)."""
+    """The flaw of an image, (number, place), or None if it is accepted."""
     words = tuple(words)
     if not contents_good(words):
         return 1, 0
@@ -191,9 +188,9 @@ def bad_statement(image):
     """The first bad statement: main in order, then bodies by gate number."""
     for scope, number in judged_statements(image):
         allowed = MAIN_KINDS if scope == MAIN_SCOPE else BODY_KINDS
-        fault = statement_fault(image, scope, number, allowed)
-        if fault:
-            return fault, image.statement_place(number)
+        flaw_number = statement_flaw_number(image, scope, number, allowed)
+        if flaw_number:
+            return flaw_number, image.statement_place(number)
     return None
 
 
@@ -206,7 +203,7 @@ def judged_statements(image):
             yield gate + 1, number
 
 
-def statement_fault(image, scope, number, allowed):
+def statement_flaw_number(image, scope, number, allowed):
     # "4 a kind not allowed there, an unused word, or a number or run of its
     # own out of range, 8 call not downward, 6 expression or a parameter's number,
     # 5 argument entry, 7 sizes, in this order."
@@ -215,7 +212,7 @@ def statement_fault(image, scope, number, allowed):
     if kind not in allowed or not own_words_good(image, statement):
         return 4
     if kind == IF:  # "An if has its inner statement's faults, at its own place."
-        return statement_fault(image, scope, statement[3], INNER_KINDS)
+        return statement_flaw_number(image, scope, statement[3], INNER_KINDS)
     if kind == CALL and not downward(scope, statement[1]):
         return 8
     if not all(named_expression_good(image, scope, e) for e in image.named_expressions(statement)):
@@ -330,9 +327,9 @@ def tally(words, depth):
 
 def tally_operation(words, depth):
     # "Check's, then 16, place 0, exactly if any figure passes 4,294,967,295."
-    refused = check(words)
-    if refused:
-        return ("refused", *refused)
+    flaw = check(words)
+    if flaw:
+        return ("refused", *flaw)
     figures = tally(words, depth)
     return ("refused", 16, 0) if max(figures) > FIGURE_LIMIT else figures
 
@@ -445,16 +442,15 @@ def run(words, depth, output_length, trace_length):
     # "15, place 0, if the trace has under 256 words; then check's."
     if trace_length < 256:
         return Outcome(15, 0, 0, 0, [], [])
-    refused = check(words)
-    if refused:
-        return Outcome(*refused, 0, 0, [], [])
+    flaw = check(words)
+    if flaw:
+        return Outcome(*flaw, 0, 0, [], [])
     running = Run(Image(tuple(words)), depth, output_length)
     try:
         running.program()
     except Refusal as refusal:
         trace = [word for pair in running.stack for word in pair]
-        answer = refusal.number, refusal.place, refusal.second
-        return Outcome(*answer, running.records, running.output, trace)
+        return Outcome(refusal.number, refusal.place, refusal.second, running.records, running.output, trace)
     return Outcome(0, 0, 0, running.records, running.output, [])
 
 
@@ -518,18 +514,18 @@ class Run:
             self.write(U, *words, qubit)
 
     def cx(self, frame, statement):
-        for copy, xor in self.rounds(frame, statement):
-            if copy == xor:  # "for a CX first then second"
+        for control, target in self.rounds(frame, statement):
+            if control == target:  # "for a CX first then second"
                 self.overlap(statement[1], statement[2])
-            self.write(CX, copy, xor)
+            self.write(CX, control, target)
 
     def barrier(self, frame, statement):
         # "4 barrier: count, qubits."  "A barrier holds each qubit once", rising.
-        held = set()
+        qubits = set()
         for argument, sort in self.image.named_arguments(statement):
             first, size = self.resolve(frame, argument, sort)
-            held.update(range(first, first + size))
-        self.write(BARRIER, len(held), *sorted(held))
+            qubits.update(range(first, first + size))
+        self.write(BARRIER, len(qubits), *sorted(qubits))
 
     def conditional(self, frame, statement):
         # "An if writes kind 7, then what its inner statement writes in main,
@@ -609,9 +605,9 @@ class Run:
         # that U or the call's parameter names."
         try:
             return evaluate(self.image, frame.angles, number)
-        except angles.Refused as refused:
+        except angles.AngleRefusal as refusal:
             place = self.image.place(EXPRESSIONS, number)
-            raise Refusal(refused.case, place, refused.bits) from None
+            raise Refusal(refusal.number, place, refusal.bits) from None
 
     def angle_words(self, values):
         # "Four words each: a's n, d, b's n, d, signed in two's complement."
@@ -643,7 +639,7 @@ def evaluate(image, variables, outermost):
     return value(outermost)
 
 
-# ------------------------------------------------------------------ reader
+# ----------------------------------------------------------- record reader
 
 
 def next_record(words, position):
@@ -654,8 +650,8 @@ def next_record(words, position):
         return 17
     if left == 0:
         return "end"
-    # A word that tells a length but is missing counts as 0: the least length
-    # of that kind is too long already.
+    # A word that a length is made of but that is missing counts as 0: the least
+    # length of that kind is too long already.
     kind, first, second, third = (*words[position : position + 4], 0, 0, 0)[:4]
     lengths = {
         HEAD: 3 + 2 * (first + second),
@@ -727,5 +723,5 @@ def signed(word):
     return word - 2**64 if word >= 2**63 else word
 
 
-if __name__ == "__main__":
-    sys.stdout.buffer.write(listing(sys.stdin.buffer.read()))
+def listing_input(words, depth):
+    return b"".join(word.to_bytes(8, "little") for word in (depth, *words))

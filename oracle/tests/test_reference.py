@@ -1,9 +1,8 @@
-#!/usr/bin/env python3
 """A quick self-test of the second reading: K1 to K10 of document 01 to the
-byte, hand-computed cases for each refusal, the four misreadings, the reader,
-and the claims that tie the tally to the run on random images.
+byte, hand-computed cases for each refusal, the four misreadings, the record
+reader, and the claims that tie the tally to the run on random images.
 
-    python3 oracle/test_reference.py
+    python3 -m oracle.tests.test_reference
 """
 
 import time
@@ -11,35 +10,17 @@ import unittest
 from collections import Counter
 from random import Random
 
-import images
-from images import listing_input
-from reference import Outcome, check, listing, next_record, records_of, run, tally, tally_operation
+from oracle.reference.reference import (
+    Outcome, check, listing, listing_input, next_record, records_of, run, tally, tally_operation,
+)
+from oracle.vectors import random_images
+from oracle.vectors.entries import K1, changed, image
 
 WORD_MAX = 2**64 - 1
-
-K1 = list(map(int, """
-    54 1 0 1 2 1 4 1 5 2 1 1 1 2 1 3 0 0 0 0 2 1 2 0 0 1 3 4 0 3 0 0 0 1 0 2 0 0 2 0 0 0 2 2 0 7 0 1 3 0 0 2 0 0
-""".split()))
 
 # Expression entries.
 PI = 0, 0, 0
 ZERO, ONE, TWO, THREE = ((2, n, 0) for n in range(4))
-
-
-def image(quantum=(), classical=(), gates=(), main=(), further=(), arguments=(), parameters=(), expressions=()):
-    """An image of these entries; statements are filled up with zeros."""
-    lists = [
-        [(size,) for size in quantum],
-        [(size,) for size in classical],
-        gates,
-        [(*statement, 0, 0, 0, 0)[:5] for statement in main],
-        [(*statement, 0, 0, 0, 0)[:5] for statement in further],
-        arguments,
-        [(expression,) for expression in parameters],
-        expressions,
-    ]
-    entries = [word for entries in lists for entry in entries for word in entry]
-    return [9 + len(entries), *map(len, lists), *entries]
 
 
 def u_image(*expressions):
@@ -155,13 +136,6 @@ class Listing(unittest.TestCase):
         text = listed(words)  # the head has 8191 words, the reset 2
         self.assertTrue(text.startswith("0 4094 0 0 0 0 1 "))
         self.assertTrue(text.endswith(" 0 4093\nrefused 14 0 0\n"))
-
-
-def changed(words, changes):
-    words = list(words)
-    for place, word in changes.items():
-        words[place] = word
-    return words
 
 
 class Check(unittest.TestCase):
@@ -336,37 +310,38 @@ class Refusals(unittest.TestCase):
         self.assertEqual(run([], 8, 99, 256), Outcome(1, 0, 0, 0, [], []))
         self.assertEqual(run(image(quantum=[0]), 8, 99, 300), Outcome(2, 9, 0, 0, [], []))
 
-    def faults(self, number, second, *expressions):
+    def refused(self, number, second, *expressions):
         outcome = run(u_image(*expressions), 0, 99, 256)
         head = [0, 1, 0, 0, 0]
         self.assertEqual(outcome, Outcome(number, 17 + 3 * (len(expressions) - 1), second, 1, head, []))
 
     def test_9(self):
-        self.faults(9, 0, ONE, ZERO, (7, 0, 1))
-        self.faults(9, 0, PI, (5, 0, 0), (7, 0, 1), (9, 2, 0))
+        self.refused(9, 0, ONE, ZERO, (7, 0, 1))
+        self.refused(9, 0, PI, (5, 0, 0), (7, 0, 1), (9, 2, 0))
 
     def test_10(self):
-        for bits, told in (0x7F800000,) * 2, (0xFF800000,) * 2, (0xFFC00001, 0x7FC00000), (0x7F800001, 0x7FC00000):
-            self.faults(10, told, (1, bits, 0))
+        pairs = (0x7F800000,) * 2, (0xFF800000,) * 2, (0xFFC00001, 0x7FC00000), (0x7F800001, 0x7FC00000)
+        for bits, refusal_bits in pairs:
+            self.refused(10, refusal_bits, (1, bits, 0))
         # 1 by an angle whose f32 is zero, and another such angle by it.
         zero = (1, 0x40490FDB, 0), PI, (5, 0, 1)
-        self.faults(10, 0x7F800000, *zero, ONE, (7, 3, 2))
-        self.faults(10, 0x7FC00000, *zero, (2, 103993, 0), (2, 33102, 0), (7, 3, 4), (5, 5, 1), (7, 6, 2))
+        self.refused(10, 0x7F800000, *zero, ONE, (7, 3, 2))
+        self.refused(10, 0x7FC00000, *zero, (2, 103993, 0), (2, 33102, 0), (7, 3, 4), (5, 5, 1), (7, 6, 2))
 
     def test_11(self):
-        self.faults(11, 0, (2, 2**63, 0))
-        self.faults(11, 0, (2, 2**63 - 1, 0), ONE, (4, 0, 1))
+        self.refused(11, 0, (2, 2**63, 0))
+        self.refused(11, 0, (2, 2**63 - 1, 0), ONE, (4, 0, 1))
 
     def test_13(self):
-        self.faults(13, 0, ONE, (13, 0, 0))
-        self.faults(13, 0, ONE, (14, 0, 0))
-        self.faults(13, 0, PI, (10, 0, 0))
-        self.faults(13, 0, TWO, (15, 0, 0))
+        self.refused(13, 0, ONE, (13, 0, 0))
+        self.refused(13, 0, ONE, (14, 0, 0))
+        self.refused(13, 0, PI, (10, 0, 0))
+        self.refused(13, 0, TWO, (15, 0, 0))
 
     def test_left_operand_wins(self):
         exp, zero = (13, 0, 0), (7, 0, 1)
-        self.faults(13, 0, ONE, ZERO, exp, zero, (4, 2, 3))
-        self.faults(9, 0, ONE, ZERO, exp, zero, (4, 3, 2))
+        self.refused(13, 0, ONE, ZERO, exp, zero, (4, 2, 3))
+        self.refused(9, 0, ONE, ZERO, exp, zero, (4, 3, 2))
 
     def test_12_of_a_cx_in_a_body(self):
         # Gate 0 of two arguments does CX on them; it is called with q[0], q.
@@ -405,7 +380,7 @@ class Refusals(unittest.TestCase):
             self.assertEqual(outcome.output, outcomes[39].output[:written])
             self.assertEqual(outcome.trace, [0, 15] if 7 <= length < 35 else [])
 
-    def test_faults_come_before_14(self):
+    def test_other_refusals_come_before_14(self):
         self.assertEqual(run(u_image(ONE, ZERO, (7, 0, 1)), 0, 5, 256)[:4], (9, 23, 0, 1))
         overlap = image(quantum=[1], main=[(2, 0, 0)], arguments=[(0, 0)])
         self.assertEqual(run(overlap, 0, 5, 256)[:4], (12, 15, 15, 1))
@@ -424,8 +399,8 @@ class Refusals(unittest.TestCase):
             whole = [*beginning, *[5] * (length - len(beginning))]
             self.assertEqual(next_record(whole + [8], 0), ("record", length))
             self.assertEqual(next_record([1] + whole, 1), ("record", length))
-            for cut in range(1, length):
-                self.assertEqual(next_record(whole[:cut], 0), 17)
+            for short in range(1, length):
+                self.assertEqual(next_record(whole[:short], 0), 17)
         for words in [9], [WORD_MAX], [0, 2**63, 2**63], [3, 0, 2**62, 0], [3, 0, 0, WORD_MAX], [4, WORD_MAX]:
             self.assertEqual(next_record(words + [0] * 9, 0), 17)
         self.assertEqual([next_record([8, 8], at) for at in (1, 2, 3, WORD_MAX)], [("record", 1), "end", 17, 17])
@@ -564,7 +539,7 @@ class Claims(unittest.TestCase):
     def test_random_images(self):
         rng = Random(20170711)
         for _ in range(600):
-            case = images.random_case(rng)
+            case = random_images.random_case(rng)
             outcome = run(*case)
             found = list(records_of(outcome.output))
             self.assertEqual(outcome.records, len(found))
@@ -590,10 +565,10 @@ class Claims(unittest.TestCase):
     def test_generator(self):
         rng = Random(1)
         for _ in range(200):
-            words = images.random_program(rng)
+            words = random_images.random_program(rng)
             self.assertIsNone(check(words))
-            images.damaged(rng, words)
-        checked, tallied, ran, _ = images.outcomes(Random(2), 1000)
+            random_images.damaged(rng, words)
+        checked, tallied, ran, _ = random_images.outcomes(Random(2), 1000)
         self.assertEqual(set(checked), set(range(9)))
         self.assertEqual(set(tallied), set(range(9)) | {16})
         self.assertEqual(set(ran), set(range(16)))

@@ -1,7 +1,9 @@
-#!/usr/bin/env python3
-"""Puts one fault at a time into a copy of the stand-ins or of the driver and compares: faults.py [COUNT] [SEED] [WORDS]
+"""Mutants of the Rust beside which the unit is compared: one thing is made wrong at
+a time in a copy of the stand-ins or of the driver, which is then compared.
 
-Every fault is to be seen as a difference.  With words, only the faults whose
+    python3 -m oracle.tests.compare_mutants [COUNT] [SEED] [WORDS]
+
+Every mutant is to be seen as a difference.  With words, only the mutants whose
 names have them are tried.  Takes the variables of `oracle/compare`.
 """
 
@@ -12,11 +14,13 @@ import subprocess
 import sys
 from pathlib import Path
 
-HERE = Path(__file__).resolve().parent
-WORK = HERE / "target" / "faults"
+ROOT = Path(__file__).resolve().parent.parent.parent
+RUST = ROOT / "oracle" / "rust"
+WORK = RUST / "target" / "mutants"
 NUM, EXACT, IMAGE, PUBLISHED = "num/src/lib.rs", "num/src/exact.rs", "src/image.rs", "src/published.rs"
 
-FAULTS = [
+# What is wrong, and the file with the text that is replaced by another.
+MUTANTS = [
     ("sum: l not tested", EXACT, "in_range(b / g * d)? as i128", "(b / g * d)"),
     ("sum: p not tested", EXACT, "in_range(l / b * a)? as i128", "(l / b * a)"),
     ("sum: q not tested", EXACT, "in_range(l / d * c)? as i128", "(l / d * c)"),
@@ -41,7 +45,7 @@ FAULTS = [
     ("sine: adding 2 never overflows", NUM,
      "*self = self.checked_add(&other.into()).unwrap_or_else(watch::overflowed)",
      "*self = self.checked_add(&other.into()).unwrap_or(Rational64::new_raw(1, 1))"),
-    ("functions of floats: not told", NUM, "{ UNTESTED_OVERFLOW } else { FLOAT_FUNCTION }", "{ UNTESTED_OVERFLOW } else { 0 }"),
+    ("functions of floats: not seen", NUM, "{ UNTESTED_OVERFLOW } else { FLOAT_FUNCTION }", "{ UNTESTED_OVERFLOW } else { 0 }"),
     ("U: its third angle twice", IMAGE, "phi: self.expression(second)?", "phi: self.expression(third)?"),
     ("CX: operands exchanged", IMAGE, "copy: quantum(first), xor: quantum(second)", "copy: quantum(second), xor: quantum(first)"),
     ("call: place of the gate", IMAGE, "name: span(at, name('g', first)), args",
@@ -68,16 +72,16 @@ FAULTS = [
 
 
 def copied():
-    """Copies the project, to put the faults into."""
+    """Copies the Rust, to make the mutants in."""
     copy = WORK / "copy"
     shutil.rmtree(copy, ignore_errors=True)
-    shutil.copytree(HERE, copy, ignore=shutil.ignore_patterns("target"), copy_function=shutil.copy)
+    shutil.copytree(RUST, copy, ignore=shutil.ignore_patterns("target"), copy_function=shutil.copy)
     return copy
 
 
 def tried(copy, what, file, old, new, count, seed):
-    """Builds the copy with a fault and compares; the number of differences."""
-    text = (HERE / file).read_text()
+    """Builds a mutant in the copy and compares; the number of differences."""
+    text = (RUST / file).read_text()
     if text.count(old) != 1:
         raise SystemExit(f"{what}: {text.count(old)} places in {file}")
     (copy / file).write_text(text.replace(old, new))
@@ -88,8 +92,10 @@ def tried(copy, what, file, old, new, count, seed):
 
 
 def compared(copy, what, count, seed):
-    command = ["cargo", "run", "--offline", "--quiet", "--release", "--jobs", "1", "--features", "unit", "--bin", "compare", "--", seed, count]
+    options = ["--offline", "--quiet", "--release", "--jobs", "1", "--features", "unit", "--bin", "compare"]
+    command = ["cargo", "run", *options, "--", seed, count]
     environment = dict(os.environ, CARGO_TARGET_DIR=str(WORK / "build"))
+    environment.setdefault("COWHIRAME_LIB", str(ROOT / "target" / "staticlib"))
     done = subprocess.run(command, cwd=copy, env=environment, capture_output=True, text=True)
     found = re.search(r"^(\d+) differences", done.stdout, re.MULTILINE)
     if not found:
@@ -99,14 +105,14 @@ def compared(copy, what, count, seed):
 
 def main(count="5000", seed="1", words=""):
     missed, copy = 0, copied()
-    faults = [fault for fault in FAULTS if words in fault[0]]
-    if compared(copy, "no fault", count, seed):
-        raise SystemExit("differences without a fault")
-    for fault in faults:
-        differences = tried(copy, *fault, count, seed)
+    mutants = [mutant for mutant in MUTANTS if words in mutant[0]]
+    if compared(copy, "no mutant", count, seed):
+        raise SystemExit("differences without a mutant")
+    for mutant in mutants:
+        differences = tried(copy, *mutant, count, seed)
         missed += differences == 0
-        print(f"{fault[0]}: {f'{differences} differences' if differences else 'NOT SEEN'}", flush=True)
-    print(f"{len(faults)} faults, {missed} not seen")
+        print(f"{mutant[0]}: {f'{differences} differences' if differences else 'NOT SEEN'}", flush=True)
+    print(f"{len(mutants)} mutants, {missed} not seen")
     sys.exit(missed > 0)
 
 

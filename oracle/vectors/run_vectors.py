@@ -1,5 +1,6 @@
-#!/usr/bin/env python3
 """Images, depths and lengths lent, with the outcome of the run, printed to standard output.
+
+    python3 -m oracle.vectors.run_vectors
 
 The outcomes are those of reference.py, a second reading of document 01.  The
 random part has a fixed seed, so the output is the same everywhere, to the byte.
@@ -9,7 +10,7 @@ A line that starts with '#' is a comment.  Every other line holds a run:
     words depth output trace  number place second records written traced sum sum  word word ..
 
 First how many words the image has, the depth, and the lengths of the output and
-the trace that are lent.  Then what the run tells: the number, 0 if it finished,
+the trace that are lent.  Then the run's answer: the number, 0 if it finished,
 the two places (of a 10: the place and the f32's bits), the records, output words
 and trace words; then a sum over the output words and one over the trace words.
 The image's words close the line; a line that has none of them takes those of the
@@ -20,21 +21,20 @@ in part, and the program stops where the reference has another outcome.
 """
 
 import sys
-from collections import Counter, namedtuple
+from collections import Counter
 from random import Random
 
-import images
-import reference
-from image_vectors import NOTHING, PI_ENTRY, gate, integer, opaque, runs, variable
-from images import (
-    COS, DIVIDE, EXP, F32_PI, LN, MINUS, NEAR_PI, NEGATE, PI_TREE, PLUS, POWER, SIN, SQRT, TAN, TIMES, pi_times, ratio,
-    whole,
-)
-from reference import (
+from oracle.reference import reference
+from oracle.reference.reference import (
     ARGUMENTS, BARRIER, CALL, CX, EXPRESSIONS, IF, INTEGER, MAIN, MEASURE, REAL, RESET, U, VARIABLE, Image,
 )
-from tally_vectors import CX_ONE, U_ONE, call, program, refused_images, tower
-from test_reference import K1, changed, image
+from oracle.vectors import random_images
+from oracle.vectors.entries import K1, NOTHING, PI_ENTRY, changed, decimal_words, gate, image, integer, opaque, variable
+from oracle.vectors.random_images import (
+    COS, DIVIDE, EXP, F32_PI, LN, MINUS, NEAR_PI, NEGATE, PI_TREE, PLUS, POWER, SIN, SQRT, TAN, TIMES, Case, Scale,
+    pi_times, ratio, whole,
+)
+from oracle.vectors.tally_vectors import CX_ONE, U_ONE, call, program, refused_images, tower
 
 WORD_MAX = 2**64 - 1
 
@@ -42,8 +42,6 @@ WORD_MAX = 2**64 - 1
 OUTPUT_ROOM = 81920
 TRACE_ROOM = 300
 IMAGE_ROOM = 8200
-
-Case = namedtuple("Case", "words depth output trace")
 
 lines = []
 stored = []  # each case with the numbers of its line
@@ -56,8 +54,8 @@ def heading(text):
     lines.append("# " + text)
 
 
-# A polynomial over the 32-bit halves of the words, low half first.  No product
-# reaches 2^49.
+# A polynomial over the 32-bit halves of the words, low half first.  Every product
+# is below 2^49.
 FACTOR, PRIME = 65599, 4294967291
 
 
@@ -85,7 +83,8 @@ def vector(words, depth, output_length, trace_length=256):
 
 
 def add_line(case, outcome):
-    if len(case.words) > IMAGE_ROOM or not 0 <= case.output <= OUTPUT_ROOM or not 0 <= case.trace <= TRACE_ROOM:
+    lent_good = 0 <= case.output_length <= OUTPUT_ROOM and 0 <= case.trace_length <= TRACE_ROOM
+    if len(case.words) > IMAGE_ROOM or not lent_good:
         raise AssertionError(f"no room: {len(case.words)} words, {case[1:]}")
     if not all(0 <= word <= WORD_MAX for word in (case.depth, *case.words, *outcome.output, *outcome.trace)):
         raise AssertionError(f"no word: {case}")
@@ -95,7 +94,7 @@ def add_line(case, outcome):
     counts[outcome.number] += 1
     stored.append((case, numbers_of(outcome)))
     numbers = len(case.words), *case[1:], *stored[-1][1]
-    lines.append(" ".join((*map(str, numbers), *runs(() if repeated else case.words))))
+    lines.append(" ".join((*map(str, numbers), *decimal_words(() if repeated else case.words))))
 
 
 # --------------------------------------------------------- expectations
@@ -139,7 +138,7 @@ def stated(words, depth, *text):
     agree(outcome, text_of(outcome), list(text), words)
 
 
-def told(outcome, words, **by_hand):
+def expect_outcome(outcome, words, **by_hand):
     """An outcome of which this is known: its fields, or frames for the trace."""
     found = dict(outcome._asdict(), frames=len(outcome.trace) // 2, written=len(outcome.output))
     agree(outcome, {name: found[name] for name in by_hand}, by_hand, words)
@@ -147,7 +146,7 @@ def told(outcome, words, **by_hand):
 
 def expect(words, depth, **by_hand):
     """Lines round the length that is written, of a run of which this is known."""
-    told(around(words, depth), words, **by_hand)
+    expect_outcome(around(words, depth), words, **by_hand)
 
 
 def place(words, which, number):
@@ -214,14 +213,14 @@ def examples():
     # Contents 9 words, the register 1, the statement 5: the arguments are at 15 and 17.
     stated(words, 8, "0 3 0 0 0 0 1 0 2", "2 1 0", "refused 12 15 17")
     angle("4 1 0 1", (POWER, whole(8), ratio(2, 3)))
-    fault(9, 0, (POWER, ZERO, (NEGATE, ratio(1, 2))))
+    refused_angle(9, 0, (POWER, ZERO, (NEGATE, ratio(1, 2))))
     angle("1 2 0 1", (COS, ratio_of_pi(3)))
-    fault(13, 0, (TAN, ratio_of_pi(2)))
-    fault(9, 0, (TAN, (NEGATE, ratio_of_pi(2))))
+    refused_angle(13, 0, (TAN, ratio_of_pi(2)))
+    refused_angle(9, 0, (TAN, (NEGATE, ratio_of_pi(2))))
     angle("4611686018427387904 1 0 1", (REAL, 0x5E800000))
-    fault(10, 0x5F000000, (REAL, 0x5F000000))
+    refused_angle(10, 0x5F000000, (REAL, 0x5F000000))
     angle("1 4611686018427387904 0 1", (REAL, 0x20800000))
-    fault(10, 0x20000000, (REAL, 0x20000000))
+    refused_angle(10, 0x20000000, (REAL, 0x20000000))
     for lists in {}, dict(quantum=[4], classical=[2], gates=[opaque(1, 1)]):
         for depth in 8, 0, WORD_MAX:
             stated(image(**lists), depth, "done 0")
@@ -234,9 +233,9 @@ def example_lengths():
     heading("K1 with outputs and traces of other lengths")
     for lent in 38, 39, 8192, OUTPUT_ROOM:
         for trace in 0, 1, 255:
-            told(vector(K1, 8, lent, trace), K1, number=15, records=0, output=[], trace=[])
+            expect_outcome(vector(K1, 8, lent, trace), K1, number=15, records=0, output=[], trace=[])
         for trace in 256, 257, 300:
-            told(vector(K1, 8, lent, trace), K1, number=0, records=4, written=38, trace=[])
+            expect_outcome(vector(K1, 8, lent, trace), K1, number=0, records=4, written=38, trace=[])
 
 
 def ratio_of_pi(d):
@@ -248,7 +247,7 @@ def angle(text, tree):
     stated(rotation(tree, tree, tree), 8, head([1]), f"1 {text} {text} {text} 0", "done 2")
 
 
-def fault(number, second, tree):
+def refused_angle(number, second, tree):
     """A tree that is refused: the place is that of the entry that U names."""
     words = rotation(tree, tree, tree)
     at = place(words, EXPRESSIONS, words[8] - 1)  # the outermost entry is the last
@@ -306,7 +305,7 @@ ANGLES = (
 
 VANISHING = MINUS, F32_PI, PI_TREE  # its f32 is 0
 
-FAULTS = (
+REFUSED_ANGLES = (
     (9, 0, BAD),
     (9, 0, (DIVIDE, PI_TREE, (MINUS, PI_TREE, PI_TREE))),
     (9, 0, (DIVIDE, ONE, (REAL, 0x80000000))),
@@ -342,7 +341,7 @@ FAULTS = (
     (13, 0, (POWER, ZERO, ratio(-1, 2**32))),
     (13, 0, (POWER, PI_TREE, TWO)),
 )
-ONE_OF_EACH = FAULTS[0], FAULTS[4], FAULTS[13], FAULTS[22]
+ONE_OF_EACH = REFUSED_ANGLES[0], REFUSED_ANGLES[4], REFUSED_ANGLES[13], REFUSED_ANGLES[22]
 
 
 def angle_kinds():
@@ -361,8 +360,8 @@ def angle_orders():
 
 def angle_refusals():
     heading("Refusals 9, 10, 11 and 13 of expressions")
-    for number, second, tree in FAULTS:
-        fault(number, second, tree)
+    for number, second, tree in REFUSED_ANGLES:
+        refused_angle(number, second, tree)
 
 
 def first_refusals():
@@ -376,7 +375,7 @@ def first_refusals():
                 stated(words, 2, head([2]), f"refused {number} {named} {second}")
         for kind in PLUS, POWER:
             for other in (EXP, ONE), (DIVIDE, ONE, (MINUS, ONE, ONE)), (INTEGER, 2**63 + 1):
-                fault(number, second, (kind, tree, other))
+                refused_angle(number, second, (kind, tree, other))
 
 
 def shared_expressions():
@@ -455,7 +454,7 @@ def nested_refusals():
         for trace_length in 300, 256, 255, 0:
             outcome = vector(words, WORD_MAX, 99, trace_length)
             frames = count if trace_length >= 256 else 0
-            told(outcome, words, number=12 if frames else 15, frames=frames)
+            expect_outcome(outcome, words, number=12 if frames else 15, frames=frames)
 
 
 def nested_output_ends():
@@ -464,15 +463,15 @@ def nested_output_ends():
         words = chain(count, [U_ONE])
         for lent in 5, 18:
             outcome = vector(words, count + 1, lent, 300)
-            told(outcome, words, number=14, frames=count, written=5)
+            expect_outcome(outcome, words, number=14, frames=count, written=5)
             agree(outcome, text_of(outcome)[1:-1], chain_trace(words, count, count), words)
         for depth in sorted({0, 1, 2, 3, count - 1, count}):
             if depth <= count:  # a call is written, and it is in the trace
                 frames = max(depth, 1)
                 outcome = vector(words, depth, 9)
-                told(outcome, words, number=14, place=0, second=0, frames=frames, written=5)
+                expect_outcome(outcome, words, number=14, place=0, second=0, frames=frames, written=5)
                 agree(outcome, text_of(outcome)[1:-1], chain_trace(words, count, frames), words)
-                told(vector(words, depth, 10), words, number=0, records=2, written=10, trace=[])
+                expect_outcome(vector(words, depth, 10), words, number=0, records=2, written=10, trace=[])
 
 
 def deep_chain():
@@ -813,7 +812,7 @@ def many_registers():
 def few(words, depth, **by_hand):
     """Lines of a long output: all of it, exact, one short, and within a round."""
     outcome = reference.run(words, depth, OUTPUT_ROOM, 256)
-    told(outcome, words, **by_hand)
+    expect_outcome(outcome, words, **by_hand)
     length = len(outcome.output)
     for lent in min(length + 64, OUTPUT_ROOM), length, length - 1, 2 * length // 3:
         vector(words, depth, lent)
@@ -895,7 +894,7 @@ def ifs_in_turn():
     lists = dict(quantum=[2], classical=[1, 2], arguments=[(0, 0), (0, 1)])
     words = image(gates=[gate(0, 1, 4, 1)], main=[(IF, 1, 3, 4), (IF, 0, 1, 5), (RESET, 1), (IF, 1, 0, 5)],
                   further=[(BARRIER, 0, 1), (CALL, 0, 0, 0)], **lists)
-    told(vector(words, 2, 99), words, number=4)  # a barrier is not allowed in an if
+    expect_outcome(vector(words, 2, 99), words, number=4)  # a barrier is not allowed in an if
     words = image(gates=[gate(0, 1, 4, 1)], main=[(IF, 1, 3, 4), (IF, 0, 1, 5), (RESET, 1), (IF, 1, 0, 5)],
                   further=[(U, 0, 0, 0, 0), (CALL, 0, 0, 0)], expressions=[PI_ENTRY], **lists)
     us = [f"{u} 0", f"{u} 1"]
@@ -947,12 +946,12 @@ def short_outputs():
         for lent in range(length + 3):
             outcome = vector(words, 2, lent)
             number, records = (14, 0) if lent < length else (14, 1) if lent < length + 2 else (0, 2)
-            told(outcome, words, number=number, place=0, second=0, records=records, trace=[])
+            expect_outcome(outcome, words, number=number, place=0, second=0, records=records, trace=[])
     lists = parameters(BAD)
     words = program([call(0)], [(1, 1, [U_ONE])], **lists)
     for lent in 0, 4:  # the head comes before the first statement's parameters
-        told(vector(words, 2, lent), words, number=14, records=0, trace=[])
-    told(vector(words, 2, 5), words, number=9, records=1, trace=[])
+        expect_outcome(vector(words, 2, lent), words, number=14, records=0, trace=[])
+    expect_outcome(vector(words, 2, 5), words, number=9, records=1, trace=[])
 
 
 def records_too_long():
@@ -966,8 +965,8 @@ def records_too_long():
     ):
         words = program([statement], gates, [(RESET, 0)], **lists)
         for lent in range(top, top + length):
-            told(vector(words, 1, lent), words, number=14, records=1, written=top, frames=frames)
-        told(vector(words, 1, top + length), words, records=2, written=top + length)
+            expect_outcome(vector(words, 1, lent), words, number=14, records=1, written=top, frames=frames)
+        expect_outcome(vector(words, 1, top + length), words, records=2, written=top + length)
         around(words, 1)
 
 
@@ -993,14 +992,14 @@ def refused_by_the_check():
     for number, at, words in refused_images() + [(1, 0, words) for words in contents]:
         nothing = dict(second=0, records=0, output=[], trace=[])
         for depth, lent, trace in (8, 99, 256), (0, 0, 256), (WORD_MAX, 500, 300):
-            told(vector(words, depth, lent, trace), words, number=number, place=at, **nothing)
+            expect_outcome(vector(words, depth, lent, trace), words, number=number, place=at, **nothing)
         for lent, trace in (99, 255), (0, 0):
-            told(vector(words, 8, lent, trace), words, number=15, place=0, **nothing)
+            expect_outcome(vector(words, 8, lent, trace), words, number=15, place=0, **nothing)
     heading("A bad statement that the run would not meet is refused beforehand")
     words = image(quantum=[1], main=[(CX, 0, 0), (RESET, 0, 1)], arguments=[(0, 0)])
-    told(vector(words, 8, 99), words, number=4, place=15, records=0)
+    expect_outcome(vector(words, 8, 99), words, number=4, place=15, records=0)
     words = program([CX_ONE], [(0, 1, [(U, 0, 0, 0, 1)])])
-    told(vector(words, 8, 99), words, number=4, place=place(words, MAIN, 1), records=0)
+    expect_outcome(vector(words, 8, 99), words, number=4, place=place(words, MAIN, 1), records=0)
 
 
 # --------------------------------------------------------------- empties
@@ -1024,8 +1023,8 @@ def empties():
 def longest_images():
     heading("The longest images: 8,192 words, of statements and of expressions")
     words = image(quantum=[2], main=[(RESET, 0)] * 1635, parameters=[0] * 5, arguments=[(0, 2)])
-    told(vector(words, 2, 5000), words, number=0, records=1636, written=7 + 2 * 1635)
-    told(vector(words, 2, 3276), words, number=14, records=1635, written=7 + 2 * 1634)
+    expect_outcome(vector(words, 2, 5000), words, number=0, records=1636, written=7 + 2 * 1635)
+    expect_outcome(vector(words, 2, 3276), words, number=14, records=1635, written=7 + 2 * 1634)
     words = image(quantum=[1], main=[(U, 2723, 2723, 0, 0)], arguments=[(0, 0)], parameters=[0] * 3,
                   expressions=[integer(7)] * 2722 + [(NEGATE, 2721, 0), (NEGATE, 2722, 0)])
     stated(words, 2, head([1]), "1 7 1 0 1 7 1 0 1 7 1 0 1 0", "done 2")
@@ -1077,15 +1076,15 @@ def towers_at_depths():
 
 SEED = 20170713
 DEPTHS = 0, 1, 2, 3, 129, WORD_MAX
-MIDDLE = images.Scale(registers=4, size=9, gates=7, body=4, main=6, levels=4, words=330, entries=1500, output=6000)
+MIDDLE = Scale(registers=4, size=9, gates=7, body=4, main=6, levels=4, words=330, entries=1500, output=6000)
 
 
-class Steady(images.Builder):
+class Steady(random_images.Builder):
     """Programs that mostly finish: angles are plain and qubits distinct."""
 
     def __init__(self, rng, scale):
         super().__init__(rng, scale)
-        self.overlaps, self.wild, self.faults = False, False, []
+        self.overlaps, self.wild, self.refused_trees = False, False, []
 
     def main_kind(self):
         return self.rng.choice((U, CX, CALL, CALL, CALL, CALL, BARRIER, MEASURE, RESET, IF, IF))
@@ -1124,10 +1123,10 @@ def random_cases(count):
     rng = Random(SEED + 1)
     made_before = len(images_made)
     while len(images_made) < made_before + count:
-        case = images.random_case(rng)
+        case = random_images.random_case(rng)
         if len(case.words) <= 260:
             outcome = vector(*case)
-            if outcome.number not in range(1, 9) and outcome.number != 15 and images.chance(rng, 60):
+            if outcome.number not in range(1, 9) and outcome.number != 15 and random_images.chance(rng, 60):
                 random_lines(rng, case.words)
 
 

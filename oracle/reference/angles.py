@@ -7,9 +7,9 @@ on unbounded integers, and the range is tested afterwards; an f32 is its bit
 pattern, and every operation on it works out the exact rational result and
 rounds that once.  The machine's own floating point is never used.
 
-An operation that document 01 refuses raises Refused with its number: 9 division
-by zero, 10 float without a fraction (with the f32), 11 overflow, 13 function of
-floats.
+An operation that document 01 refuses raises AngleRefusal with its number: 9
+division by zero, 10 float without a fraction (with the f32), 11 overflow, 13
+function of floats.
 """
 
 from collections import namedtuple
@@ -98,10 +98,10 @@ PI_SQUARED = Fraction(6499908331188584841, 658578405682719844)
 DIVISION_BY_ZERO, NO_FRACTION, OVERFLOW, FLOAT_FUNCTION = 9, 10, 11, 13
 
 
-class Refused(Exception):
-    def __init__(self, case, bits=0):
-        super().__init__(case)
-        self.case, self.bits = case, bits
+class AngleRefusal(Exception):
+    def __init__(self, number, bits=0):
+        super().__init__(number)
+        self.number, self.bits = number, bits
 
 
 def fits(number):
@@ -111,7 +111,7 @@ def fits(number):
 def in_range(value):
     """An exact product, quotient or power: overflow if it doesn't fit reduced."""
     if not (fits(value.numerator) and fits(value.denominator)):
-        raise Refused(OVERFLOW)
+        raise AngleRefusal(OVERFLOW)
     return value
 
 
@@ -130,7 +130,7 @@ def overflowing_steps(x, y):
 
 def fraction_sum(x, y):
     if overflowing_steps(x, y):
-        raise Refused(OVERFLOW)
+        raise AngleRefusal(OVERFLOW)
     steps = sum_steps(x, y)
     return Fraction(steps["s"], steps["l"])
 
@@ -144,7 +144,7 @@ def fraction_power(base, exponent):
     if base == -1:
         return Fraction(-1 if exponent % 2 else 1)
     if exponent >= 64:  # numerator or denominator is 2 or more in size
-        raise Refused(OVERFLOW)
+        raise AngleRefusal(OVERFLOW)
     return in_range(base**exponent)
 
 
@@ -167,10 +167,10 @@ def whole_root(k, v):
 def fraction_root(k, value):
     """The exact k-th root of a fraction; without one the Rust goes to f32."""
     if k > 2**32 - 1 or value < 0:
-        raise Refused(FLOAT_FUNCTION)
+        raise AngleRefusal(FLOAT_FUNCTION)
     n, d = whole_root(k, value.numerator), whole_root(k, value.denominator)
     if n is None or d is None:
-        raise Refused(FLOAT_FUNCTION)
+        raise AngleRefusal(FLOAT_FUNCTION)
     return Fraction(n, d)
 
 
@@ -202,12 +202,12 @@ def into_float(x):
 
 def from_float(bits):
     if f32_is_nan(bits):
-        raise Refused(NO_FRACTION, NAN)
+        raise AngleRefusal(NO_FRACTION, NAN)
     if f32_is_infinite(bits):
-        raise Refused(NO_FRACTION, bits)
+        raise AngleRefusal(NO_FRACTION, bits)
     value = f32_value(bits)
     if not (fits(value.numerator) and fits(value.denominator)):
-        raise Refused(NO_FRACTION, bits)
+        raise AngleRefusal(NO_FRACTION, bits)
     return angle(value)
 
 
@@ -229,7 +229,7 @@ def multiply(x, y):
 
 def divide(x, y):
     if y == ZERO:
-        raise Refused(DIVISION_BY_ZERO)
+        raise AngleRefusal(DIVISION_BY_ZERO)
     if y.b == 0:
         return Angle(in_range(x.a / y.a), in_range(x.b / y.a))
     if y.a == 0:
@@ -244,13 +244,13 @@ def divide(x, y):
 
 def power(x, y):
     if x.b != 0 or y.b != 0:
-        raise Refused(FLOAT_FUNCTION)
+        raise AngleRefusal(FLOAT_FUNCTION)
     result = fraction_power(x.a, abs(y.a.numerator))
     if y.a.denominator != 1 and result != 1:
         result = fraction_root(y.a.denominator, result)
     if y.a < 0:
         if result == 0:
-            raise Refused(DIVISION_BY_ZERO)
+            raise AngleRefusal(DIVISION_BY_ZERO)
         result = 1 / result
     return angle(result)
 
@@ -273,13 +273,13 @@ SINES = {  # of a number of pi from 0 to 2; the source's list has no 1
 
 def sine(x):
     if x.a != 0:
-        raise Refused(FLOAT_FUNCTION)
+        raise AngleRefusal(FLOAT_FUNCTION)
     half = in_range(x.b / 2)
     turn = in_range((half - trunc(half)) * 2)
     if turn < 0:
         turn = fraction_sum(turn, Fraction(2))
     if turn not in SINES:
-        raise Refused(FLOAT_FUNCTION)
+        raise AngleRefusal(FLOAT_FUNCTION)
     return angle(SINES[turn])
 
 
@@ -293,10 +293,10 @@ def tangent(x):
 
 
 def float_function(x):
-    raise Refused(FLOAT_FUNCTION)
+    raise AngleRefusal(FLOAT_FUNCTION)
 
 
 def square_root(x):
     if x.b != 0:
-        raise Refused(FLOAT_FUNCTION)
+        raise AngleRefusal(FLOAT_FUNCTION)
     return angle(fraction_root(2, x.a))

@@ -1,4 +1,4 @@
-//! sample SEED COUNT: prints COUNT answers of the published linearizer, a line each, for crate `vectors`.
+//! listing_vectors SEED COUNT: prints COUNT listings of the published linearizer, a line each.
 //!
 //! A line: the number of the image's words, the depth, the length and the checksum of the listing, the image's words.
 //! Of 48 items 39 are short programs, eight are single expressions and one is a program of up to 1,000 words. Left out:
@@ -36,7 +36,7 @@ fn has_wrapping_literal(words: &[u64]) -> bool {
     })
 }
 
-/// The most runs that end with a number, of those with a trace and of the others: half of the sample finishes.
+/// The most runs that end with a number, of those with a trace and of the others: half of all finish.
 fn most(number: u64, count: u64) -> u64 {
     if number == 0 {
         count / 2
@@ -63,7 +63,7 @@ fn line(image: &[u64], depth: u64, text: &str) -> String {
 fn main() {
     let mut numbers = std::env::args().skip(1).map(|word| word.parse::<u64>().expect("a number"));
     let (Some(seed), Some(count)) = (numbers.next(), numbers.next()) else {
-        eprintln!("sample SEED COUNT");
+        eprintln!("listing_vectors SEED COUNT");
         std::process::exit(2)
     };
     let (mut seen, mut ends, mut frames) =

@@ -1,5 +1,6 @@
-#!/usr/bin/env python3
 """Images with the answers of the check, printed to standard output.
+
+    python3 -m oracle.vectors.image_vectors
 
 The answers are those of reference.py, a second reading of document 01.  The
 random part has a fixed seed, so the output is the same everywhere, to the byte.
@@ -19,17 +20,18 @@ import sys
 from collections import Counter
 from random import Random
 
-import images
-import reference
-from reference import (
+from oracle.reference import reference
+from oracle.reference.reference import (
     ARGUMENTS, BARRIER, CALL, CLASSICAL, CX, ENTRY_WORDS, EXPRESSIONS, FURTHER, GATES, IF, INTEGER, MAIN, MEASURE,
     PARAMETERS, PI, QUANTUM, REAL, RESET, U, VARIABLE,
 )
-from test_reference import K1, changed, image
+from oracle.vectors import random_images
+from oracle.vectors.entries import K1, NOTHING, PI_ENTRY, changed, decimal_words, gate, image, integer, opaque, variable
+from oracle.vectors.random_images import NEGATE, PLUS, POWER, SIN, SQRT
 
 WORD_MAX = 2**64 - 1
 HALF = 2**63
-# What a sum or a product that wraps at 2^64, or that is cut to 32 bits, could take for a small number.
+# What a sum or a product that wraps at 2^64, or of which 32 bits are kept, could take for a small number.
 FAR = 2**32, HALF, WORD_MAX
 
 ACCEPTED, CONTENTS, REGISTER, GATE, FORM, ARGUMENT, EXPRESSION, SIZES, UPWARD = range(9)
@@ -43,25 +45,13 @@ def heading(text):
     lines.append("# " + text)
 
 
-def runs(words):
-    """Words in decimal; more than eight equal ones as k*w."""
-    start = 0
-    while start < len(words):
-        end = start
-        while end < len(words) and words[end] == words[start]:
-            end += 1
-        length = end - start
-        yield from [f"{length}*{words[start]}"] if length > 8 else [str(words[start])] * length
-        start = end
-
-
 def vector(words):
     """Adds a line, unless this image has been had; returns the answer."""
     answer = reference.check(words) or (0, 0)
     if tuple(words) not in made:
         made.add(tuple(words))
         counts[answer[0]] += 1
-        lines.append(" ".join((*map(str, answer), *runs(words))))
+        lines.append(" ".join((*map(str, answer), *decimal_words(words))))
     return answer
 
 
@@ -79,33 +69,6 @@ def expect_at(number, which, entry, words):
     place = reference.Image(tuple(words)).place(which, entry)
     if reference.check(words) != (number, place):
         raise AssertionError(f"{reference.check(words)}, not at {place}: {words}")
-
-
-# ------------------------------------------------------------- entries
-
-PI_ENTRY = PI, 0, 0
-NEGATE, SIN, SQRT = images.NEGATE, images.SIN, images.SQRT
-PLUS, POWER = images.PLUS, images.POWER
-
-
-def integer(n):
-    return INTEGER, n, 0
-
-
-def variable(n):
-    return VARIABLE, n, 0
-
-
-def opaque(parameters, arguments):
-    return parameters, arguments, 0, 0, 0
-
-
-def gate(parameters, arguments, first, length):
-    return parameters, arguments, 1, first, length
-
-
-# A barrier of no arguments.
-NOTHING = BARRIER, 0, 0
 
 
 # ------------------------------------------------------- 1: the contents
@@ -187,17 +150,17 @@ def gate_counts():
 
 # ---------------------------------------------------------- 2: registers
 
-SIZE_FAULTS = 0, 4097, 2**32, 2**32 + 1, HALF, HALF + 1, WORD_MAX, 2**64 - 4096
+BAD_SIZES = 0, 4097, 2**32, 2**32 + 1, HALF, HALF + 1, WORD_MAX, 2**64 - 4096
 
 
 def registers():
     heading("2: sizes 1 to 4,096")
     for sort, name in (QUANTUM, "quantum"), (CLASSICAL, "classical"):
         expect(ACCEPTED, *(image(**{name: sizes}) for sizes in ([1], [4096], [1, 1, 1], [4094, 1, 1], [1, 4095])))
-        for size in SIZE_FAULTS:
+        for size in BAD_SIZES:
             expect_at(REGISTER, sort, 0, image(**{name: [size]}))
             expect_at(REGISTER, sort, 1, image(**{name: [2, size, 3]}))
-    for size in SIZE_FAULTS:
+    for size in BAD_SIZES:
         expect_at(REGISTER, CLASSICAL, 2, image(quantum=[7, 8], classical=[1, 2, size]))
     heading("2: the register that passes a total of 4,096")
     for sort, name in (QUANTUM, "quantum"), (CLASSICAL, "classical"):
@@ -294,7 +257,7 @@ def in_body(statement, **lists):
     return made_of([NOTHING], [NOTHING, statement], (1, 2), **lists)
 
 
-JUDGED = {in_main: 1, in_if: 1, in_body: 2}  # the statement that is at fault
+JUDGED = {in_main: 1, in_if: 1, in_body: 2}  # the statement that has the flaw
 ALL, OUTER, INNER = (in_main, in_if, in_body), (in_main, in_body), (in_main, in_if)
 # Where statements of each kind may stand.
 PLACES = {U: ALL, CX: ALL, CALL: ALL, BARRIER: OUTER, MEASURE: INNER, RESET: INNER, IF: (in_main,)}
@@ -684,11 +647,11 @@ def sizes_of_calls():
     expect(SIZES, in_main((CX, 1, 2), **formals), in_main((CALL, 0, 0, 0), **formals))
 
 
-# -------------------------------------------------- two faults and order
+# --------------------------------------------------- two flaws and order
 
 
 # Arguments 0 and 1 are of unequal sizes, 2 is bad everywhere, and so are expression 1 and parameter 1.
-FAULTY = dict(
+FLAWED_LISTS = dict(
     quantum=(2, 3),
     classical=(2, 3),
     below=[opaque(1, 2)],
@@ -704,14 +667,14 @@ def order_in_a_statement():
     heading("Two faults in one statement: 4 before 8 before 6 before 5 before 7")
     for parameter, argument, unused in (1, 0, 1), (1, 1, 1), (0, 1, 1), (0, 0, 1), (1, 1, 0), (1, 0, 0), (0, 1, 0):
         number = FORM if unused else EXPRESSION if parameter else ARGUMENT
-        everywhere(number, (CALL, 0, parameter, argument, unused), **FAULTY)
+        everywhere(number, (CALL, 0, parameter, argument, unused), **FLAWED_LISTS)
     for first, argument in (1, 2), (0, 2), (1, 0), (1, 3), (2, 2):
         number = FORM if argument == 3 or first == 2 else EXPRESSION if first else ARGUMENT
-        everywhere(number, (U, 0, first, 0, argument), **FAULTY)
+        everywhere(number, (U, 0, first, 0, argument), **FLAWED_LISTS)
     for call in (1, 0, 0, 1), (1, 1, 1, 1), (1, 2, 0), (1, 0, 2), (1, HALF, 0), (1, 0, WORD_MAX), (3, 0, 0):
-        expect_at(FORM, MAIN, 2, in_body((CALL, *call), **FAULTY))
+        expect_at(FORM, MAIN, 2, in_body((CALL, *call), **FLAWED_LISTS))
     for call in (1, 1, 0), (1, 0, 1), (1, 1, 1), (2, 1, 1):
-        expect_at(UPWARD, MAIN, 2, in_body((CALL, *call), **FAULTY))
+        expect_at(UPWARD, MAIN, 2, in_body((CALL, *call), **FLAWED_LISTS))
     for statement, number in (
         ((CX, 0, 1), SIZES), ((CX, 0, 1, 1), FORM), ((CX, 0, 1, 0, 1), FORM), ((CX, 0, 2), ARGUMENT),
         ((CX, 2, 3), FORM), ((CX, 2, 0, 1), FORM), ((MEASURE, 0, 1), SIZES), ((MEASURE, 0, 1, 0, 1), FORM),
@@ -719,12 +682,12 @@ def order_in_a_statement():
         ((CALL, 0, 0, 0), SIZES), ((CALL, 0, 1, 0), EXPRESSION), ((CALL, 0, 0, 1), ARGUMENT),
     ):
         for made_in in INNER:
-            expect_at(number, MAIN, 1, made_in(statement, **FAULTY))
+            expect_at(number, MAIN, 1, made_in(statement, **FLAWED_LISTS))
     for parameter, number in (0, ARGUMENT), (1, EXPRESSION):
         for made_in in INNER:  # arguments 0 and 1, of unequal sizes, and 2
-            expect_at(number, MAIN, 1, made_in((CALL, 0, parameter, 0), **dict(FAULTY, below=[opaque(1, 3)])))
-    expect_at(FORM, MAIN, 1, in_main((BARRIER, 2, 1, 1), **FAULTY))
-    expect_at(FORM, MAIN, 1, in_main((BARRIER, 2, 2), **FAULTY))
+            expect_at(number, MAIN, 1, made_in((CALL, 0, parameter, 0), **dict(FLAWED_LISTS, below=[opaque(1, 3)])))
+    expect_at(FORM, MAIN, 1, in_main((BARRIER, 2, 1, 1), **FLAWED_LISTS))
+    expect_at(FORM, MAIN, 1, in_main((BARRIER, 2, 2), **FLAWED_LISTS))
     heading("An if's own faults with its inner statement's: 4")
     for statement in (IF, 0, 0, 2, 1), (IF, 9, 0, 2), (IF, 0, 0, 3), (IF, 0, 0, 1):
         words = image(quantum=[1], classical=[1], main=[NOTHING, statement], further=[(RESET, 0)], arguments=[(1, 0)])
@@ -861,19 +824,19 @@ def every_word():
 SEED = 20170711
 
 
-def random_images(rounds):
+def random_vectors(rounds):
     heading("Random images, accepted and damaged")
     rng = Random(SEED)
     for _ in range(rounds):
-        words = images.random_program(rng)
+        words = random_images.random_program(rng)
         vector(words)
         for _ in range(3):
-            vector(images.damaged(rng, words))
+            vector(random_images.damaged(rng, words))
     heading("Larger ones")
     for _ in range(rounds // 2):
-        words = images.random_program(rng, large=True)
+        words = random_images.random_program(rng, large=True)
         if len(words) < 600:
-            vector(images.damaged(rng, words))
+            vector(random_images.damaged(rng, words))
 
 
 def main():
@@ -905,7 +868,7 @@ def main():
     overlapping()
     not_read()
     every_word()
-    random_images(40)
+    random_vectors(40)
     print("\n".join(lines))
     print(*(f"{number}: {counts[number]}" for number in range(9)), file=sys.stderr)
 

@@ -1,25 +1,23 @@
-#!/usr/bin/env python3
 """Random images by seed, accepted and damaged, with depths and lengths to lend.
 
     random_program(rng, large=False)    the words of an accepted image
     damaged(rng, words)                 a damaged copy of an accepted image
     random_case(rng, large=False)       a Case: words, depth, lengths lent
-    listing_input(words, depth)         the bytes that the listing program reads
 
 rng is a random.Random; the same seed gives the same images.  Images are small
 by default, so that a slow evaluator can replay them; a few damaged ones stay
 accepted, which is meant.  Started as a program, with a count, a seed and
 perhaps the word large, it prints how many cases have which outcome:
 
-    images.py 1000 1
+    python3 -m oracle.vectors.random_images 1000 1
 """
 
 import sys
 from collections import Counter, namedtuple
 from random import Random
 
-import reference
-from reference import (
+from oracle.reference import reference
+from oracle.reference.reference import (
     ARGUMENTS, BARRIER, BODY_KINDS, CALL, CLASSICAL, CX, EXPRESSIONS, FURTHER, GATES, IF, INNER_KINDS, INTEGER,
     MAIN, MAIN_KINDS, MEASURE, PARAMETERS, PI, QUANTUM, REAL, RESET, U, VARIABLE, Image,
 )
@@ -122,7 +120,7 @@ def zero_division(rng, variables):
     ))
 
 
-def float_fault(rng, variables):
+def float_without_fraction(rng, variables):
     nan = rng.choice((0x7FC00000, 0xFFC00000, 0x7F800001, 0x7FFFFFFF, 0xFFFFFFFF))
     edge = rng.choice((0x7F800000, 0xFF800000, 0x5F000000, 0xDF000000, 0x20000000, 0xA0000000, 1, 0x7F7FFFFF))
     vanishing = MINUS, F32_PI, PI_TREE
@@ -192,7 +190,8 @@ def chain_tree(rng, variables, levels):
     return tree
 
 
-FAULT_TREES = zero_division, zero_division, float_fault, overflow, float_function
+# Makers of expressions that are refused: 9 (twice as often), 10, 11 and 13.
+REFUSED_TREES = zero_division, zero_division, float_without_fraction, overflow, float_function
 
 
 # ---------------------------------------------------------------- programs
@@ -217,7 +216,7 @@ class Builder:
         self.overlaps = chance(rng, 15)  # arguments are taken as they come
         self.garbage = chance(rng, 25)
         self.wild = chance(rng, 10)
-        self.faults = [rng.choice(FAULT_TREES)] if chance(rng, 40) else []
+        self.refused_trees = [rng.choice(REFUSED_TREES)] if chance(rng, 40) else []
 
     def size(self):
         return self.rng.choice((1, 2, 2, 3, self.rng.randrange(1, self.scale.size + 1)))
@@ -254,8 +253,8 @@ class Builder:
 
     def tree(self, variables):
         rng, levels = self.rng, self.scale.levels
-        if self.faults and chance(rng, 25):
-            return self.faulty(variables)
+        if self.refused_trees and chance(rng, 25):
+            return self.refused_tree(variables)
         if self.wild:
             return wild_tree(rng, variables, levels)
         if chance(rng, 12):
@@ -264,10 +263,10 @@ class Builder:
             return chain_tree(rng, variables, 32)
         return plain_tree(rng, variables, levels)
 
-    def faulty(self, variables):
-        """A tree that fails, perhaps beside one that fails otherwise."""
+    def refused_tree(self, variables):
+        """A tree that is refused, perhaps beside one that is refused otherwise."""
         rng = self.rng
-        tree = rng.choice(self.faults)(rng, variables)
+        tree = rng.choice(self.refused_trees)(rng, variables)
         other = rng.choice((plain_tree, wild_tree))(rng, variables, 2)
         kind = rng.choice((PLUS, MINUS, TIMES, DIVIDE, POWER))
         return rng.choice((tree, tree, (kind, tree, other), (kind, other, tree), (NEGATE, tree)))
@@ -356,8 +355,8 @@ class Builder:
         if kind == BARRIER or not qubits:
             return self.barrier(scope)
         if kind == CX:
-            copy, xor = map(self.argument, self.quantum_arguments(scope, 2))
-            return [CX, copy, xor, 0, 0]
+            control, target = map(self.argument, self.quantum_arguments(scope, 2))
+            return [CX, control, target, 0, 0]
         (argument,) = map(self.argument, self.quantum_arguments(scope, 1))
         if kind == RESET:
             return [RESET, argument, 0, 0, 0]
@@ -527,8 +526,8 @@ def stack_bottom(builder):
     variable = VARIABLE, 0
     tree = builder.rng.choice(((DIVIDE, PI_TREE, variable), (SIN, variable), variable))
     expression = builder.expression_entry(tree)
-    copy, xor = builder.argument([0, 0]), builder.argument([int(chance(builder.rng, 80)), 0])
-    return [[U, expression, expression, expression, copy], [CX, copy, xor, 0, 0]]
+    control, target = builder.argument([0, 0]), builder.argument([int(chance(builder.rng, 80)), 0])
+    return [[U, expression, expression, expression, control], [CX, control, target, 0, 0]]
 
 
 # ------------------------------------------------------------------ damage
@@ -893,8 +892,8 @@ def unequal_sizes(rng, image):
 # several, or any
 
 
-def two_faults(rng, image):
-    """Faults of two numbers in one statement."""
+def two_flaws(rng, image):
+    """Flaws of two numbers in one statement."""
     found = some_statement(rng, image, (U, CALL))
     named = image.named_arguments(image.statement(found[1])) if found else []
     expressions = image.named_expressions(image.statement(found[1])) if found else []
@@ -944,12 +943,12 @@ DAMAGES = (
     (number_out_of_range, bad_inner),
     (run_out_of_range,),
     (upward_call,),
-    (upward_call, two_faults),
+    (upward_call, two_flaws),
     (bad_expression, bad_expression, bad_parameter, many_levels),
     (bad_argument, bad_argument, shrunk_register),
     (unequal_sizes,),
     (unequal_sizes,),
-    (two_faults, changed_word, exchanged_words, removed_entry),
+    (two_flaws, changed_word, exchanged_words, removed_entry),
 )
 
 
@@ -1019,18 +1018,14 @@ def output_length(rng, words, depth, scale):
     return rng.choice((ample,) * 8 + (bound,) * 3 + (exact,) * 4 + (short, short, anything, 0))
 
 
-def listing_input(words, depth):
-    return b"".join(word.to_bytes(8, "little") for word in (depth, *words))
-
-
 def outcomes(rng, count, large=False):
     """Counts by outcome: of check, of the tally's operation, of the run."""
     checked, tallied, ran = Counter(), Counter(), Counter()
     lengths = []
     for _ in range(count):
         case = random_case(rng, large)
-        refused = reference.check(case.words)
-        checked[refused[0] if refused else 0] += 1
+        flaw = reference.check(case.words)
+        checked[flaw[0] if flaw else 0] += 1
         figures = reference.tally_operation(case.words, case.depth)
         tallied[figures[1] if figures[0] == "refused" else 0] += 1
         ran[reference.run(*case).number] += 1

@@ -1,45 +1,45 @@
-#!/usr/bin/env python3
-"""Runs with one fault each, and how many lines of run_vectors.py tell each.
+"""Mutants of the reference's run, one thing wrong in each, and how many lines of
+run_vectors.py each of them fails.
 
-    python3 oracle/run_faults.py
+    python3 -m oracle.tests.run_mutants
 
-A version that no line tells ends the program with an error, as does a line that
-tells the version without a fault.  Lines with a long output are left out, which
-only makes the counts smaller.
+The program ends with an error if a mutant fails no line, or if the run itself
+fails one.  Lines with a long output are left out, which only makes the counts
+smaller.
 """
 
 import sys
 
-import angles
-import reference
-import run_vectors
-from reference import (
+from oracle.reference import angles, reference
+from oracle.reference.reference import (
     ARGUMENTS, BARRIER, CALL, CLASSICAL, CX, EXPRESSIONS, MAIN_SCOPE, QUANTUM, U, Frame, Image, Outcome, Refusal, Run,
 )
+from oracle.vectors import run_vectors
 
 LONG_OUTPUT = 10000
 
 
-class Faultless(Run):
-    """The run, taken apart into what the versions change.  Which j an overlap tells
-    needs no version: those below the first such i are distinct, so there is one."""
+class Unchanged(Run):
+    """The run, taken apart into what the mutants change.  Which j an overlap has
+    needs no mutant: those below the first such i are distinct, so there is one."""
 
     shortest_trace = 256
 
     @classmethod
-    def outcome(cls, case, refused):
-        if case.trace < cls.shortest_trace:
+    def outcome(cls, case, flaw):
+        if case.trace_length < cls.shortest_trace:
             return Outcome(15, 0, 0, 0, [], [])
-        if refused:
-            return Outcome(*refused, 0, 0, [], [])
-        return cls(Image(case.words), case.depth, case.output).ended()
+        if flaw:
+            return Outcome(*flaw, 0, 0, [], [])
+        return cls(Image(case.words), case.depth, case.output_length).ended()
 
     def ended(self):
         try:
             self.program()
         except Refusal as refusal:
-            answer = refusal.number, refusal.place, refusal.second
-            return Outcome(*answer, self.records, self.output, self.trace())
+            return Outcome(
+                refusal.number, refusal.place, refusal.second, self.records, self.output, self.trace()
+            )
         return Outcome(0, 0, 0, self.records, self.output, [])
 
     def trace(self):
@@ -73,13 +73,13 @@ class Faultless(Run):
         self.write(CALL, statement[1], 0, len(qubits), *qubits)
 
     def cx(self, frame, statement):
-        for turn, (copy, xor) in enumerate(self.rounds(frame, statement)):
-            self.one_cx(statement, copy, xor, turn)
+        for turn, (control, target) in enumerate(self.rounds(frame, statement)):
+            self.one_cx(statement, control, target, turn)
 
-    def one_cx(self, statement, copy, xor, turn):
-        if copy == xor:
+    def one_cx(self, statement, control, target, turn):
+        if control == target:
             self.overlap(statement[1], statement[2])
-        self.write(CX, copy, xor)
+        self.write(CX, control, target)
 
     def opaque(self, frame, statement, values):
         words = self.angle_words(values)
@@ -98,12 +98,12 @@ class Faultless(Run):
                     self.overlap(numbers[i], numbers[j])
 
 
-VERSIONS = []
+MUTANTS = []
 
 
-def version(said):
+def mutant(what):
     def add(cls):
-        VERSIONS.append((said, cls))
+        MUTANTS.append((what, cls))
         return cls
     return add
 
@@ -111,32 +111,32 @@ def version(said):
 # ----------------------------------------------------------------- depth
 
 
-@version("depth one more")
-class DepthMore(Faultless):
+@mutant("depth one more")
+class DepthMore(Unchanged):
     def opens(self, turn):
         return len(self.stack) <= self.depth
 
 
-@version("depth one less")
-class DepthLess(Faultless):
+@mutant("depth one less")
+class DepthLess(Unchanged):
     def opens(self, turn):
         return len(self.stack) + 1 < self.depth
 
 
-@version("depth 0 opens all")
-class DepthWraps(Faultless):
+@mutant("depth 0 opens all")
+class DepthWraps(Unchanged):
     def opens(self, turn):
         return len(self.stack) - 1 < (self.depth - 1) % 2**64
 
 
-@version("depth cut to 7 bits")
-class DepthNarrow(Faultless):
+@mutant("only 7 bits of the depth")
+class DepthNarrow(Unchanged):
     def opens(self, turn):
         return len(self.stack) < self.depth % 128
 
 
-@version("depth cut to 32 bits, signed")
-class DepthSigned(Faultless):
+@mutant("only 32 bits of the depth, signed")
+class DepthSigned(Unchanged):
     def opens(self, turn):
         return len(self.stack) < (self.depth + 2**31) % 2**32 - 2**31
 
@@ -144,29 +144,29 @@ class DepthSigned(Faultless):
 # ---------------------------------------------------------------- rounds
 
 
-@version("a body opened in the first round, the others only reported")
-class FirstOpened(Faultless):
+@mutant("a body opened in the first round, the others only reported")
+class FirstOpened(Unchanged):
     def opens(self, turn):
         return turn == 0 and super().opens(turn)
 
 
-@version("the first round only")
-class FirstRound(Faultless):
+@mutant("the first round only")
+class FirstRound(Unchanged):
     def rounds(self, frame, statement):
         for qubits in super().rounds(frame, statement):
             yield qubits
             break
 
 
-@version("the last round missing, of more than one")
-class LastRound(Faultless):
+@mutant("the last round missing, of more than one")
+class LastRound(Unchanged):
     def rounds(self, frame, statement):
         turns = list(super().rounds(frame, statement))
         yield from turns[:-1] if len(turns) > 1 else turns
 
 
-@version("the second round on the first round's qubits")
-class SecondRound(Faultless):
+@mutant("the second round on the first round's qubits")
+class SecondRound(Unchanged):
     def rounds(self, frame, statement):
         first = None
         for turn, qubits in enumerate(super().rounds(frame, statement)):
@@ -174,8 +174,8 @@ class SecondRound(Faultless):
             yield first if turn == 1 else qubits
 
 
-@version("the rounds of the first argument")
-class FirstSize(Faultless):
+@mutant("the rounds of the first argument")
+class FirstSize(Unchanged):
     def rounds(self, frame, statement):
         named = self.image.argument_sizes(frame.scope, statement)
         for turn, qubits in enumerate(super().rounds(frame, statement)):
@@ -183,16 +183,16 @@ class FirstSize(Faultless):
                 yield qubits
 
 
-@version("arguments of size 1 advance")
-class SinglesAdvance(Faultless):
+@mutant("arguments of size 1 advance")
+class SinglesAdvance(Unchanged):
     def rounds(self, frame, statement):
         for turn, qubits in enumerate(super().rounds(frame, statement)):
             yield [qubit if size > 1 else qubit + turn
                    for qubit, size in zip(qubits, self.image.argument_sizes(frame.scope, statement))]
 
 
-@version("whole registers of size 1 alone advance")
-class WholesAdvance(Faultless):
+@mutant("whole registers of size 1 alone advance")
+class WholesAdvance(Unchanged):
     def rounds(self, frame, statement):
         numbers = [argument for argument, _ in self.image.named_arguments(statement)]
         sizes = self.image.argument_sizes(frame.scope, statement)
@@ -201,14 +201,14 @@ class WholesAdvance(Faultless):
                    for qubit, number, size in zip(qubits, numbers, sizes)]
 
 
-@version("rounds from the last to the first")
-class RoundsBackward(Faultless):
+@mutant("rounds from the last to the first")
+class RoundsBackward(Unchanged):
     def rounds(self, frame, statement):
         return reversed(list(super().rounds(frame, statement)))
 
 
-@version("statements of a body in turn over all rounds")
-class StatementsFirst(Faultless):
+@mutant("statements of a body in turn over all rounds")
+class StatementsFirst(Unchanged):
     def call(self, frame, number):
         statement = self.image.statement(number)
         gate = self.image.gate(statement[1])
@@ -231,17 +231,17 @@ class StatementsFirst(Faultless):
 # -------------------------------------------------------------- overlaps
 
 
-@version("distinctness of a CX in the first round only")
-class CxOnce(Faultless):
-    def one_cx(self, statement, copy, xor, turn):
+@mutant("distinctness of a CX in the first round only")
+class CxOnce(Unchanged):
+    def one_cx(self, statement, control, target, turn):
         if turn:
-            self.write(CX, copy, xor)
+            self.write(CX, control, target)
         else:
-            super().one_cx(statement, copy, xor, turn)
+            super().one_cx(statement, control, target, turn)
 
 
-@version("distinctness of an opaque gate in the first round only")
-class OpaqueOnce(Faultless):
+@mutant("distinctness of an opaque gate in the first round only")
+class OpaqueOnce(Unchanged):
     def one_opaque(self, numbers, qubits, turn, record):
         if turn:
             self.write(*record)
@@ -249,31 +249,31 @@ class OpaqueOnce(Faultless):
             super().one_opaque(numbers, qubits, turn, record)
 
 
-@version("a CX written before its distinctness test")
-class CxWritten(Faultless):
-    def one_cx(self, statement, copy, xor, turn):
-        self.write(CX, copy, xor)
-        if copy == xor:
+@mutant("a CX written before its distinctness test")
+class CxWritten(Unchanged):
+    def one_cx(self, statement, control, target, turn):
+        self.write(CX, control, target)
+        if control == target:
             self.overlap(statement[1], statement[2])
 
 
-@version("an opaque gate written before its distinctness test")
-class OpaqueWritten(Faultless):
+@mutant("an opaque gate written before its distinctness test")
+class OpaqueWritten(Unchanged):
     def one_opaque(self, numbers, qubits, turn, record):
         self.write(*record)
         self.distinct(numbers, qubits)
 
 
-@version("a CX's places exchanged")
-class CxPlaces(Faultless):
-    def one_cx(self, statement, copy, xor, turn):
-        if copy == xor:
+@mutant("a CX's places exchanged")
+class CxPlaces(Unchanged):
+    def one_cx(self, statement, control, target, turn):
+        if control == target:
             self.overlap(statement[2], statement[1])
-        self.write(CX, copy, xor)
+        self.write(CX, control, target)
 
 
-@version("j then i")
-class OpaquePlaces(Faultless):
+@mutant("j then i")
+class OpaquePlaces(Unchanged):
     def distinct(self, numbers, qubits):
         for i in range(len(qubits)):
             for j in range(i):
@@ -281,16 +281,16 @@ class OpaquePlaces(Faultless):
                     self.overlap(numbers[j], numbers[i])
 
 
-@version("an argument tested against the one before it only")
-class Neighbours(Faultless):
+@mutant("an argument tested against the one before it only")
+class Neighbours(Unchanged):
     def distinct(self, numbers, qubits):
         for i in range(1, len(qubits)):
             if qubits[i] == qubits[i - 1]:
                 self.overlap(numbers[i], numbers[i - 1])
 
 
-@version("the first j, of that the first i")
-class FirstJ(Faultless):
+@mutant("the first j, of that the first i")
+class FirstJ(Unchanged):
     def distinct(self, numbers, qubits):
         for j in range(len(qubits)):
             for i in range(j + 1, len(qubits)):
@@ -298,15 +298,15 @@ class FirstJ(Faultless):
                     self.overlap(numbers[i], numbers[j])
 
 
-@version("a cut call is tested for distinctness")
-class CutTested(Faultless):
+@mutant("a cut call is tested for distinctness")
+class CutTested(Unchanged):
     def cut(self, statement, values, qubits):
         self.distinct([number for number, _ in self.image.named_arguments(statement)], qubits)
         super().cut(statement, values, qubits)
 
 
-@version("a call with a body is tested before it is opened")
-class OpenTested(Faultless):
+@mutant("a call with a body is tested before it is opened")
+class OpenTested(Unchanged):
     def call(self, frame, number):
         statement = self.image.statement(number)
         if self.image.gate(statement[1]).with_body:
@@ -316,14 +316,14 @@ class OpenTested(Faultless):
         super().call(frame, number)
 
 
-@version("one place twice in a 12")
-class OnePlace(Faultless):
+@mutant("one place twice in a 12")
+class OnePlace(Unchanged):
     def overlap(self, argument, other):
         super().overlap(argument, argument)
 
 
-@version("the places of the call's arguments for the body's, in a 12")
-class CallPlaces(Faultless):
+@mutant("the places of the call's arguments for the body's, in a 12")
+class CallPlaces(Unchanged):
     def overlap(self, argument, other):
         if self.stack:
             number = (self.stack[-1][1] - self.image.statement_place(0)) // 5
@@ -335,46 +335,46 @@ class CallPlaces(Faultless):
 # ----------------------------------------------------------------- trace
 
 
-@version("trace innermost first")
-class Innermost(Faultless):
+@mutant("trace innermost first")
+class Innermost(Unchanged):
     def trace(self):
         return [word for pair in reversed(self.stack) for word in pair]
 
 
-@version("the callee's gate for the caller's")
-class Callee(Faultless):
+@mutant("the callee's gate for the caller's")
+class Callee(Unchanged):
     def pair(self, frame, statement, number):
         return statement[1] + 1, self.image.statement_place(number)
 
 
-@version("the place of the call's gate entry in the trace")
-class GatePlace(Faultless):
+@mutant("the place of the call's gate entry in the trace")
+class GatePlace(Unchanged):
     def pair(self, frame, statement, number):
         return frame.scope, self.image.place(reference.GATES, statement[1])
 
 
-@version("the caller's gate without 1")
-class NoScope(Faultless):
+@mutant("the caller's gate without 1")
+class NoScope(Unchanged):
     def pair(self, frame, statement, number):
         return max(frame.scope - 1, 0), self.image.statement_place(number)
 
 
-@version("the number of a statement for its place")
-class NumberForPlace(Faultless):
+@mutant("the number of a statement for its place")
+class NumberForPlace(Unchanged):
     def pair(self, frame, statement, number):
         return frame.scope, number
 
 
-@version("a call that is not opened is not in the trace")
-class CutNotTraced(Faultless):
+@mutant("a call that is not opened is not in the trace")
+class CutNotTraced(Unchanged):
     def cut(self, statement, values, qubits):
         popped = self.stack.pop()
         super().cut(statement, values, qubits)
         self.stack.append(popped)
 
 
-@version("an opaque call is in the trace")
-class OpaqueTraced(Faultless):
+@mutant("an opaque call is in the trace")
+class OpaqueTraced(Unchanged):
     def call(self, frame, number):
         statement = self.image.statement(number)
         if self.image.gate(statement[1]).with_body:
@@ -386,8 +386,8 @@ class OpaqueTraced(Faultless):
         self.stack.pop()
 
 
-@version("a call is in the trace of its own parameters")
-class ParametersTraced(Faultless):
+@mutant("a call is in the trace of its own parameters")
+class ParametersTraced(Unchanged):
     def call(self, frame, number):
         statement = self.image.statement(number)
         self.stack.append(self.pair(frame, statement, number))
@@ -396,24 +396,24 @@ class ParametersTraced(Faultless):
         super().call(frame, number)
 
 
-@version("the if's place in the trace, not its inner call's")
-class IfPlace(Faultless):
-    standing = None
+@mutant("the if's place in the trace, not its inner call's")
+class IfPlace(Unchanged):
+    if_number = None
 
     def conditional(self, frame, statement):
         numbers = range(self.image.counts[reference.MAIN])
-        self.standing = next(n for n in numbers if self.image.statement(n) == statement)
+        self.if_number = next(n for n in numbers if self.image.statement(n) == statement)
         super().conditional(frame, statement)
-        self.standing = None
+        self.if_number = None
 
     def pair(self, frame, statement, number):
-        if frame.scope == MAIN_SCOPE and self.standing is not None:
-            number = self.standing
+        if frame.scope == MAIN_SCOPE and self.if_number is not None:
+            number = self.if_number
         return super().pair(frame, statement, number)
 
 
-@version("calls that are over stay in the trace")
-class NotPopped(Faultless):
+@mutant("calls that are over stay in the trace")
+class NotPopped(Unchanged):
     ended_calls = ()
 
     def call(self, frame, number):
@@ -425,46 +425,46 @@ class NotPopped(Faultless):
         return [word for pair in (*self.ended_calls, *self.stack) for word in pair][:256]
 
 
-@version("no trace for a 14")
-class NoTrace(Faultless):
+@mutant("no trace for a 14")
+class NoTrace(Unchanged):
     def write(self, *record):
         if len(record) > self.output_length - len(self.output):
             self.stack = []
         super().write(*record)
 
 
-@version("a trace of 255 words is enough")
-class ShortTrace(Faultless):
+@mutant("a trace of 255 words is enough")
+class ShortTrace(Unchanged):
     shortest_trace = 255
 
 
-@version("a trace of 257 words is wanted")
-class LongTrace(Faultless):
+@mutant("a trace of 257 words is wanted")
+class LongTrace(Unchanged):
     shortest_trace = 257
 
 
-@version("check's refusal before 15")
-class CheckFirst(Faultless):
+@mutant("check's flaw before 15")
+class CheckFirst(Unchanged):
     @classmethod
-    def outcome(cls, case, refused):
-        if refused:
-            return Outcome(*refused, 0, 0, [], [])
-        return super().outcome(case, refused)
+    def outcome(cls, case, flaw):
+        if flaw:
+            return Outcome(*flaw, 0, 0, [], [])
+        return super().outcome(case, flaw)
 
 
 # ---------------------------------------------------------------- output
 
 
-@version("14 with a word to spare")
-class Spare(Faultless):
+@mutant("14 with a word to spare")
+class Spare(Unchanged):
     def write(self, *record):
         if len(record) >= self.output_length - len(self.output):
             raise Refusal(14)
         super().write(*record)
 
 
-@version("14 if the rest of the statement does not fit")
-class WholeStatement(Faultless):
+@mutant("14 if the rest of the statement does not fit")
+class WholeStatement(Unchanged):
     def u(self, frame, statement):
         words = self.angle_words(self.angles(frame, statement))
         turns = list(self.rounds(frame, statement))
@@ -474,8 +474,8 @@ class WholeStatement(Faultless):
             self.write(U, *words, qubit)
 
 
-@version("a record that does not fit is cut off")
-class CutOff(Faultless):
+@mutant("the beginning of a record that does not fit is written")
+class Beginning(Unchanged):
     def write(self, *record):
         if len(record) > self.output_length - len(self.output):
             self.output += record[: self.output_length - len(self.output)]
@@ -483,12 +483,12 @@ class CutOff(Faultless):
         super().write(*record)
 
 
-@version("14 before the faults of a record")
-class FullFirst(Faultless):
-    def one_cx(self, statement, copy, xor, turn):
+@mutant("14 before the overlaps of a record")
+class FullFirst(Unchanged):
+    def one_cx(self, statement, control, target, turn):
         if self.output_length - len(self.output) < 3:
             raise Refusal(14)
-        super().one_cx(statement, copy, xor, turn)
+        super().one_cx(statement, control, target, turn)
 
     def one_opaque(self, numbers, qubits, turn, record):
         if self.output_length - len(self.output) < len(record):
@@ -496,8 +496,8 @@ class FullFirst(Faultless):
         super().one_opaque(numbers, qubits, turn, record)
 
 
-@version("records told without the head")
-class HeadNotCounted(Faultless):
+@mutant("records counted without the head")
+class HeadNotCounted(Unchanged):
     def ended(self):
         outcome = super().ended()
         return outcome._replace(records=max(outcome.records - 1, 0))
@@ -506,22 +506,22 @@ class HeadNotCounted(Faultless):
 # --------------------------------------------------------------- records
 
 
-@version("the head missing")
-class NoHead(Faultless):
+@mutant("the head missing")
+class NoHead(Unchanged):
     def head(self):
         pass
 
 
-@version("a head without statements")
-class HeadAlways(Faultless):
+@mutant("a head without statements")
+class HeadAlways(Unchanged):
     def program(self):
         if not self.image.counts[reference.MAIN]:
             self.head()
         super().program()
 
 
-@version("the head with the first record, not the first statement")
-class HeadLate(Faultless):
+@mutant("the head with the first record, not the first statement")
+class HeadLate(Unchanged):
     late = False
 
     def head(self):
@@ -534,8 +534,8 @@ class HeadLate(Faultless):
         super().write(*record)
 
 
-@version("the head's registers and offsets exchanged")
-class HeadExchanged(Faultless):
+@mutant("the head's registers and offsets exchanged")
+class HeadExchanged(Unchanged):
     def head(self):
         named = [(offset, register) for sort in (QUANTUM, CLASSICAL)
                  for register, size in enumerate(self.image.sizes(sort)) for offset in range(size)]
@@ -543,8 +543,8 @@ class HeadExchanged(Faultless):
         self.write(0, qubits, bits, *(number for pair in named for number in pair))
 
 
-@version("the head's bits before its qubits")
-class HeadBits(Faultless):
+@mutant("the head's bits before its qubits")
+class HeadBits(Unchanged):
     def head(self):
         named = [(register, offset) for sort in (CLASSICAL, QUANTUM)
                  for register, size in enumerate(self.image.sizes(sort)) for offset in range(size)]
@@ -552,20 +552,20 @@ class HeadBits(Faultless):
         self.write(0, qubits, bits, *(number for pair in named for number in pair))
 
 
-@version("CX operands exchanged")
-class CxExchanged(Faultless):
+@mutant("CX operands exchanged")
+class CxExchanged(Unchanged):
     def write(self, *record):
         super().write(*((CX, record[2], record[1]) if record[0] == CX else record))
 
 
-@version("measure's qubit for its bit")
-class MeasureQubit(Faultless):
+@mutant("measure's qubit for its bit")
+class MeasureQubit(Unchanged):
     def write(self, *record):
         super().write(*((5, record[1], record[1]) if record[0] == 5 else record))
 
 
-@version("a bit's offset in its register for the bit")
-class BitOffset(Faultless):
+@mutant("a bit's offset in its register for the bit")
+class BitOffset(Unchanged):
     def resolve(self, frame, argument, sort):
         first, size = super().resolve(frame, argument, sort)
         if sort == CLASSICAL:
@@ -573,34 +573,34 @@ class BitOffset(Faultless):
         return first, size
 
 
-@version("an index that is not taken less 1")
-class IndexMore(Faultless):
+@mutant("an index that is not taken less 1")
+class IndexMore(Unchanged):
     def resolve(self, frame, argument, sort):
         first, size = super().resolve(frame, argument, sort)
         return first + (frame.scope == MAIN_SCOPE and self.image.entry(ARGUMENTS, argument)[1] != 0), size
 
 
-@version("a formal's number for its qubit")
-class FormalNumber(Faultless):
+@mutant("a formal's number for its qubit")
+class FormalNumber(Unchanged):
     def resolve(self, frame, argument, sort):
         first, size = super().resolve(frame, argument, sort)
         return (first if frame.scope == MAIN_SCOPE else self.image.entry(ARGUMENTS, argument)[0]), size
 
 
-@version("a cut gate with its angles")
-class CutAngles(Faultless):
+@mutant("a cut gate with its angles")
+class CutAngles(Unchanged):
     def cut(self, statement, values, qubits):
         self.write(CALL, statement[1], len(values), len(qubits), *self.angle_words(values), *qubits)
 
 
-@version("a cut gate that tells its parameters, without the angles")
-class CutCount(Faultless):
+@mutant("a cut gate with the count of its parameters, without the angles")
+class CutCount(Unchanged):
     def cut(self, statement, values, qubits):
         self.write(CALL, statement[1], len(values), len(qubits), *qubits)
 
 
-@version("a barrier in its arguments' order")
-class BarrierOrder(Faultless):
+@mutant("a barrier in its arguments' order")
+class BarrierOrder(Unchanged):
     def barrier(self, frame, statement):
         held = {}
         for argument, sort in self.image.named_arguments(statement):
@@ -609,8 +609,8 @@ class BarrierOrder(Faultless):
         self.write(BARRIER, len(held), *held)
 
 
-@version("a barrier that holds a qubit twice")
-class BarrierTwice(Faultless):
+@mutant("a barrier that holds a qubit twice")
+class BarrierTwice(Unchanged):
     def barrier(self, frame, statement):
         held = []
         for argument, sort in self.image.named_arguments(statement):
@@ -619,30 +619,30 @@ class BarrierTwice(Faultless):
         self.write(BARRIER, len(held), *sorted(held))
 
 
-@version("a barrier without arguments is not written")
-class BarrierNone(Faultless):
+@mutant("a barrier without arguments is not written")
+class BarrierNone(Unchanged):
     def barrier(self, frame, statement):
         if statement[2]:
             super().barrier(frame, statement)
 
 
-@version("a conditional's end missing")
-class NoEnd(Faultless):
+@mutant("a conditional's end missing")
+class NoEnd(Unchanged):
     def write(self, *record):
         if record != (8,):
             super().write(*record)
 
 
-@version("a conditional's register for its first bit")
-class RegisterForBit(Faultless):
+@mutant("a conditional's register for its first bit")
+class RegisterForBit(Unchanged):
     def conditional(self, frame, statement):
         self.write(7, statement[1], self.image.sizes(CLASSICAL)[statement[1]], statement[2])
         self.statement(frame, statement[3])
         self.write(8)
 
 
-@version("a conditional among the quantum registers")
-class QuantumCondition(Faultless):
+@mutant("a conditional among the quantum registers")
+class QuantumCondition(Unchanged):
     def conditional(self, frame, statement):
         sizes = [*self.image.sizes(QUANTUM), *self.image.sizes(CLASSICAL)]
         self.write(7, sum(sizes[: statement[1]]), sizes[statement[1]], statement[2])
@@ -653,53 +653,53 @@ class QuantumCondition(Faultless):
 # ---------------------------------------------------------------- angles
 
 
-@version("parameters of a call without arguments skipped")
-class Skipped(Faultless):
+@mutant("parameters of a call without arguments skipped")
+class Skipped(Unchanged):
     def values(self, frame, statement):
         return self.angles(frame, statement) if self.image.gate(statement[1]).arguments else []
 
 
-@version("parameters of a cut call skipped")
-class CutSkipped(Faultless):
+@mutant("parameters of a cut call skipped")
+class CutSkipped(Unchanged):
     def values(self, frame, statement):
         cut = self.image.gate(statement[1]).with_body and len(self.stack) + 1 >= self.depth
         return [] if cut else self.angles(frame, statement)
 
 
-@version("the last parameter first")
-class ParametersBackward(Faultless):
+@mutant("the last parameter first")
+class ParametersBackward(Unchanged):
     def angles(self, frame, statement):
         named = self.image.named_expressions(statement)
         return [self.angle(frame, number) for number in reversed(named)][::-1]
 
 
-@version("denominators before numerators")
-class Upside(Faultless):
+@mutant("denominators before numerators")
+class Upside(Unchanged):
     def angle_words(self, values):
         words = super().angle_words(values)
         return [words[at ^ 1] for at in range(len(words))]
 
 
-@version("the parts of an angle exchanged")
-class PartsExchanged(Faultless):
+@mutant("the parts of an angle exchanged")
+class PartsExchanged(Unchanged):
     def angle_words(self, values):
         return [n % 2**64 for value in values for n in (*angles.numbers(value)[2:], *angles.numbers(value)[:2])]
 
 
-@version("negative numbers without their sign")
-class NoSign(Faultless):
+@mutant("negative numbers without their sign")
+class NoSign(Unchanged):
     def angle_words(self, values):
         return [abs(n) for value in values for n in angles.numbers(value)]
 
 
-@version("negative numbers with a sign bit")
-class SignBit(Faultless):
+@mutant("negative numbers with a sign bit")
+class SignBit(Unchanged):
     def angle_words(self, values):
         return [abs(n) + 2**63 * (n < 0) for value in values for n in angles.numbers(value)]
 
 
-@version("the second angle of a U for the third")
-class SecondAngle(Faultless):
+@mutant("the second angle of a U for the third")
+class SecondAngle(Unchanged):
     def u(self, frame, statement):
         values = self.angles(frame, statement)
         words = self.angle_words([values[0], values[1], values[1]])
@@ -707,14 +707,14 @@ class SecondAngle(Faultless):
             self.write(U, *words, qubit)
 
 
-@version("the first variable for each")
-class FirstVariable(Faultless):
+@mutant("the first variable for each")
+class FirstVariable(Unchanged):
     def angle(self, frame, number):
         return super().angle(frame._replace(angles=frame.angles[:1] * len(frame.angles)), number)
 
 
-@version("main's variables through all calls")
-class OuterVariables(Faultless):
+@mutant("main's variables through all calls")
+class OuterVariables(Unchanged):
     def open(self, gate, frame):
         if len(self.stack) > 1 and len(self.outer) >= gate.parameters:
             frame = frame._replace(angles=self.outer)
@@ -723,20 +723,20 @@ class OuterVariables(Faultless):
         super().open(gate, frame)
 
 
-@version("the right operand's refusal wins")
-class RightWins(Faultless):
+@mutant("the right operand's refusal wins")
+class RightWins(Unchanged):
     def angle(self, frame, number):
         kind, first, second = self.image.entry(EXPRESSIONS, number)
         if kind in reference.BINARY_KINDS:
             try:
                 reference.evaluate(self.image, frame.angles, second)
-            except angles.Refused as refused:
-                raise Refusal(refused.case, self.image.place(EXPRESSIONS, number), refused.bits) from None
+            except angles.AngleRefusal as refusal:
+                raise Refusal(refusal.number, self.image.place(EXPRESSIONS, number), refusal.bits) from None
         return super().angle(frame, number)
 
 
-@version("a second place of a 9 or 11")
-class SecondPlace(Faultless):
+@mutant("a second place of a 9 or 11")
+class SecondPlace(Unchanged):
     def angle(self, frame, number):
         try:
             return super().angle(frame, number)
@@ -744,8 +744,8 @@ class SecondPlace(Faultless):
             raise Refusal(refusal.number, refusal.place, refusal.second or refusal.place) from None
 
 
-@version("the f32 of a 10 not told")
-class NoFloat(Faultless):
+@mutant("the f32 of a 10 missing")
+class NoFloat(Unchanged):
     def angle(self, frame, number):
         try:
             return super().angle(frame, number)
@@ -753,8 +753,8 @@ class NoFloat(Faultless):
             raise Refusal(refusal.number, refusal.place) from None
 
 
-@version("the number of an expression for its place")
-class ExpressionNumber(Faultless):
+@mutant("the number of an expression for its place")
+class ExpressionNumber(Unchanged):
     def angle(self, frame, number):
         try:
             return super().angle(frame, number)
@@ -762,8 +762,8 @@ class ExpressionNumber(Faultless):
             raise Refusal(refusal.number, number, refusal.second) from None
 
 
-@version("the place of the innermost refused entry")
-class InnermostPlace(Faultless):
+@mutant("the place of the innermost refused entry")
+class InnermostPlace(Unchanged):
     def operands(self, entry):
         kind, *operands = self.image.entry(EXPRESSIONS, entry)
         if kind in reference.BINARY_KINDS:
@@ -774,7 +774,7 @@ class InnermostPlace(Faultless):
         def refused(entry):
             try:
                 reference.evaluate(self.image, frame.angles, entry)
-            except angles.Refused:
+            except angles.AngleRefusal:
                 return True
             return False
 
@@ -790,30 +790,30 @@ class InnermostPlace(Faultless):
 # ------------------------------------------------------- wrong altogether
 
 
-@version("done with no records")
-class Nothing(Faultless):
+@mutant("done with no records")
+class Nothing(Unchanged):
     def ended(self):
         return Outcome(0, 0, 0, 0, [], [])
 
 
-@version("the same records for all programs")
-class Same(Faultless):
+@mutant("the same records for all programs")
+class Same(Unchanged):
     def ended(self):
         return reference.run(run_vectors.K1, 8, 38, 256)
 
 
-@version("refusing all")
-class RefusingAll(Faultless):
+@mutant("refusing all")
+class RefusingAll(Unchanged):
     def ended(self):
         return Outcome(14, 0, 0, 0, [], [])
 
 
-def telling(cls, lines):
-    """How many lines tell a version: what they hold differs, or it fails."""
+def failed(cls, lines):
+    """How many lines a mutant fails: its outcome is another, or it has none."""
     count = 0
-    for case, refused, numbers in lines:
+    for case, flaw, numbers in lines:
         try:
-            found = run_vectors.numbers_of(cls.outcome(case, refused))
+            found = run_vectors.numbers_of(cls.outcome(case, flaw))
         except (IndexError, ValueError):
             found = None
         count += found != numbers
@@ -823,16 +823,16 @@ def telling(cls, lines):
 def main():
     run_vectors.make()
     short = [(case, numbers) for case, numbers in run_vectors.stored if numbers[4] <= LONG_OUTPUT]
-    checked = {words: reference.check(words) for words in {case.words for case, _ in short}}
-    lines = [(case, checked[case.words], numbers) for case, numbers in short]
+    flaws = {words: reference.check(words) for words in {case.words for case, _ in short}}
+    lines = [(case, flaws[case.words], numbers) for case, numbers in short]
     print(len(lines), "of", len(run_vectors.stored), "lines")
-    untold = telling(Faultless, lines)
-    print("%6d  no fault" % untold)
-    for said, cls in VERSIONS:
-        count = telling(cls, lines)
-        print("%6d  %s" % (count, said), flush=True)
-        untold += not count
-    return untold
+    wrong = failed(Unchanged, lines)
+    print("%6d  the run itself" % wrong)
+    for what, cls in MUTANTS:
+        count = failed(cls, lines)
+        print("%6d  %s" % (count, what), flush=True)
+        wrong += not count
+    return wrong
 
 
 if __name__ == "__main__":

@@ -1,9 +1,10 @@
-#!/usr/bin/env python3
-"""Prints a file of antt that holds answers of the reference program, to be
-computed from the definitions as well: sample.py count seed [module]
+"""A file of antt that holds answers of the reference program, to be computed from
+the definitions of crate `model` as well, printed to standard output.
+
+    python3 -m oracle.vectors.model_samples COUNT SEED
 
 Each case is an image with a depth and the lengths of a lent output and trace,
-then what the reference answers: number, two places and the records told; the
+then what the reference answers: number, two places and how many records; the
 output words; the trace words; the tally's figures, or its refusal.  Left out
 are cases that the definitions cannot compute soon: a power or a root with a
 large exponent, and images whose tally passes a limit by far.
@@ -12,9 +13,8 @@ large exponent, and images whose tally passes a limit by far.
 import random
 import sys
 
-import angles
-import images
-import reference
+from oracle.reference import angles, reference
+from oracle.vectors import random_images
 
 LARGE_EXPONENT = 300
 MOST_WORK = 3000
@@ -45,11 +45,11 @@ def answers(case):
     """What the reference says of a case: four lists of numbers."""
     words, depth, output_length, trace_length = case
     outcome = reference.run(words, depth, output_length, trace_length)
-    told = [outcome.number, outcome.place, outcome.second, outcome.records]
+    answer_numbers = [outcome.number, outcome.place, outcome.second, outcome.records]
     tallied = reference.tally_operation(words, depth)
     if tallied[0] == "refused":
         tallied = tallied[1:]
-    return [told, outcome.output, outcome.trace, list(tallied)]
+    return [answer_numbers, outcome.output, outcome.trace, list(tallied)]
 
 
 def numbers(values):
@@ -63,7 +63,7 @@ def cases(count, seed):
     found, slow = [], 0
     while len(found) < count:
         try:
-            case = images.random_case(rng)
+            case = random_images.random_case(rng)
             if len(case[0]) > MOST_WORDS or work(case[0], case[1]) > MOST_WORK:
                 raise Slow
             found.append((case, answers(case)))
@@ -72,16 +72,15 @@ def cases(count, seed):
     return found, slow
 
 
-HEAD = """-- Answers of the reference program (oracle/sample.py %d %d), which the definitions give too: antt computes them.
+HEAD = """-- The definitions give what the reference program answers to %d images (made by oracle/make-vectors, seed %d): antt computes it.
 use mathlib.Core.Path.{_≡_, refl}
 use mathlib.Core.List.{List, [], _∷_, map}
-use Prim.Native.Nat.{ℕ}
 use Rattle.model.proofs.Sampled.{Sample, sample, computed, answered}
 use Rattle.model.proofs.Compute.{everything}
 """
 
 
-def main(count=100, seed=1, name="samples"):
+def main(count, seed):
     found, slow = cases(int(count), int(seed))
     print(HEAD % (int(count), int(seed)))
     print("unfoldable pub samples : List Sample\nsamples =")

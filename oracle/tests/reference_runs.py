@@ -1,25 +1,23 @@
-#!/usr/bin/env python3
-"""Prints runs of accepted images with the reference program's outcomes, one a line, for `replay`:
-outcomes.py COUNT SEED [large]
+"""Prints runs of accepted images with the reference's outcomes, one a line, for
+the Rust program `replay`, which compares the published linearizer with them.
 
-A line: depth, output words lent; number, place, second, records; how many output words, these; how many trace
-words, these; the image.
+    python3 -m oracle.tests.reference_runs COUNT SEED [large] | cargo run .. --bin replay
+
+A line: depth, output words lent; number, place, second, records; how many output
+words, these; how many trace words, these; the image.
 """
 
 import sys
-from pathlib import Path
 from random import Random
 
-sys.path.insert(0, str(Path(__file__).resolve().parent.parent))
-
-import images
-import reference
+from oracle.reference import reference
+from oracle.vectors import random_images
 
 
 def main(count=1000, seed=1, scale=""):
     rng, left = Random(int(seed)), int(count)
     while left:
-        case = images.random_case(rng, scale == "large")
+        case = random_images.random_case(rng, scale == "large")
         if reference.check(case.words):
             continue
         left -= 1

@@ -1,13 +1,14 @@
-#!/usr/bin/env python3
-"""Compares the lines of `damaged`, read from standard input, with the reference program's check."""
+"""Compares the unit's check of damaged images with the reference's.
+
+    cargo run .. --bin damaged -- SEED COUNT | python3 -m oracle.tests.damaged_images
+
+The lines of the Rust program `damaged` are read from standard input.
+"""
 
 import sys
 from collections import Counter
-from pathlib import Path
 
-sys.path.insert(0, str(Path(__file__).resolve().parent.parent))
-
-import reference
+from oracle.reference import reference
 
 
 def main():

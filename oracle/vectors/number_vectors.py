@@ -1,5 +1,6 @@
-#!/usr/bin/env python3
 """Test vectors for fractions and angles, printed to standard output.
+
+    python3 -m oracle.vectors.number_vectors
 
 The arithmetic is that of angles.py, a second reading of the definitions, made
 so that another program can be compared with it.  The random part has a fixed
@@ -31,9 +32,9 @@ from itertools import product as pairs
 from math import gcd
 from random import Random
 
-from angles import (
+from oracle.reference.angles import (
     DIVISION_BY_ZERO, FLOAT_FUNCTION, HALF, INFINITY, LIMIT, NAN, NO_FRACTION, OVERFLOW, PI_F32, PI_SQUARED, SIGN,
-    ZERO, Refused, add, angle, cosine, divide, f32_round, f32_value, fits, float_function, from_float, into_float,
+    ZERO, AngleRefusal, add, angle, cosine, divide, f32_round, f32_value, fits, float_function, from_float, into_float,
     multiply, negate, numbers, overflowing_steps, power, sine, square_root, subtract, tangent, whole_root,
 )
 
@@ -78,8 +79,8 @@ def record(op, x, y, result):
 def outcome(operation, *operands):
     try:
         return 0, *numbers(operation(*operands))
-    except Refused as refused:
-        return refused.case, refused.bits
+    except AngleRefusal as refusal:
+        return refusal.number, refusal.bits
 
 
 def vector(op, x, y=None):
