@@ -7,7 +7,7 @@ pub mod Records
 pub mod Steps
 pub mod Run
 pub mod Tally
-pub mod Reader
+pub mod RecordReader
 pub mod Listing
 pub mod Cases
 pub mod Claims
