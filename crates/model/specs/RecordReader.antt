@@ -1,4 +1,4 @@
--- Document 01, "Reader".
+-- Document 01, "Reader": the record reader.
 use Prim.Native.Nat.{ℕ, zero, suc, _+_, _-_, _*_}
 use mathlib.Core.Bool.{_&&_, cond}
 use mathlib.Core.List.{List, [], _∷_}
