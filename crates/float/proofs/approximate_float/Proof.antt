@@ -5,10 +5,10 @@ use native.Mathlib.Omega.{arith}
 use lib.Ieee.{binary32}
 use lib.Ieee.Bits.{toBits-lt}
 use Rattle.float.specs.Float.{approximateFloat}
-use Rattle.float.proofs.Nan.{is-nan, no-nan}
-use Rattle.rational.proofs.Soundness.{checks}
-use Rattle.float.proofs.FloatTerms.{float-sound}
-use Rattle.float.proofs.Patterns.{exact-subnormal, exact-normal, exact-special}
+use Rattle.float.proofs.NanLaws.{is-nan, no-nan}
+use Rattle.rational.proofs.LowestTermsLaws.{checks}
+use Rattle.float.proofs.ApproximateFloatLaws.{float-sound}
+use Rattle.float.proofs.OfBitsLaws.{exact-subnormal, exact-normal, exact-special}
 use borrow.Author.Needs.{needs}
 use Rattle.float.proofs.approximate_float.Statement.{statement}
 use Rattle.float.proofs.approximate_float.Tie as tie

@@ -1,6 +1,6 @@
 use mathlib.Core.Path.{sym, ap}
 use Rattle.float.specs.Float.{bits}
-use Rattle.float.proofs.Nan.{is-nan, no-nan, bits-is}
+use Rattle.float.proofs.NanLaws.{is-nan, no-nan, bits-is}
 use Rattle.float.proofs.bits_of.Statement.{statement}
 use Rattle.float.proofs.bits_of.Tie as tie
 

@@ -4,7 +4,7 @@ use native.Mathlib.Omega.{arith}
 use native.Mathlib.Nat.{mod-lt}
 use Prim.Native.Nat.{ℕ, _+_, _*_, _/_, _%_, _≤_, _<_, _^_}
 use native.Mathlib.Nat.{div-mul-le-self, mul-le-mul-left}
-use Rattle.float.proofs.Rounding.{compare-lt, compare-eq, compare-gt}
+use Rattle.float.proofs.OfIntLaws.{compare-lt, compare-eq, compare-gt}
 use borrow.Author.Needs.{needs}
 use Rattle.float.proofs.closest_whole.Statement.{statement}
 use Rattle.float.proofs.closest_whole.Tie as tie

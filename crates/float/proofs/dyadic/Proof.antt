@@ -1,7 +1,7 @@
 use mathlib.Core.Logic.{⊎-elim}
 use borrow.Author.Tests.{eqb-true, eqb-false}
-use Rattle.float.proofs.PowersOfTwo.{halved}
-use Rattle.float.proofs.Reduced.{whole-is, odd-is}
+use Rattle.float.proofs.PowerOfTwoLaws.{halved}
+use Rattle.float.proofs.DyadicLaws.{whole-is, odd-is}
 use borrow.Author.Needs.{needs}
 use mathlib.Core.Path.{_≡_, refl, _∙_}
 use Prim.Native.Nat.{_*_, _-_, _%_, _^_, _<_}

@@ -5,7 +5,7 @@ use mathlib.Core.Path.{_≡_, refl, ap, _∙_, subst}
 use Prim.Native.Nat.{ℕ, _*_, _-_, _^_, _≤_, _<_}
 use native.Mathlib.Omega.{arith}
 use lib.Dec.{lit≤}
-use Rattle.float.proofs.Rounding.{small-power, in-room, under-room, next-power, closest-le, nearest-no-nan, nearest-by-bits}
+use Rattle.float.proofs.OfIntLaws.{small-power, in-room, under-room, next-power, closest-le, nearest-no-nan, nearest-by-bits}
 use Rattle.float.proofs.nearest_f32.Statement.{statement}
 use Rattle.float.proofs.nearest_f32.Tie as tie
 

@@ -2,7 +2,7 @@ use mathlib.Core.Path.{sym, _∙_}
 use lib.Arith.{le→nltb}
 use lib.Ieee.{binary32}
 use lib.Ieee.Bits.{nanBits-above}
-use Rattle.float.proofs.Nan.{nan-read, nan-quotient}
+use Rattle.float.proofs.NanLaws.{nan-read, nan-quotient}
 use borrow.Author.Needs.{needs}
 use Rattle.float.proofs.of_bits.Statement.{statement}
 use Rattle.float.proofs.of_bits.Tie as tie

@@ -1,5 +1,5 @@
 use native.Mathlib.Omega.{arith}
-use Rattle.rational.proofs.Capped.{zero-times, short, under, over}
+use Rattle.rational.proofs.CappedLaws.{zero-times, short, under, over}
 use borrow.Author.Needs.{needs}
 use Rattle.rational.proofs.capped_mul.Statement.{statement}
 use Rattle.rational.proofs.capped_mul.Tie as tie

@@ -2,7 +2,7 @@ use borrow.Author.Needs.{needs}
 use mathlib.Core.Path.{_≡_, refl, _∙_}
 use Prim.Native.Nat.{_-_, _^_, _≤_, min}
 use native.Mathlib.Omega.{arith}
-use Rattle.rational.proofs.Capped.{power-zero, power-small, power-next, power-full}
+use Rattle.rational.proofs.CappedLaws.{power-zero, power-small, power-next, power-full}
 use Rattle.rational.proofs.capped_pow.Statement.{statement}
 use Rattle.rational.proofs.capped_pow.Tie as tie
 

@@ -1,5 +1,5 @@
 use Rattle.rational.specs.Rational.{sum}
-use Rattle.rational.proofs.Soundness.{checks-both}
+use Rattle.rational.proofs.LowestTermsLaws.{checks-both}
 use borrow.Author.Needs.{needs}
 use Rattle.rational.proofs.sum_of.Statement.{statement}
 use Rattle.rational.proofs.sum_of.Tie as tie

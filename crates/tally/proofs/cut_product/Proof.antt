@@ -1,7 +1,7 @@
 use Prim.Native.Nat.{_<_}
 use native.Mathlib.Omega.{arith}
 use borrow.Author.Needs.{needs}
-use Rattle.rational.proofs.Capped.{under, over}
+use Rattle.rational.proofs.CappedLaws.{under, over}
 use Rattle.tally.proofs.Cuts.{product-none}
 use Rattle.tally.proofs.cut_product.Statement.{statement}
 use Rattle.tally.proofs.cut_product.Tie as tie

@@ -1,6 +1,6 @@
 use lib.Dec.{lit<}
 use Rattle.value.proofs.TurnLaws.{turn-negative, turn-positive, turn-undoubled, turn-unhalved}
-use Rattle.value.proofs.Soundness.{two-lowest}
+use Rattle.value.proofs.SoundLaws.{two-lowest}
 use borrow.Author.Needs.{needs}
 use Rattle.value.proofs.part_of_turn.Statement.{statement}
 use Rattle.value.proofs.part_of_turn.Tie as tie

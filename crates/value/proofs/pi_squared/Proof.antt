@@ -1,4 +1,4 @@
-use Rattle.value.proofs.Soundness.{pi-squared-lowest}
+use Rattle.value.proofs.SoundLaws.{pi-squared-lowest}
 use mathlib.Core.Path.{refl}
 use Rattle.value.proofs.pi_squared.Statement.{statement}
 use Rattle.value.proofs.pi_squared.Tie as tie

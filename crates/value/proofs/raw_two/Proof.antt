@@ -1,5 +1,5 @@
 use mathlib.Core.Path.{refl}
-use Rattle.value.proofs.Soundness.{two-lowest}
+use Rattle.value.proofs.SoundLaws.{two-lowest}
 use Rattle.value.proofs.raw_two.Statement.{statement}
 use Rattle.value.proofs.raw_two.Tie as tie
 

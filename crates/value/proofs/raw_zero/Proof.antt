@@ -1,5 +1,5 @@
 use mathlib.Core.Path.{refl}
-use Rattle.value.proofs.Soundness.{zero-lowest}
+use Rattle.value.proofs.SoundLaws.{zero-lowest}
 use Rattle.value.proofs.raw_zero.Statement.{statement}
 use Rattle.value.proofs.raw_zero.Tie as tie
 

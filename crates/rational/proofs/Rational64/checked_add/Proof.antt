@@ -2,7 +2,7 @@ use native.Mathlib.Omega.{arith}
 use mathlib.Core.Path.{sym, ap, _∙_}
 use Rattle.rational.specs.declared.Checked.the-variants.{Some}
 use Rattle.rational.proofs.SumLaws.{common-pos, sum-is}
-use Rattle.rational.proofs.Soundness.{checks, sum-sound}
+use Rattle.rational.proofs.LowestTermsLaws.{checks, sum-sound}
 use borrow.Author.Needs.{needs}
 use Rattle.rational.proofs.Rational64.checked_add.Statement.{statement}
 use Rattle.rational.proofs.Rational64.checked_add.Tie as tie

@@ -1,7 +1,7 @@
 use mathlib.Core.Path.{_∙_}
 use Rattle.rational.proofs.GcdLaws.{gcd-pos}
 use Rattle.rational.proofs.ProductLaws.{product-is}
-use Rattle.rational.proofs.Soundness.{checks, product-sound}
+use Rattle.rational.proofs.LowestTermsLaws.{checks, product-sound}
 use borrow.Author.Needs.{needs}
 use Rattle.rational.proofs.Rational64.checked_mul.Statement.{statement}
 use Rattle.rational.proofs.Rational64.checked_mul.Tie as tie

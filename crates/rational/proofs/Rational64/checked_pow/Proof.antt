@@ -1,6 +1,6 @@
 use mathlib.Core.Path.{_∙_}
 use Rattle.rational.proofs.PowerLaws.{power-is}
-use Rattle.rational.proofs.Soundness.{checks, power-sound}
+use Rattle.rational.proofs.LowestTermsLaws.{checks, power-sound}
 use borrow.Author.Needs.{needs}
 use Rattle.rational.proofs.Rational64.checked_pow.Statement.{statement}
 use Rattle.rational.proofs.Rational64.checked_pow.Tie as tie

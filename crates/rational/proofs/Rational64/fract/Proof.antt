@@ -1,5 +1,5 @@
 use mathlib.Core.Path.{refl}
-use Rattle.rational.proofs.Soundness.{fraction-lowest}
+use Rattle.rational.proofs.LowestTermsLaws.{fraction-lowest}
 use borrow.Author.Needs.{needs}
 use Rattle.rational.proofs.Rational64.fract.Statement.{statement}
 use Rattle.rational.proofs.Rational64.fract.Tie as tie

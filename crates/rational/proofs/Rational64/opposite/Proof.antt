@@ -1,5 +1,5 @@
 use mathlib.Core.Path.{refl}
-use Rattle.rational.proofs.Soundness.{opposite-lowest}
+use Rattle.rational.proofs.LowestTermsLaws.{opposite-lowest}
 use borrow.Author.Needs.{needs}
 use Rattle.rational.proofs.Rational64.opposite.Statement.{statement}
 use Rattle.rational.proofs.Rational64.opposite.Tie as tie

@@ -1,8 +1,8 @@
 use mathlib.Core.Path.{sym, _∙_}
 use native.Mathlib.Omega.{arith}
 use Rattle.rational.specs.Rational.{rationalRoot}
-use Rattle.rational.proofs.Soundness.{checks}
-use Rattle.rational.proofs.WholeRoots.{root-sound}
+use Rattle.rational.proofs.LowestTermsLaws.{checks}
+use Rattle.rational.proofs.WholeRootLaws.{root-sound}
 use borrow.Author.Needs.{needs}
 use Rattle.rational.proofs.Rational64.rat_root.Statement.{statement}
 use Rattle.rational.proofs.Rational64.rat_root.Tie as tie

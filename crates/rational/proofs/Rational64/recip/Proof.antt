@@ -1,5 +1,5 @@
 use mathlib.Core.Path.{refl}
-use Rattle.rational.proofs.Soundness.{reciprocal-lowest}
+use Rattle.rational.proofs.LowestTermsLaws.{reciprocal-lowest}
 use Rattle.rational.proofs.Rational64.recip.Statement.{statement}
 use Rattle.rational.proofs.Rational64.recip.Tie as tie
 

@@ -1,5 +1,5 @@
 use mathlib.Core.Path.{_∙_}
-use Rattle.value.proofs.Soundness.{evaluates, sum-sound-value}
+use Rattle.value.proofs.SoundLaws.{evaluates, sum-sound-value}
 use Rattle.value.specs.Value.{valueSum}
 use borrow.Author.Needs.{needs}
 use Rattle.value.proofs.Value.checked_add.Statement.{statement}

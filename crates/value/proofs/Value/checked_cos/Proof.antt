@@ -1,6 +1,6 @@
 use mathlib.Core.Path.{_∙_}
 use Rattle.value.specs.Value.{cosine}
-use Rattle.value.proofs.Soundness.{cosine-sound, evaluates}
+use Rattle.value.proofs.SoundLaws.{cosine-sound, evaluates}
 use borrow.Author.Needs.{needs}
 use Rattle.value.proofs.Value.checked_cos.Statement.{statement}
 use Rattle.value.proofs.Value.checked_cos.Tie as tie

@@ -1,5 +1,5 @@
 use mathlib.Core.Path.{_∙_}
-use Rattle.value.proofs.Soundness.{evaluates, product-sound-value}
+use Rattle.value.proofs.SoundLaws.{evaluates, product-sound-value}
 use Rattle.value.specs.Value.{valueProduct}
 use borrow.Author.Needs.{needs}
 use Rattle.value.proofs.Value.checked_mul.Statement.{statement}

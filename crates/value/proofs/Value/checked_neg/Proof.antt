@@ -1,5 +1,5 @@
 use mathlib.Core.Path.{_∙_}
-use Rattle.value.proofs.Soundness.{evaluates, negation-sound, one-lowest, zero-lowest}
+use Rattle.value.proofs.SoundLaws.{evaluates, negation-sound, one-lowest, zero-lowest}
 use Rattle.value.specs.Value.{negation}
 use borrow.Author.Needs.{needs}
 use Rattle.value.proofs.Value.checked_neg.Statement.{statement}

@@ -1,6 +1,6 @@
 use mathlib.Core.Path.{_∙_, sym}
 use borrow.Author.Tests.{eq-eqb, ne-eqb}
-use Rattle.value.proofs.Soundness.{evaluates, power-sound-value}
+use Rattle.value.proofs.SoundLaws.{evaluates, power-sound-value}
 use Rattle.value.specs.Value.{valuePower}
 use borrow.Author.Needs.{needs}
 use Rattle.value.proofs.Value.checked_pow.Statement.{statement}

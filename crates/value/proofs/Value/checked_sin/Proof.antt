@@ -1,6 +1,6 @@
 use mathlib.Core.Path.{_∙_, sym}
 use borrow.Author.Tests.{eq-eqb, ne-eqb}
-use Rattle.value.proofs.Soundness.{evaluates, sine-sound}
+use Rattle.value.proofs.SoundLaws.{evaluates, sine-sound}
 use Rattle.value.specs.Value.{sine}
 use borrow.Author.Needs.{needs}
 use Rattle.value.proofs.Value.checked_sin.Statement.{statement}

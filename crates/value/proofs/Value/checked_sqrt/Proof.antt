@@ -1,6 +1,6 @@
 use mathlib.Core.Path.{_∙_, sym}
 use borrow.Author.Tests.{eq-eqb, ne-eqb}
-use Rattle.value.proofs.Soundness.{evaluates, square-root-sound}
+use Rattle.value.proofs.SoundLaws.{evaluates, square-root-sound}
 use Rattle.value.specs.Value.{squareRoot}
 use borrow.Author.Needs.{needs}
 use Rattle.value.proofs.Value.checked_sqrt.Statement.{statement}

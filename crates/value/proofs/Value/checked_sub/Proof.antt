@@ -1,5 +1,5 @@
 use mathlib.Core.Path.{_∙_}
-use Rattle.value.proofs.Soundness.{difference-sound-value, evaluates}
+use Rattle.value.proofs.SoundLaws.{difference-sound-value, evaluates}
 use Rattle.value.specs.Value.{valueDifference}
 use borrow.Author.Needs.{needs}
 use Rattle.value.proofs.Value.checked_sub.Statement.{statement}

@@ -1,5 +1,5 @@
 use mathlib.Core.Path.{_∙_}
-use Rattle.value.proofs.Soundness.{evaluates, tangent-sound}
+use Rattle.value.proofs.SoundLaws.{evaluates, tangent-sound}
 use Rattle.value.specs.Value.{tangent}
 use borrow.Author.Needs.{needs}
 use Rattle.value.proofs.Value.checked_tan.Statement.{statement}

@@ -1,6 +1,6 @@
 use lib.Dec.{T}
 use mathlib.Core.Path.{_∙_, subst, sym}
-use Rattle.value.proofs.Soundness.{evaluates, from-float-sound}
+use Rattle.value.proofs.SoundLaws.{evaluates, from-float-sound}
 use Rattle.value.specs.Value.{fromFloat}
 use borrow.Author.Needs.{needs}
 use Rattle.value.proofs.Value.from_float.Statement.{statement}

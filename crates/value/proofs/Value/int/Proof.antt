@@ -1,5 +1,5 @@
 use mathlib.Core.Path.{_∙_, sym}
-use Rattle.value.proofs.Soundness.{evaluates, integer-sound}
+use Rattle.value.proofs.SoundLaws.{evaluates, integer-sound}
 use Rattle.value.specs.Value.{integer}
 use borrow.Author.Tests.{le-ltb, lt-ltb}
 use borrow.Author.Needs.{needs}

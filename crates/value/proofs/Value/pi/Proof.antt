@@ -1,4 +1,4 @@
-use Rattle.value.proofs.Soundness.{one-lowest, zero-lowest}
+use Rattle.value.proofs.SoundLaws.{one-lowest, zero-lowest}
 use mathlib.Core.Path.{refl}
 use borrow.Author.Needs.{needs}
 use Rattle.value.proofs.Value.pi.Statement.{statement}

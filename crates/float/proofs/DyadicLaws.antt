@@ -4,8 +4,8 @@ use mathlib.Core.Bool.{Bool, _&&_}
 use Prim.Native.Nat.{ℕ, _-_, _*_, _%_, _≤_, _<_, _^_, min}
 use native.Mathlib.Omega.{arith}
 use lib.Dec.{ltb}
-use Rattle.float.proofs.PowersOfTwo.{low-odd, low-whole}
-use Rattle.rational.proofs.Capped.{min-mul}
+use Rattle.float.proofs.PowerOfTwoLaws.{low-odd, low-whole}
+use Rattle.rational.proofs.CappedLaws.{min-mul}
 use Rattle.rational.specs.Rational.{ratio, reduced, checked}
 use Rattle.rational.proofs.ProductLaws.{checked-min}
 

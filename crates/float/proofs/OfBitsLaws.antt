@@ -8,7 +8,7 @@ use borrow.Author.Tests.{ne-eqb}
 use lib.Ieee.{Float, nan, inf, fin, binary32, fits, ofBits, ofFields, toBits, odd}
 use lib.Ieee.Exact.{HasValue, odd-sign}
 use lib.Ieee.Bits.{ofBits-toBits}
-use Rattle.float.proofs.FloatTerms.{value-lowest}
+use Rattle.float.proofs.ApproximateFloatLaws.{value-lowest}
 use Rattle.rational.specs.declared.Checked.the-variants.{None}
 use Rattle.rational.specs.Rational.{reduced, checked}
 use Rattle.float.specs.Float.{approximateFloat}

@@ -12,7 +12,7 @@ use Rattle.rational.specs.Rational.{LowestTerms, inRange, reduced, unlik
 use Rattle.rational.specs.declared.Rational64.{Rational64}
 use Rattle.rational.specs.declared.Checked.the-variants.{Some, None}
 use Rattle.rational.proofs.GcdLaws.{gcd-dvd-left, gcd-dvd-right, gcd-pos, lowest-unique}
-use Rattle.rational.proofs.Soundness.{opposite-lowest}
+use Rattle.rational.proofs.LowestTermsLaws.{opposite-lowest}
 
 -- ---- the size and the sign that the sum's steps give are those of the sum of two integers
 abbrev pub toZ : Bool → ℕ → ℤ

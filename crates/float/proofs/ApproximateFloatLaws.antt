@@ -13,9 +13,9 @@ use Rattle.rational.specs.Gcd.{gcd}
 use Rattle.rational.specs.Rational.{inRange, ratio}
 use Rattle.rational.specs.Promise.{SoundChecked}
 use Rattle.rational.proofs.GcdLaws.{lowest-is}
-use Rattle.rational.proofs.Soundness.{tested, both-true, zero-unsigned-of}
+use Rattle.rational.proofs.LowestTermsLaws.{tested, both-true, zero-unsigned-of}
 use Rattle.float.specs.Float.{approximateFloat}
-use Rattle.float.proofs.PowersOfTwo.{gcd-one, odd-power}
+use Rattle.float.proofs.PowerOfTwoLaws.{gcd-one, odd-power}
 
 flat : (e : ℤ) → up e * down e ≡ 1 → down e ≡ 1
 flat (pos k) h = refl

@@ -12,7 +12,7 @@ use Rattle.rational.specs.declared.Rational64.{Rational64}
 use Rattle.rational.specs.declared.Checked.the-variants.{Some}
 use Rattle.rational.proofs.GcdLaws.{gcd-dvd-right, lowest-is}
 use Rattle.rational.proofs.SumLaws.{sum-is}
-use Rattle.rational.proofs.Soundness.{opposite-lowest}
+use Rattle.rational.proofs.LowestTermsLaws.{opposite-lowest}
 
 -- ±n/d is r
 pub reduced-exact : (s : Bool) (n d : ℕ) (r : Rational64) → 0 < d → LowestTerms r → r .numer * d ≡ n * r .denom → (s && ltb 0 (r .numer)) ≡ r .negative → checked (reduced s n d) ≡ Some r

@@ -10,9 +10,9 @@ use lib.Ieee.{Float, fin, binary32, ofInt, ofBits, ofFields, odd, round, units, 
 use lib.Ieee.Exact.{HasValue}
 use lib.Ieee.Back.{round-whole}
 use Rattle.rational.specs.Rational.{ratio}
-use Rattle.rational.proofs.Soundness.{zero-unsigned-of}
+use Rattle.rational.proofs.LowestTermsLaws.{zero-unsigned-of}
 use Rattle.float.specs.Float.{signed, ratioFloat}
-use Rattle.float.proofs.SignedRounding.{div-one, add-zero}
+use Rattle.float.proofs.RoundLaws.{div-one, add-zero}
 use Rattle.value.specs.Value.{value, intoFloat}
 use Rattle.value.specs.Value.{zero as noFraction}
 

@@ -14,11 +14,11 @@ use Rattle.rational.specs.Promise.{SoundChecked}
 use Rattle.rational.specs.declared.Rational64.{Rational64}
 use Rattle.rational.specs.declared.Checked.{Checked}
 use Rattle.rational.specs.declared.Checked.the-variants.{Some, None}
-use Rattle.rational.proofs.Soundness.{both-true, sum-sound, product-sound, difference-sound, quotient-sound, power-sound, reciprocal-lowest, fraction-lowest}
-use Rattle.rational.proofs.WholeRoots.{root-sound}
+use Rattle.rational.proofs.LowestTermsLaws.{both-true, sum-sound, product-sound, difference-sound, quotient-sound, power-sound, reciprocal-lowest, fraction-lowest}
+use Rattle.rational.proofs.WholeRootLaws.{root-sound}
 use Rattle.float.specs.Float.{approximateFloat}
-use Rattle.float.proofs.FloatTerms.{float-sound}
-use Rattle.float.proofs.PowersOfTwo.{gcd-one}
+use Rattle.float.proofs.ApproximateFloatLaws.{float-sound}
+use Rattle.float.proofs.PowerOfTwoLaws.{gcd-one}
 use Rattle.value.specs.Value.{Sound, value, one, two, half, rational, given, parts, andThen, halfPi, piSquared, integer, intoFloat, fromFloat, orFloat, valueSum, valueDifference, valueProduct, negation, approximateQuotient, commonRatio, valueQuotient, extractRoot, inverted, rooted, valuePower, squareRoot, sineTable, wrapped, turn, sine, cosine, tangent}
 use Rattle.value.specs.Value.{zero as noFraction}
 use Rattle.value.specs.Promise.{SoundEvaluation, EvaluatesTo}

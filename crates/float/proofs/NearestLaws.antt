@@ -17,7 +17,7 @@ use lib.Ieee.Exact.{HasValue}
 use lib.Ieee.Nearest.{closest}
 use lib.Ieee.Order.{drop, kept}
 use lib.Ieee.Scale.{grid}
-use Rattle.float.proofs.Rounding.{compare-lt, compare-eq, compare-gt}
+use Rattle.float.proofs.OfIntLaws.{compare-lt, compare-eq, compare-gt}
 
 -- how far two numbers are apart; one of the two differences is 0
 abbrev pub apart : ℕ → ℕ → ℕ

@@ -9,14 +9,14 @@ use borrow.Author.Tests.{lt-ltb}
 use Rattle.rational.specs.Gcd.{gcd, euclid}
 use Rattle.rational.specs.Rational.{LowestTerms, ratio, opposite, unlike, sum, product, quotient, step}
 use Rattle.rational.specs.declared.Checked.the-variants.{Some}
-use Rattle.rational.proofs.Soundness.{opposite-lowest, zero-unsigned-of}
-use Rattle.rational.proofs.Exactly.{sum-zero, product-zero, product-minus, quotient-found}
-use Rattle.float.proofs.PowersOfTwo.{gcd-one, odd-power}
+use Rattle.rational.proofs.LowestTermsLaws.{opposite-lowest, zero-unsigned-of}
+use Rattle.rational.proofs.ReducedLaws.{sum-zero, product-zero, product-minus, quotient-found}
+use Rattle.float.proofs.PowerOfTwoLaws.{gcd-one, odd-power}
 use Rattle.value.specs.Value.{Sound, value, one, two, piSquared, valueSum, valueProduct, negation, wrapped, turn, sineTable, sine, cosine, tangent, valueQuotient}
 use Rattle.value.specs.Value.{zero as noFraction}
 use Rattle.value.specs.declared.Value.{Value}
 use Rattle.value.specs.declared.Evaluation.the-variants as evaluation
-use Rattle.value.proofs.Soundness.{zero-lowest, one-lowest}
+use Rattle.value.proofs.SoundLaws.{zero-lowest, one-lowest}
 
 nothing-times : product noFraction piSquared ≡ Some noFraction
 unfolding product gcd euclid
