@@ -11,7 +11,7 @@ use lib.Ieee.Exact.{HasValue}
 use borrow.Author.Tests.{ltb-true}
 use Rattle.rational.specs.Gcd.{gcd}
 use Rattle.rational.specs.Rational.{inRange, ratio}
-use Rattle.rational.specs.Promise.{SoundChecked}
+use Rattle.rational.specs.Promise.{SoundOption}
 use Rattle.rational.proofs.GcdLaws.{lowest-is}
 use Rattle.rational.proofs.LowestTermsLaws.{tested, both-true, zero-unsigned-of}
 use Rattle.float.specs.Float.{approximateFloat}
@@ -44,7 +44,7 @@ pub value-lowest : (f : Format) (s t : Bool) (m : ℕ) (e : ℤ) (a c : ℕ) →
 value-lowest f s t m e a c p h v = lowest-is a c (m * up e) (down e) p (float-lowest f t m e h) (v .1)
 
 -- so its exact value, if in range, is a fraction in lowest terms
-pub float-sound : (x : Float) → T (fits binary32 x) → SoundChecked (approximateFloat x)
+pub float-sound : (x : Float) → T (fits binary32 x) → SoundOption (approximateFloat x)
 unfolding approximateFloat
 float-sound nan h = tt
 float-sound (inf s) h = tt

@@ -6,7 +6,7 @@ use lib.Dec.{T}
 use borrow.Author.Tests.{lt-ltb}
 use lib.Ieee.{Float, nan, inf, fin, isNan, ne, binary32, toBits, div, ofBits, ofFields, ones, hid, top}
 use lib.Ieee.Bits.{nanBits-is, nanBits-above}
-use Rattle.float.specs.Float.{bits}
+use Rattle.float.specs.Float.{floatBits}
 use lib.Ieee.Compare.{differs-from-itself, nan-differs}
 
 pub is-nan : (x : Float) → ne x x ≡ true → x ≡ nan
@@ -18,8 +18,8 @@ no-nan nan e = absurd (subst T (sym nan-differs ∙ e) tt)
 no-nan (inf s) e = tt
 no-nan (fin s m z) e = tt
 
-pub bits-is : (x : Float) → toBits binary32 x ≡ bits x
-unfolding bits toBits
+pub bits-is : (x : Float) → toBits binary32 x ≡ floatBits x
+unfolding floatBits toBits
 bits-is nan = refl
 bits-is (inf s) = refl
 bits-is (fin s m e) = refl

@@ -20,11 +20,11 @@ use lib.Ieee.Scale.{grid}
 use Rattle.float.proofs.OfIntLaws.{compare-lt, compare-eq, compare-gt}
 
 -- how far two numbers are apart; one of the two differences is 0
-abbrev pub apart : ℕ → ℕ → ℕ
-apart x y = x - y + (y - x)
+abbrev pub distance : ℕ → ℕ → ℕ
+distance x y = x - y + (y - x)
 
 -- ---- no whole number is nearer to n / u than `closest n u`
-side : (A W C u r : ℕ) → r < u → (W ≤ A) ⊎ (A + u ≤ W) → ((C ≡ A) × (r * 2 ≤ u)) ⊎ ((C ≡ A + u) × (u ≤ r * 2)) → apart C (A + r) ≤ apart W (A + r)
+side : (A W C u r : ℕ) → r < u → (W ≤ A) ⊎ (A + u ≤ W) → ((C ≡ A) × (r * 2 ≤ u)) ⊎ ((C ≡ A + u) × (u ≤ r * 2)) → distance C (A + r) ≤ distance W (A + r)
 side A W C u r h (inl p) (inl q) = let e = q .0 in let f = q .1 in omega arith
 side A W C u r h (inl p) (inr q) = let e = q .0 in let f = q .1 in omega arith
 side A W C u r h (inr p) (inl q) = let e = q .0 in let f = q .1 in omega arith
@@ -68,9 +68,9 @@ taken q u r = go (ltb (r * 2) u) (ltb u (r * 2)) refl refl
         meet : (x u : ℕ) → u ≤ x → x ≤ u → u ≡ x
         meet x u p q = omega arith
 
-pub closest-nearest : (n u w : ℕ) → 0 < u → apart (closest n u * u) n ≤ apart (w * u) n
+pub closest-nearest : (n u w : ℕ) → 0 < u → distance (closest n u * u) n ≤ distance (w * u) n
 closest-nearest n u w h =
-    subst (λ (z : ℕ). apart (closest n u * u) z ≤ apart (w * u) z) (div-add-mod' n u)
+    subst (λ (z : ℕ). distance (closest n u * u) z ≤ distance (w * u) z) (div-add-mod' n u)
     (side (n / u * u) (w * u) (closest n u * u) u (n % u) (mod-lt n h) (where-is (n / u) w u) (taken (n / u) u (n % u)))
 
 -- "ties to even"
@@ -81,10 +81,10 @@ closest-even n u e = rw (compare-eq (n % u * 2) u e) (even (n / u))
     even q = omega arith
 
 -- ---- a value that reaches 2 ^ (prec - 1 + k) units is a multiple of 2 ^ k units
-abbrev Even : ℕ → ℕ → Type 0
-Even p Z = (k : ℕ) → 2 ^ (p - 1 + k) ≤ Z → 2 ^ k ∣ Z
+abbrev HasPrecision : ℕ → ℕ → Type 0
+HasPrecision p Z = (k : ℕ) → 2 ^ (p - 1 + k) ≤ Z → 2 ^ k ∣ Z
 
-coarse : (p m t Z : ℕ) → 0 < p → m < 2 ^ p → Z ≡ m * 2 ^ t → Even p Z
+coarse : (p m t Z : ℕ) → 0 < p → m < 2 ^ p → Z ≡ m * 2 ^ t → HasPrecision p Z
 coarse p m t Z P h e k g = subst (λ (z : ℕ). 2 ^ k ∣ z) (sym parts) (dvd-mul-left (2 ^ k) (m * 2 ^ (t - k)))
   where
     room : (p t k : ℕ) → 0 < p → suc t ≤ k → p + t ≤ p - 1 + k
@@ -108,16 +108,16 @@ small f m e t =
     let t1 : T (a && b && c) = and-l (a && b && c) d t in
     (ltb→lt (suc m) (2 ^ prec f) (and-r a b (and-l (a && b) c t1)), leb→le (down e) (2 ^ low f) (and-r (a && b) c t1))
 
-value-even : (f : Format) (z : Float) (Z : ℕ) → T (fits f z) → HasValue z false Z (2 ^ low f) → Even (prec f) Z
+value-precision : (f : Format) (z : Float) (Z : ℕ) → T (fits f z) → HasValue z false Z (2 ^ low f) → HasPrecision (prec f) Z
 unfolding fits
-value-even f nan Z t v = absurd v
-value-even f (inf s) Z t v = absurd v
-value-even f (fin s zero e) Z t v = λ k h. absurd (lt-irrefl 0 (lt-of-lt-of-le (pow-pos (prec f - 1 + k)) (le-trans h (le-of-eq (eq-of-mul-eq-mul-right (down e) (down-pos e) Z 0 (sym (v .1) ∙ nought (up e) (2 ^ low f) (down e)))))))
+value-precision f nan Z t v = absurd v
+value-precision f (inf s) Z t v = absurd v
+value-precision f (fin s zero e) Z t v = λ k h. absurd (lt-irrefl 0 (lt-of-lt-of-le (pow-pos (prec f - 1 + k)) (le-trans h (le-of-eq (eq-of-mul-eq-mul-right (down e) (down-pos e) Z 0 (sym (v .1) ∙ nought (up e) (2 ^ low f) (down e)))))))
   where
     nought : (a b c : ℕ) → 0 * a * b ≡ 0 * c
     nought a b c = omega arith
-value-even f (fin s (suc m) (pos j)) Z t v = coarse (prec f) (suc m) (j + low f) Z (two-le-pos (prec f) (two f)) (small f m (pos j) t .0) (sym (mul-one Z) ∙ sym (v .1) ∙ mul-assoc (suc m) (2 ^ j) (2 ^ low f) ∙ ap (λ (z : ℕ). suc m * z) (sym (pow-add 2 j (low f))))
-value-even f (fin s (suc m) (negsuc j)) Z t v =
+value-precision f (fin s (suc m) (pos j)) Z t v = coarse (prec f) (suc m) (j + low f) Z (two-le-pos (prec f) (two f)) (small f m (pos j) t .0) (sym (mul-one Z) ∙ sym (v .1) ∙ mul-assoc (suc m) (2 ^ j) (2 ^ low f) ∙ ap (λ (z : ℕ). suc m * z) (sym (pow-add 2 j (low f))))
+value-precision f (fin s (suc m) (negsuc j)) Z t v =
     coarse (prec f) (suc m) (low f - suc j) Z (two-le-pos (prec f) (two f)) (small f m (negsuc j) t .0)
     (eq-of-mul-eq-mul-right (2 ^ suc j) (pow-pos (suc j)) Z (suc m * 2 ^ (low f - suc j))
     (sym (v .1)
@@ -133,7 +133,7 @@ value-even f (fin s (suc m) (negsuc j)) Z t v =
     reach j l h = le-of-suc-le-suc (lt-of-not-le (λ (g : suc l ≤ j). lt-irrefl (2 ^ l) (lt-of-lt-of-le (pow-lt {i = l} {j = suc l} (le-refl (suc l))) (le-trans (pow-mono g) h))))
 
 -- ---- what is kept of n / den, against Z units
-kept-nearest : (p n den Z : ℕ) → 0 < p → 0 < den → Even p Z → apart (kept p n den * 2 ^ drop p n den * den) n ≤ apart (Z * den) n
+kept-nearest : (p n den Z : ℕ) → 0 < p → 0 < den → HasPrecision p Z → distance (kept p n den * 2 ^ drop p n den * den) n ≤ distance (Z * den) n
 kept-nearest p n den Z P D h = go (leb (2 ^ (p - 1 + k)) Z) refl
   where
     k : ℕ
@@ -145,38 +145,38 @@ kept-nearest p n den Z P D h = go (leb (2 ^ (p - 1 + k)) Z) refl
     regroup : (c j d : ℕ) → c * (d * j) ≡ c * j * d
     regroup c j d = omega arith
 
-    to : (w : ℕ) → apart (kept p n den * 2 ^ k * den) n ≤ apart (w * 2 ^ k * den) n
+    to : (w : ℕ) → distance (kept p n den * 2 ^ k * den) n ≤ distance (w * 2 ^ k * den) n
     to w =
-        subst (λ (z : ℕ). apart z n ≤ apart (w * 2 ^ k * den) n) (regroup (kept p n den) (2 ^ k) den)
-        (subst (λ (z : ℕ). apart (kept p n den * u) n ≤ apart z n) (regroup w (2 ^ k) den) (closest-nearest n u w (mul-pos D (pow-pos k))))
+        subst (λ (z : ℕ). distance z n ≤ distance (w * 2 ^ k * den) n) (regroup (kept p n den) (2 ^ k) den)
+        (subst (λ (z : ℕ). distance (kept p n den * u) n ≤ distance z n) (regroup w (2 ^ k) den) (closest-nearest n u w (mul-pos D (pow-pos k))))
 
-    multiple : 2 ^ k ∣ Z → apart (kept p n den * 2 ^ k * den) n ≤ apart (Z * den) n
-    multiple d = subst (λ (z : ℕ). apart (kept p n den * 2 ^ k * den) n ≤ apart (z * den) n) (div-mul-cancel (2 ^ k) d) (to (Z / 2 ^ k))
+    multiple : 2 ^ k ∣ Z → distance (kept p n den * 2 ^ k * den) n ≤ distance (Z * den) n
+    multiple d = subst (λ (z : ℕ). distance (kept p n den * 2 ^ k * den) n ≤ distance (z * den) n) (div-mul-cancel (2 ^ k) d) (to (Z / 2 ^ k))
 
     all-in-use : (z p : ℕ) → 0 < p → 0 < z - p → p - 1 + (z - p) < z
     all-in-use z p P h = omega arith
 
-    between : (a b n : ℕ) → b ≤ a → a ≤ n → apart a n ≤ apart b n
+    between : (a b n : ℕ) → b ≤ a → a ≤ n → distance a n ≤ distance b n
     between a b n p q = omega arith
 
-    less : Z < 2 ^ (p - 1 + k) → 0 < k → apart (kept p n den * 2 ^ k * den) n ≤ apart (Z * den) n
+    less : Z < 2 ^ (p - 1 + k) → 0 < k → distance (kept p n den * 2 ^ k * den) n ≤ distance (Z * den) n
     less l K =
         let top : 2 ^ (p - 1) * 2 ^ k ≡ 2 ^ (p - 1 + k) = sym (pow-add 2 (p - 1) k) in
         let reaches : 2 ^ (p - 1 + k) * den ≤ n = le-div-iff-mul-le D .0 (size-reaches (n / den) (p - 1 + k) (all-in-use (size (n / den)) p P K)) in
-        le-trans (subst (λ (z : ℕ). apart (kept p n den * 2 ^ k * den) n ≤ apart (z * den) n) top (to (2 ^ (p - 1))))
+        le-trans (subst (λ (z : ℕ). distance (kept p n den * 2 ^ k * den) n ≤ distance (z * den) n) top (to (2 ^ (p - 1))))
         (between (2 ^ (p - 1 + k) * den) (Z * den) n (mul-le-mul-right den (le-of-lt l)) reaches)
 
     unit : k ≡ 0 → 2 ^ k ∣ Z
     unit e = subst (λ (z : ℕ). z ∣ Z) (sym (ap (λ (z : ℕ). 2 ^ z) e)) (subst (λ (z : ℕ). 1 ∣ z) (mul-one Z) (dvd-mul-left 1 Z))
 
-    go : (b : Bool) → leb (2 ^ (p - 1 + k)) Z ≡ b → apart (kept p n den * 2 ^ k * den) n ≤ apart (Z * den) n
+    go : (b : Bool) → leb (2 ^ (p - 1 + k)) Z ≡ b → distance (kept p n den * 2 ^ k * den) n ≤ distance (Z * den) n
     go true e = multiple (h k (leb-true (2 ^ (p - 1 + k)) Z e))
     go false e = at k refl
       where
-        at : (j : ℕ) → k ≡ j → apart (kept p n den * 2 ^ k * den) n ≤ apart (Z * den) n
+        at : (j : ℕ) → k ≡ j → distance (kept p n den * 2 ^ k * den) n ≤ distance (Z * den) n
         at zero z = multiple (unit z)
         at (suc j) z = less (leb-false (2 ^ (p - 1 + k)) Z e) (subst (λ (i : ℕ). 0 < i) (sym z) (zero-lt-suc j))
 
 -- `round f false a c` is `grid f a c` units, where it is finite (`round-val` of lib.Ieee.Scale). No value z of the format, of Z units, is nearer to a / c; both sides are times c.
-pub round-nearest : (f : Format) (a c : ℕ) (z : Float) (Z : ℕ) → 0 < c → T (fits f z) → HasValue z false Z (2 ^ low f) → apart (grid f a c * c) (a * 2 ^ low f) ≤ apart (Z * c) (a * 2 ^ low f)
-round-nearest f a c z Z C t v = kept-nearest (prec f) (a * 2 ^ low f) c Z (two-le-pos (prec f) (two f)) C (value-even f z Z t v)
+pub round-nearest : (f : Format) (a c : ℕ) (z : Float) (Z : ℕ) → 0 < c → T (fits f z) → HasValue z false Z (2 ^ low f) → distance (grid f a c * c) (a * 2 ^ low f) ≤ distance (Z * c) (a * 2 ^ low f)
+round-nearest f a c z Z C t v = kept-nearest (prec f) (a * 2 ^ low f) c Z (two-le-pos (prec f) (two f)) C (value-precision f z Z t v)

@@ -9,7 +9,7 @@ use lib.Ieee.{Float, nan, inf, fin, binary32, fits, ofBits, ofFields, toBits, od
 use lib.Ieee.Exact.{HasValue, odd-sign}
 use lib.Ieee.Bits.{ofBits-toBits}
 use Rattle.float.proofs.ApproximateFloatLaws.{value-lowest}
-use Rattle.rational.specs.declared.Checked.the-variants.{None}
+use Rattle.rational.specs.declared.OptionRational64.the-variants.{None}
 use Rattle.rational.specs.Rational.{reduced, checked}
 use Rattle.float.specs.Float.{approximateFloat}
 

@@ -81,9 +81,9 @@ big-round n k h g hk =
     (round-val binary32 n 1 (subst (λ (z : ℕ). z < overflow binary32) (sym e) (under (closest n (2 ^ k)) k 149 277 (closest-le n k g) hk (lit< tt)))))
 
 -- ---- a pattern with a leading digit
-pub fields : (x t : ℕ) → x < 254 → t < 2 ^ 23 → ofBits binary32 (suc x * 2 ^ 23 + t) ≡ odd 24 false (2 ^ 23 + t) x 149
+pub normal-fields : (x t : ℕ) → x < 254 → t < 2 ^ 23 → ofBits binary32 (suc x * 2 ^ 23 + t) ≡ odd 24 false (2 ^ 23 + t) x 149
 unfolding ofBits ofFields
-fields x t hx ht =
+normal-fields x t hx ht =
     let b = suc x * 2 ^ 23 + t in
     let lo : b < 2 ^ 31 = omega arith in
     let ex : b % 2 ^ 31 / 2 ^ 23 ≡ suc x = omega arith in
@@ -97,7 +97,7 @@ fields x t hx ht =
 fields-value : (b x t k m : ℕ) → x < 254 → t < 2 ^ 23 → b ≡ suc x * 2 ^ 23 + t → (2 ^ 23 + t) * 2 ^ x ≡ m * 2 ^ k * 2 ^ 149 → HasValue (ofBits binary32 b) false (m * 2 ^ k) 1
 fields-value b x t k m hx ht e v =
     rescale (ofBits binary32 b) false ((2 ^ 23 + t) * 2 ^ x) (2 ^ 149) (m * 2 ^ k) 1 (pow-pos 149) (sym v ∙ sym (mul-one ((2 ^ 23 + t) * 2 ^ x)))
-    (subst (λ (z : Float). HasValue z false ((2 ^ 23 + t) * 2 ^ x) (2 ^ 149)) (sym (ap (ofBits binary32) e ∙ fields x t hx ht)) (odd-sign 24 false (2 ^ 23 + t) x 149))
+    (subst (λ (z : Float). HasValue z false ((2 ^ 23 + t) * 2 ^ x) (2 ^ 149)) (sym (ap (ofBits binary32) e ∙ normal-fields x t hx ht)) (odd-sign 24 false (2 ^ 23 + t) x 149))
 
 pub bits-value : (k m : ℕ) → 2 ^ 23 ≤ m → m ≤ 2 ^ 24 → k ≤ 40 → HasValue (ofBits binary32 ((k + 149) * 2 ^ 23 + m)) false (m * 2 ^ k) 1
 bits-value k m lo hi hk = ⊎-elim top below (eq-or-lt-of-le hi)
@@ -166,20 +166,20 @@ compare-gt a b h = go (compare a b) (lt-leb a b h)
     go Ordering·gt q = refl
 
 -- ---- the loop that finds how many digits to drop
-pub more-room : (k n : ℕ) → 2 ^ 24 * 2 ^ k ≤ n → n < 2 ^ 64 → k < 40
-more-room k n h l = lt-of-not-le (λ (g : 40 ≤ k). go g)
+pub shift-bound : (k n : ℕ) → 2 ^ 24 * 2 ^ k ≤ n → n < 2 ^ 64 → k < 40
+shift-bound k n h l = lt-of-not-le (λ (g : 40 ≤ k). go g)
   where
     go : 40 ≤ k → ⊥
     go g = let p : 2 ^ 40 ≤ 2 ^ k = pow-mono g in omega arith
 
-pub in-room : (n u k : ℕ) → u ≡ 2 ^ k → 2 ^ 24 ≤ n / u → n < 2 ^ 64 → (2 ^ 24 * u ≤ n) × (k < 40)
-in-room n u k e h l =
+pub above-significand : (n u k : ℕ) → u ≡ 2 ^ k → 2 ^ 24 ≤ n / u → n < 2 ^ 64 → (2 ^ 24 * u ≤ n) × (k < 40)
+above-significand n u k e h l =
     let p : 0 < u = subst (λ (z : ℕ). 0 < z) (sym e) (pow-pos k) in
     let q : 2 ^ 24 * u ≤ n = le-div-iff-mul-le p .0 h in
-    (q, more-room k n (subst (λ (z : ℕ). 2 ^ 24 * z ≤ n) e q) l)
+    (q, shift-bound k n (subst (λ (z : ℕ). 2 ^ 24 * z ≤ n) e q) l)
 
-pub under-room : (n u k : ℕ) → u ≡ 2 ^ k → n / u < 2 ^ 24 → n < 2 ^ 24 * 2 ^ k
-under-room n u k e h = subst (λ (z : ℕ). n < 2 ^ 24 * z) e (div-lt-iff-lt-mul (subst (λ (z : ℕ). 0 < z) (sym e) (pow-pos k)) .0 h)
+pub below-significand : (n u k : ℕ) → u ≡ 2 ^ k → n / u < 2 ^ 24 → n < 2 ^ 24 * 2 ^ k
+below-significand n u k e h = subst (λ (z : ℕ). n < 2 ^ 24 * z) e (div-lt-iff-lt-mul (subst (λ (z : ℕ). 0 < z) (sym e) (pow-pos k)) .0 h)
 
 pub small-power : (u k : ℕ) → u ≡ 2 ^ k → k ≤ 40 → (0 < u) × (u ≤ 2 ^ 40)
 small-power u k e h = (subst (λ (z : ℕ). 0 < z) (sym e) (pow-pos k), subst (λ (z : ℕ). z ≤ 2 ^ 40) (sym e) (pow-mono h))

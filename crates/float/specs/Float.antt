@@ -4,21 +4,21 @@ use mathlib.Core.Bool.{Bool, true, false}
 use lib.IntN.{ℤ, pos, negℤ}
 use lib.Ieee.{Float, nan, inf, fin, up, down, binary32, ofInt, toBits, div}
 use Rattle.rational.specs.declared.Rational64.{Rational64}
-use Rattle.rational.specs.declared.Checked.{Checked}
-use Rattle.rational.specs.declared.Checked.the-variants.{None}
+use Rattle.rational.specs.declared.OptionRational64.{OptionRational64}
+use Rattle.rational.specs.declared.OptionRational64.the-variants.{None}
 use Rattle.rational.specs.Rational.{ratio, checked}
 
 -- "the exact value of a finite f32, reduced; it fails exactly for infinities, NaN and values outside the range". A finite f32 is ±m·2^e with an odd m, or zero, so m·2^e is reduced as it stands.
-unfoldable pub approximateFloat : Float → Checked
+unfoldable pub approximateFloat : Float → OptionRational64
 approximateFloat nan = None
 approximateFloat (inf s) = None
 approximateFloat (fin s m e) = checked (ratio s (m * up e) (down e))
 
 -- the bits of an f32: "A NaN is reported as hexadecimal 7FC00000."
-unfoldable pub bits : Float → ℕ
-bits nan = 0x7FC00000
-bits (inf s) = toBits binary32 (inf s)
-bits (fin s m e) = toBits binary32 (fin s m e)
+unfoldable pub floatBits : Float → ℕ
+floatBits nan = 0x7FC00000
+floatBits (inf s) = toBits binary32 (inf s)
+floatBits (fin s m e) = toBits binary32 (fin s m e)
 
 -- ±n
 abbrev pub signed : Bool → ℕ → ℤ

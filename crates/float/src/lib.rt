@@ -1,5 +1,5 @@
 // f32 and fractions.
-use rational::Checked;
+use rational::OptionRational64;
 use rational::Rational64;
 ghost use mathlib.Core.Path.{_≡_};
 ghost use Prim.Native.Nat.{_+_, _-_, _*_, _/_, _%_, _<_, _≤_, _^_, min};
@@ -9,7 +9,7 @@ ghost use lib.Ieee.{binary32};
 ghost use lib.Ieee.Nearest.{closest};
 ghost use Rattle.rational.specs.Rational.{LowestTerms, reduced, checked};
 ghost use Rattle.rational.specs.Promise.{ChecksTo};
-ghost use Rattle.float.specs.Float.{approximateFloat, bits, ratioFloat};
+ghost use Rattle.float.specs.Float.{approximateFloat, floatBits, ratioFloat};
 
 // n/u to the nearest whole number, a tie to the even one.
 fn closest_whole(n: u64, u: u64) -> u64
@@ -45,8 +45,8 @@ pub fn nearest_f32(n: u64) -> f32
 }
 
 // The bits of x, those of a NaN being 7FC00000.
-pub fn bits_of(x: f32) -> u32
-    ensures { λ r. ⌜ r ≡ bits x ⌝ }
+pub fn f32_to_bits(x: f32) -> u32
+    ensures { λ r. ⌜ r ≡ floatBits x ⌝ }
 {
     if x != x {
         return 0x7fc0_0000;
@@ -55,7 +55,7 @@ pub fn bits_of(x: f32) -> u32
 }
 
 // The f32 of a word. from_bits takes no NaN's, so a quotient stands for them.
-pub fn of_bits(word: u64) -> f32
+pub fn f32_from_bits(word: u64) -> f32
     requires { ⌜ word < 2 ^ 32 ⌝ }
     ensures { λ r. ⌜ r ≡ Ieee.ofBits binary32 word ⌝ }
 {
@@ -77,7 +77,7 @@ fn capped_power_of_two(e: u64) -> u64
 }
 
 // ±q * 2^k / 2^149 as a fraction.
-fn dyadic(negative: bool, q: u64, k: u64) -> Checked
+fn dyadic_rational(negative: bool, q: u64, k: u64) -> OptionRational64
     requires { ⌜ (q < 2 ^ 24) × (k < 254) ⌝ }
     ensures { λ r. ⌜ r ≡ checked (reduced negative (q * 2 ^ k) (2 ^ 149)) ⌝ }
 {
@@ -90,36 +90,36 @@ fn dyadic(negative: bool, q: u64, k: u64) -> Checked
     if 149 <= j {
         let n = rational::capped_mul(m, capped_power_of_two(j - 149));
         return rational::range_checked(Rational64 {
-            negative: rational::sign_of(negative, n),
+            negative: rational::sign_unless_zero(negative, n),
             numer: n,
             denom: 1,
         });
     }
     rational::range_checked(Rational64 {
-        negative: rational::sign_of(negative, m),
+        negative: rational::sign_unless_zero(negative, m),
         numer: m,
         denom: capped_power_of_two(149 - j),
     })
 }
 
 // The exact value of a finite f32 as a fraction, if it is in range.
-pub fn approximate_float(x: f32) -> Checked
+pub fn approximate_float(x: f32) -> OptionRational64
     ensures { λ r. ⌜ ChecksTo (approximateFloat x) r ⌝ }
 {
     if x != x {
-        return Checked::None;
+        return OptionRational64::None;
     }
     let b = f32::to_bits(x) as u64;
     let negative = 0x8000_0000 <= b;
     let field = b % 0x8000_0000 / 0x80_0000;
     let t = b % 0x80_0000;
     if field == 0 {
-        return dyadic(negative, t, 0);
+        return dyadic_rational(negative, t, 0);
     }
     if field == 255 {
-        return Checked::None;
+        return OptionRational64::None;
     }
-    dyadic(negative, 0x80_0000 + t, field - 1)
+    dyadic_rational(negative, 0x80_0000 + t, field - 1)
 }
 
 // Numerator and denominator each rounded to the nearest f32, and divided once.

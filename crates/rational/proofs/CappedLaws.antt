@@ -9,14 +9,14 @@ use native.Mathlib.Omega.{arith}
 pub zero-times : (a b H : ℕ) → a ≡ 0 → 0 ≡ min (a * b) H
 zero-times a b H e = rw (e, zero-mul) (omega arith)
 
-pub short : (a b : ℕ) → a < 4294967296 → b < 2147483648 → a * b < 2 ^ 63
-short a b h l = let p : b * a ≤ b * 4294967296 = mul-le-mul-left b (omega arith) in omega (arith, mul-comm a b)
+pub short-factors : (a b : ℕ) → a < 4294967296 → b < 2147483648 → a * b < 2 ^ 63
+short-factors a b h l = let p : b * a ≤ b * 4294967296 = mul-le-mul-left b (omega arith) in omega (arith, mul-comm a b)
 
-pub under : (a b H : ℕ) → 0 < a → b ≤ H / a → a * b ≤ H
-under a b H p h = omega (arith, le-div-iff-mul-le p .0 h)
+pub product-within : (a b H : ℕ) → 0 < a → b ≤ H / a → a * b ≤ H
+product-within a b H p h = omega (arith, le-div-iff-mul-le p .0 h)
 
-pub over : (a b H : ℕ) → 0 < a → H / a < b → H < a * b
-over a b H p h = omega (arith, div-lt-iff-lt-mul p .0 h)
+pub product-beyond : (a b H : ℕ) → 0 < a → H / a < b → H < a * b
+product-beyond a b H p h = omega (arith, div-lt-iff-lt-mul p .0 h)
 
 -- a factor may be cut before the product that is
 pub min-mul : (m x H : ℕ) → min (m * min x H) H ≡ min (m * x) H

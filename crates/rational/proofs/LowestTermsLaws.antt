@@ -7,23 +7,23 @@ use native.Mathlib.Omega.{arith}
 use lib.Dec.{ltb, eqb}
 use borrow.Author.Tests.{ltb-true}
 use Rattle.rational.specs.Gcd.{gcd}
-use Rattle.rational.specs.Rational.{LowestTerms, inRange, reduced, checked, unlike, sumMagnitude, sumSign, commonDenominator, allInRange, sum, opposite, difference, product, reciprocal, quotient, power, fraction, both}
-use Rattle.rational.specs.Promise.{SoundChecked, ChecksTo}
+use Rattle.rational.specs.Rational.{LowestTerms, inRange, reduced, checked, unlike, sumMagnitude, sumSign, commonDenominator, allInRange, fractionSum, opposite, difference, product, reciprocal, quotient, power, fractionalPart, both}
+use Rattle.rational.specs.Promise.{SoundOption, ChecksTo}
 use Rattle.rational.specs.declared.Rational64.{Rational64}
-use Rattle.rational.specs.declared.Checked.{Checked}
-use Rattle.rational.specs.declared.Checked.the-variants.{Some, None}
+use Rattle.rational.specs.declared.OptionRational64.{OptionRational64}
+use Rattle.rational.specs.declared.OptionRational64.the-variants.{Some, None}
 use Rattle.rational.proofs.GcdLaws.{gcd-dvd-right, gcd-reduced, gcd-comm, gcd-step, pos-factor}
 use Rattle.rational.proofs.SumLaws.{common-pos}
 
 -- ---- a promise from its equation
-pub checks : {defined result : Checked} → result ≡ defined → SoundChecked defined → ChecksTo defined result
-checks e s = record { is = e; sound = subst SoundChecked (sym e) s }
+pub checks-to : {defined result : OptionRational64} → result ≡ defined → SoundOption defined → ChecksTo defined result
+checks-to e s = record { is = e; sound = subst SoundOption (sym e) s }
 
-pub checks-both : (op : Rational64 → Rational64 → Checked) (x y r : Checked) (a b : Rational64) → x ≡ Some a → y ≡ Some b → ChecksTo (op a b) r → ChecksTo (both op x y) r
-checks-both op x y r a b p q g = record { is = g .is ∙ sym (rw (p, q)); sound = g .sound }
+pub checks-to-both : (op : Rational64 → Rational64 → OptionRational64) (x y r : OptionRational64) (a b : Rational64) → x ≡ Some a → y ≡ Some b → ChecksTo (op a b) r → ChecksTo (both op x y) r
+checks-to-both op x y r a b p q g = record { is = g .is ∙ sym (rw (p, q)); sound = g .sound }
 
 -- ---- a fraction that is tested, or none
-pub tested : (b : Bool) (x : Rational64) → (b ≡ true → LowestTerms x) → SoundChecked (cond b (Some x) None)
+pub tested : (b : Bool) (x : Rational64) → (b ≡ true → LowestTerms x) → SoundOption (cond b (Some x) None)
 tested true x h = h refl
 tested false x h = tt
 
@@ -57,21 +57,21 @@ reduced-lowest s n d p hn hd = record {
   zero-unsigned = zero-unsigned-of s (n / gcd n d);
 }
 
-checked-sound : (s : Bool) (n d : ℕ) → 0 < d → SoundChecked (checked (reduced s n d))
+checked-sound : (s : Bool) (n d : ℕ) → 0 < d → SoundOption (checked (reduced s n d))
 checked-sound s n d p =
     tested (inRange (n / gcd n d) && inRange (d / gcd n d)) (reduced s n d)
     (λ e. let t = both-true (inRange (n / gcd n d)) (inRange (d / gcd n d)) e in reduced-lowest s n d p (ltb-true _ _ (t .0)) (ltb-true _ _ (t .1)))
 
-pub product-sound : (x y : Rational64) → LowestTerms x → LowestTerms y → SoundChecked (product x y)
+pub product-sound : (x y : Rational64) → LowestTerms x → LowestTerms y → SoundOption (product x y)
 unfolding product
 product-sound x y p q = checked-sound (unlike (x .negative) (y .negative)) (x .numer * y .numer) (x .denom * y .denom) (mul-pos (p .positive) (q .positive))
 
-pub power-sound : (x : Rational64) (k : ℕ) → LowestTerms x → SoundChecked (power x k)
+pub power-sound : (x : Rational64) (k : ℕ) → LowestTerms x → SoundOption (power x k)
 unfolding power
 power-sound x k p = checked-sound (x .negative && eqb (k % 2) 1) (x .numer ^ k) (x .denom ^ k) (one-le-pow k (x .denom) (p .positive))
 
-pub sum-sound : (x y : Rational64) → LowestTerms x → LowestTerms y → SoundChecked (sum x y)
-unfolding sum
+pub sum-sound : (x y : Rational64) → LowestTerms x → LowestTerms y → SoundOption (fractionSum x y)
+unfolding fractionSum
 sum-sound x y px py =
     let l = commonDenominator (x .denom) (y .denom) in
     let p = l / x .denom * x .numer in
@@ -106,8 +106,8 @@ reciprocal-lowest x l h = record {
     no : x .denom ≡ 0 → 0 < x .denom → ⊥
     no e p = omega arith
 
-pub fraction-lowest : (x : Rational64) → LowestTerms x → LowestTerms (fraction x)
-fraction-lowest x l = record {
+pub fractional-part-lowest : (x : Rational64) → LowestTerms x → LowestTerms (fractionalPart x)
+fractional-part-lowest x l = record {
   positive = l .positive;
   numer-fits = lt-of-le-of-lt (le-of-lt (mod-lt (x .numer) (l .positive))) (l .denom-fits);
   denom-fits = l .denom-fits;
@@ -116,10 +116,10 @@ fraction-lowest x l = record {
 }
 
 -- ---- the difference and the quotient
-pub difference-sound : (x y : Rational64) → LowestTerms x → LowestTerms y → SoundChecked (difference x y)
+pub difference-sound : (x y : Rational64) → LowestTerms x → LowestTerms y → SoundOption (difference x y)
 unfolding difference
 difference-sound x y p q = sum-sound x (opposite y) p (opposite-lowest y q)
 
-pub quotient-sound : (x y : Rational64) → LowestTerms x → LowestTerms y → 0 < y .numer → SoundChecked (quotient x y)
+pub quotient-sound : (x y : Rational64) → LowestTerms x → LowestTerms y → 0 < y .numer → SoundOption (quotient x y)
 unfolding quotient
 quotient-sound x y p q h = checked-sound (unlike (x .negative) (y .negative)) (x .numer * y .denom) (x .denom * y .numer) (mul-pos (p .positive) h)

@@ -7,9 +7,9 @@ use native.Mathlib.Omega.{arith}
 use lib.Dec.{ltb, eqb}
 use borrow.Author.Tests.{lt-ltb, le-ltb}
 use Rattle.rational.specs.Gcd.{gcd}
-use Rattle.rational.specs.Rational.{LowestTerms, ratio, reduced, checked, unlike, sumMagnitude, sumSign, commonDenominator, allInRange, opposite, sum, product, quotient, power}
+use Rattle.rational.specs.Rational.{LowestTerms, ratio, reduced, checked, unlike, sumMagnitude, sumSign, commonDenominator, allInRange, opposite, fractionSum, product, quotient, power}
 use Rattle.rational.specs.declared.Rational64.{Rational64}
-use Rattle.rational.specs.declared.Checked.the-variants.{Some}
+use Rattle.rational.specs.declared.OptionRational64.the-variants.{Some}
 use Rattle.rational.proofs.GcdLaws.{gcd-dvd-right, lowest-is}
 use Rattle.rational.proofs.SumLaws.{sum-is}
 use Rattle.rational.proofs.LowestTermsLaws.{opposite-lowest}
@@ -44,7 +44,7 @@ signed-as x l = go (x .negative) (x .numer) (l .zero-unsigned)
     go true zero z = sym (z refl)
     go true (suc n) z = lt-ltb 0 (suc n) (zero-lt-suc n)
 
-pub sum-zero : (x : Rational64) → LowestTerms x → sum x (ratio false 0 1) ≡ Some x
+pub sum-zero : (x : Rational64) → LowestTerms x → fractionSum x (ratio false 0 1) ≡ Some x
 sum-zero x l =
     let n = x .numer in
     let d = x .denom in

@@ -8,9 +8,9 @@ use lib.Dec.{ltb}
 use lib.IntN.{ℤ, pos, negsuc, negℤ, natAbs, pos-ne-negsuc, _+ℤ_, _*ℤ_, negℤ-+ℤ, +ℤ-comm}
 use borrow.Author.Tests.{ltb-true, ltb-false, lt-ltb, le-ltb}
 use Rattle.rational.specs.Gcd.{gcd}
-use Rattle.rational.specs.Rational.{LowestTerms, inRange, reduced, unlike, sumMagnitude, sumSign, commonDenominator, allInRange, sum, opposite, difference, product, quotient}
+use Rattle.rational.specs.Rational.{LowestTerms, inRange, reduced, unlike, sumMagnitude, sumSign, commonDenominator, allInRange, fractionSum, opposite, difference, product, quotient}
 use Rattle.rational.specs.declared.Rational64.{Rational64}
-use Rattle.rational.specs.declared.Checked.the-variants.{Some, None}
+use Rattle.rational.specs.declared.OptionRational64.the-variants.{Some, None}
 use Rattle.rational.proofs.GcdLaws.{gcd-dvd-left, gcd-dvd-right, gcd-pos, lowest-unique}
 use Rattle.rational.proofs.LowestTermsLaws.{opposite-lowest}
 
@@ -91,11 +91,11 @@ toZ-unsigned true zero m = no-sign (0 * m) (zero-mul m)
 toZ-unsigned true (suc k) m = rw (lt-ltb 0 (suc k) (zero-lt-suc k)) refl
 
 -- ---- a fraction's numerator, with its sign
-abbrev pub numerator : Rational64 → ℤ
-numerator x = toZ (x .negative) (x .numer)
+abbrev pub signedNumerator : Rational64 → ℤ
+signedNumerator x = toZ (x .negative) (x .numer)
 
 -- both sides are brought to the magnitudes k·D and n·e
-reduced-is : (s : Bool) (n d m w : ℕ) → n / gcd n d * m ≡ w → numerator (reduced s n d) *ℤ pos m ≡ toZ s w
+reduced-is : (s : Bool) (n d m w : ℕ) → n / gcd n d * m ≡ w → signedNumerator (reduced s n d) *ℤ pos m ≡ toZ s w
 reduced-is s n d m w e = toZ-times (s && ltb 0 (n / gcd n d)) (n / gcd n d) m ∙ toZ-unsigned s (n / gcd n d) m ∙ ap (toZ s) e
 
 -- n/g · d and n · (d/g)
@@ -114,27 +114,27 @@ only true x r e = cc
 only false x r e = absurd (let z : _≡_ {A = ℕ} 0 1 = cc in omega arith)
 
 -- r = x·y: the numerator of r over its denominator is the product of the numerators over that of the denominators
-pub product-integers : (x y r : Rational64) → product x y ≡ Some r → numerator r *ℤ pos (x .denom * y .denom) ≡ numerator x *ℤ numerator y *ℤ pos (r .denom)
+pub product-integers : (x y r : Rational64) → product x y ≡ Some r → signedNumerator r *ℤ pos (x .denom * y .denom) ≡ signedNumerator x *ℤ signedNumerator y *ℤ pos (r .denom)
 unfolding product
 product-integers x y r e =
     let s = unlike (x .negative) (y .negative) in
     let n = x .numer * y .numer in
     let d = x .denom * y .denom in
-    subst (λ (z : Rational64). numerator z *ℤ pos d ≡ numerator x *ℤ numerator y *ℤ pos (z .denom)) (only (inRange (n / gcd n d) && inRange (d / gcd n d)) (reduced s n d) r e)
+    subst (λ (z : Rational64). signedNumerator z *ℤ pos d ≡ signedNumerator x *ℤ signedNumerator y *ℤ pos (z .denom)) (only (inRange (n / gcd n d) && inRange (d / gcd n d)) (reduced s n d) r e)
     (reduced-is s n d d (n * (d / gcd n d)) (crosswise n d)
     ∙ sym (toZ-times s n (d / gcd n d))
     ∙ ap (λ (z : ℤ). z *ℤ pos (d / gcd n d)) (sym (toZ-product (x .negative) (y .negative) (x .numer) (y .numer))))
 
 -- r = x/y: r times y is x
-pub quotient-integers : (x y r : Rational64) → quotient x y ≡ Some r → numerator r *ℤ (pos (x .denom) *ℤ numerator y) ≡ numerator x *ℤ pos (y .denom) *ℤ pos (r .denom)
+pub quotient-integers : (x y r : Rational64) → quotient x y ≡ Some r → signedNumerator r *ℤ (pos (x .denom) *ℤ signedNumerator y) ≡ signedNumerator x *ℤ pos (y .denom) *ℤ pos (r .denom)
 unfolding quotient
 quotient-integers x y r e =
     let s = unlike (x .negative) (y .negative) in
     let n = x .numer * y .denom in
     let d = x .denom * y .numer in
     let k = n / gcd n d in
-    subst (λ (z : Rational64). numerator z *ℤ (pos (x .denom) *ℤ numerator y) ≡ numerator x *ℤ pos (y .denom) *ℤ pos (z .denom)) (only (inRange (n / gcd n d) && inRange (d / gcd n d)) (reduced s n d) r e)
-    (ap (λ (z : ℤ). numerator (reduced s n d) *ℤ z) (toZ-product false (y .negative) (x .denom) (y .numer))
+    subst (λ (z : Rational64). signedNumerator z *ℤ (pos (x .denom) *ℤ signedNumerator y) ≡ signedNumerator x *ℤ pos (y .denom) *ℤ pos (z .denom)) (only (inRange (n / gcd n d) && inRange (d / gcd n d)) (reduced s n d) r e)
+    (ap (λ (z : ℤ). signedNumerator (reduced s n d) *ℤ z) (toZ-product false (y .negative) (x .denom) (y .numer))
     ∙ toZ-product (s && ltb 0 k) (y .negative) k d
     ∙ signs (x .negative) (y .negative) k d
     ∙ ap (toZ (x .negative)) (crosswise n d)
@@ -171,9 +171,9 @@ scaled s t k p q h =
     ∙ ap (toZ (sumSign s p t q)) (magnitude-times (unlike s t) k p q)
 
 -- r = x + y over ℤ
-pub sum-integers : (x y r : Rational64) → LowestTerms x → LowestTerms y → sum x y ≡ Some r
-    → numerator r *ℤ pos (x .denom * y .denom) ≡ (numerator x *ℤ pos (y .denom) +ℤ numerator y *ℤ pos (x .denom)) *ℤ pos (r .denom)
-unfolding sum
+pub sum-integers : (x y r : Rational64) → LowestTerms x → LowestTerms y → fractionSum x y ≡ Some r
+    → signedNumerator r *ℤ pos (x .denom * y .denom) ≡ (signedNumerator x *ℤ pos (y .denom) +ℤ signedNumerator y *ℤ pos (x .denom)) *ℤ pos (r .denom)
+unfolding fractionSum
 sum-integers x y r px py e =
     let b = x .denom in
     let d = y .denom in
@@ -190,7 +190,7 @@ sum-integers x y r px py e =
     let ld : l / d ≡ b / g = div-eq-of-eq-mul-right (py .positive) (mul-comm (b / g) d) in
     let ep : x .numer * d ≡ g * p = rw lb (across (x .numer) (d / g) g d ed) in
     let eq : y .numer * b ≡ g * q = rw ld (across (y .numer) (b / g) g b eb) in
-    subst (λ (z : Rational64). numerator z *ℤ pos (b * d) ≡ (numerator x *ℤ pos d +ℤ numerator y *ℤ pos b) *ℤ pos (z .denom)) (only (allInRange l p q m) (reduced s m l) r e)
+    subst (λ (z : Rational64). signedNumerator z *ℤ pos (b * d) ≡ (signedNumerator x *ℤ pos d +ℤ signedNumerator y *ℤ pos b) *ℤ pos (z .denom)) (only (allInRange l p q m) (reduced s m l) r e)
     (reduced-is s m l (b * d) (g * m * (l / gcd m l)) (whole (m / gcd m l) (l / gcd m l) m l g (b / g) b d (crosswise m l) eb)
     ∙ sym (toZ-times s (g * m) (l / gcd m l))
     ∙ ap (λ (z : ℤ). z *ℤ pos (l / gcd m l))
@@ -198,7 +198,7 @@ sum-integers x y r px py e =
     ∙ ap (λ (z : ℕ). toZ (x .negative) z +ℤ toZ (y .negative) (g * q)) (sym ep)
     ∙ ap (λ (z : ℕ). toZ (x .negative) (x .numer * d) +ℤ toZ (y .negative) z) (sym eq)
     ∙ ap (λ (z : ℤ). z +ℤ toZ (y .negative) (y .numer * b)) (sym (toZ-times (x .negative) (x .numer) d))
-    ∙ ap (λ (z : ℤ). numerator x *ℤ pos d +ℤ z) (sym (toZ-times (y .negative) (y .numer) b))))
+    ∙ ap (λ (z : ℤ). signedNumerator x *ℤ pos d +ℤ z) (sym (toZ-times (y .negative) (y .numer) b))))
   where
     left : (B D g b d : ℕ) → g * B ≡ b → g * D ≡ d → B * d ≡ b * D
     left B D g b d p q = rw (← p, ← q) (omega arith)
@@ -210,7 +210,7 @@ sum-integers x y r px py e =
     whole k e m l g B b d p q = rw (← q) (omega (arith, ap (λ (z : ℕ). g * z) p))
 
 -- the opposite's numerator is the other way round
-pub opposite-integers : (y : Rational64) → LowestTerms y → numerator (opposite y) ≡ negℤ (numerator y)
+pub opposite-integers : (y : Rational64) → LowestTerms y → signedNumerator (opposite y) ≡ negℤ (signedNumerator y)
 opposite-integers y l = go (y .negative) (y .numer)
   where
     go : (s : Bool) (n : ℕ) → toZ (not s && ltb 0 n) n ≡ negℤ (toZ s n)
@@ -221,10 +221,10 @@ opposite-integers y l = go (y .negative) (y .numer)
 
 -- r = x - y over ℤ
 pub difference-integers : (x y r : Rational64) → LowestTerms x → LowestTerms y → difference x y ≡ Some r
-    → numerator r *ℤ pos (x .denom * y .denom) ≡ (numerator x *ℤ pos (y .denom) +ℤ negℤ (numerator y) *ℤ pos (x .denom)) *ℤ pos (r .denom)
+    → signedNumerator r *ℤ pos (x .denom * y .denom) ≡ (signedNumerator x *ℤ pos (y .denom) +ℤ negℤ (signedNumerator y) *ℤ pos (x .denom)) *ℤ pos (r .denom)
 unfolding difference
 difference-integers x y r px py e =
-    subst (λ (z : ℤ). numerator r *ℤ pos (x .denom * y .denom) ≡ (numerator x *ℤ pos (y .denom) +ℤ z *ℤ pos (x .denom)) *ℤ pos (r .denom)) (opposite-integers y py)
+    subst (λ (z : ℤ). signedNumerator r *ℤ pos (x .denom * y .denom) ≡ (signedNumerator x *ℤ pos (y .denom) +ℤ z *ℤ pos (x .denom)) *ℤ pos (r .denom)) (opposite-integers y py)
     (sum-integers x (opposite y) r px (opposite-lowest y py) e)
 
 -- ---- lowest terms are unique
@@ -244,7 +244,7 @@ same-fields : (s t : Bool) (n m d e : ℕ) → s ≡ t → n ≡ m → d ≡ e �
 same-fields s t n m d e p q r = rw (p, q, r)
 
 -- two fractions of one value are the same fraction
-pub unique : (x y : Rational64) → LowestTerms x → LowestTerms y → numerator x *ℤ pos (y .denom) ≡ numerator y *ℤ pos (x .denom) → x ≡ y
+pub unique : (x y : Rational64) → LowestTerms x → LowestTerms y → signedNumerator x *ℤ pos (y .denom) ≡ signedNumerator y *ℤ pos (x .denom) → x ≡ y
 unique x y p q e =
     same-fields (x .negative) (y .negative) (x .numer) (y .numer) (x .denom) (y .denom) (signs (x .numer) refl) (parts .0) (parts .1)
   where

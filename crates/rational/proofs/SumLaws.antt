@@ -9,12 +9,12 @@ use borrow.Author.Tests.{ltb-true, ltb-false, le-ltb}
 use Rattle.rational.specs.Gcd.{gcd}
 use Rattle.rational.proofs.GcdLaws.{gcd-dvd-left, pos-factor}
 use Rattle.rational.specs.declared.Rational64.{Rational64}
-use Rattle.rational.specs.declared.Checked.{Checked}
-use Rattle.rational.specs.declared.Checked.the-variants.{Some, None}
-use Rattle.rational.specs.Rational.{reduced, unlike, commonDenominator, sumMagnitude, sumSign, allInRange, sum}
+use Rattle.rational.specs.declared.OptionRational64.{OptionRational64}
+use Rattle.rational.specs.declared.OptionRational64.the-variants.{Some, None}
+use Rattle.rational.specs.Rational.{reduced, unlike, commonDenominator, sumMagnitude, sumSign, allInRange, fractionSum}
 
 -- a number that is cut to the limit, where to fail its test is to overflow
-cut-any : (a : ℕ) (F : ℕ → Bool → Checked) → ((x : ℕ) → F x false ≡ None) → F (min a (2 ^ 63)) (ltb (min a (2 ^ 63)) (2 ^ 63)) ≡ F a (ltb a (2 ^ 63))
+cut-any : (a : ℕ) (F : ℕ → Bool → OptionRational64) → ((x : ℕ) → F x false ≡ None) → F (min a (2 ^ 63)) (ltb (min a (2 ^ 63)) (2 ^ 63)) ≡ F a (ltb a (2 ^ 63))
 cut-any a F h = go (ltb a (2 ^ 63)) refl
   where
     kept : ltb a (2 ^ 63) ≡ true → min a (2 ^ 63) ≡ a
@@ -28,15 +28,15 @@ cut-any a F h = go (ltb a (2 ^ 63)) refl
     go false e = ap (F (min a (2 ^ 63))) (cut e) ∙ h (min a (2 ^ 63)) ∙ sym (h a) ∙ ap (F a) (sym e)
 
 -- a test that fails, after others
-no1 : (b : Bool) (v : Checked) → cond (b && false) v None ≡ None
+no1 : (b : Bool) (v : OptionRational64) → cond (b && false) v None ≡ None
 no1 true v = refl
 no1 false v = refl
 
-no2 : (a b : Bool) (v : Checked) → cond (a && (b && false)) v None ≡ None
+no2 : (a b : Bool) (v : OptionRational64) → cond (a && (b && false)) v None ≡ None
 no2 true b v = no1 b v
 no2 false b v = refl
 
-no3 : (a b d : Bool) (v : Checked) → cond (a && (b && (d && false))) v None ≡ None
+no3 : (a b d : Bool) (v : OptionRational64) → cond (a && (b && (d && false))) v None ≡ None
 no3 true b d v = no2 b d v
 no3 false b d v = refl
 
@@ -58,7 +58,7 @@ common-pos b d B D = mul-pos (pos-factor (gcd b d) (b / gcd b d) (subst (λ (z :
 pub sum-is : (x y : Rational64) (l p q m : ℕ) (u s t : Bool)
     → l ≡ min (commonDenominator (x .denom) (y .denom)) (2 ^ 63) → p ≡ min (l / x .denom * x .numer) (2 ^ 63) → q ≡ min (l / y .denom * y .numer) (2 ^ 63)
     → u ≡ unlike (x .negative) (y .negative) → m ≡ min (sumMagnitude u p q) (2 ^ 63) → s ≡ sumSign (x .negative) p (y .negative) q → t ≡ allInRange l p q m
-    → cond t (Some (reduced s m l)) None ≡ sum x y
-unfolding sum
+    → cond t (Some (reduced s m l)) None ≡ fractionSum x y
+unfolding fractionSum
 sum-is x y l p q m u s t el ep eq eu em es et =
     rw (et, es) (steps (commonDenominator (x .denom) (y .denom)) (λ l. l / x .denom * x .numer) (λ l. l / y .denom * y .numer) (sumMagnitude (unlike (x .negative) (y .negative))) (λ l p q m. reduced (sumSign (x .negative) p (y .negative) q) m l) l p q m el ep eq (rw eu at em))

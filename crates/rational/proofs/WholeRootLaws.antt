@@ -8,9 +8,9 @@ use lib.Dec.{eqb}
 use borrow.Author.Tests.{eqb-true, eq-eqb}
 use Rattle.rational.specs.Root.{root}
 use Rattle.rational.specs.Rational.{LowestTerms, ratio, wholeRoot, rootRatio, rationalRoot}
-use Rattle.rational.specs.Promise.{SoundChecked}
+use Rattle.rational.specs.Promise.{SoundOption}
 use Rattle.rational.specs.declared.Rational64.{Rational64}
-use Rattle.rational.specs.declared.Checked.the-variants.{Some, None}
+use Rattle.rational.specs.declared.OptionRational64.the-variants.{Some, None}
 use Rattle.rational.specs.declared.WholeRoot.{WholeRoot}
 use Rattle.rational.specs.declared.WholeRoot.the-variants.{Whole, Absent}
 use Rattle.rational.proofs.GcdLaws.{coprime-parts, coprime-pow, lowest-unique}
@@ -59,16 +59,16 @@ roots-lowest x k a b l h p q = record {
   zero-unsigned = λ e. refl;
 }
 
-pub root-sound : (x : Rational64) (k : ℕ) → LowestTerms x → 0 < k → SoundChecked (rationalRoot k x)
+pub root-sound : (x : Rational64) (k : ℕ) → LowestTerms x → 0 < k → SoundOption (rationalRoot k x)
 unfolding rationalRoot
 root-sound x k l h = signed (x .negative)
   where
-    ratios : (n d : WholeRoot) → wholeRoot k (x .numer) ≡ n → wholeRoot k (x .denom) ≡ d → SoundChecked (rootRatio n d)
+    ratios : (n d : WholeRoot) → wholeRoot k (x .numer) ≡ n → wholeRoot k (x .denom) ≡ d → SoundOption (rootRatio n d)
     ratios (Whole a) (Whole b) p q = roots-lowest x k a b l h (whole-root-is k (x .numer) a p) (whole-root-is k (x .denom) b q)
     ratios (Whole a) Absent p q = tt
     ratios Absent d p q = tt
 
-    signed : (s : Bool) → SoundChecked (cond s None (rootRatio (wholeRoot k (x .numer)) (wholeRoot k (x .denom))))
+    signed : (s : Bool) → SoundOption (cond s None (rootRatio (wholeRoot k (x .numer)) (wholeRoot k (x .denom))))
     signed true = tt
     signed false = ratios (wholeRoot k (x .numer)) (wholeRoot k (x .denom)) refl refl
 

@@ -6,8 +6,8 @@ use lib.Dec.{ltb, eqb}
 use Rattle.rational.specs.Gcd.{gcd}
 use Rattle.rational.specs.Root.{root}
 use Rattle.rational.specs.declared.Rational64.{Rational64}
-use Rattle.rational.specs.declared.Checked.{Checked}
-use Rattle.rational.specs.declared.Checked.the-variants.{Some, None}
+use Rattle.rational.specs.declared.OptionRational64.{OptionRational64}
+use Rattle.rational.specs.declared.OptionRational64.the-variants.{Some, None}
 use Rattle.rational.specs.declared.WholeRoot.{WholeRoot}
 use Rattle.rational.specs.declared.WholeRoot.the-variants.{Whole, Absent}
 
@@ -32,7 +32,7 @@ abbrev pub reduced : Bool → ℕ → ℕ → Rational64
 reduced s n d = ratio s (n / gcd n d) (d / gcd n d)
 
 -- "overflow exactly if the reduced result leaves the range"; overflow is None
-abbrev pub checked : Rational64 → Checked
+abbrev pub checked : Rational64 → OptionRational64
 checked x = cond (inRange (x .numer) && inRange (x .denom)) (Some x) None
 
 -- the sign of a product
@@ -56,8 +56,8 @@ abbrev pub allInRange : ℕ → ℕ → ℕ → ℕ → Bool
 allInRange l p q s = inRange l && (inRange p && (inRange q && inRange s))
 
 -- "Sum of a/b and c/d: g = gcd(b,d), l = b/g·d, p = l/b·a, q = l/d·c, s = p+q, then s/l reduced. Overflow exactly if l, p, q or s leaves the range."
-unfoldable pub sum : Rational64 → Rational64 → Checked
-sum x y =
+unfoldable pub fractionSum : Rational64 → Rational64 → OptionRational64
+fractionSum x y =
     let l = commonDenominator (x .denom) (y .denom) in
     let p = l / x .denom * x .numer in
     let q = l / y .denom * y .numer in
@@ -69,11 +69,11 @@ abbrev pub opposite : Rational64 → Rational64
 opposite y = ratio (not (y .negative)) (y .numer) (y .denom)
 
 -- "Difference likewise."
-unfoldable pub difference : Rational64 → Rational64 → Checked
-difference x y = sum x (opposite y)
+unfoldable pub difference : Rational64 → Rational64 → OptionRational64
+difference x y = fractionSum x (opposite y)
 
 -- "Product, quotient, power: exact, overflow exactly if the reduced result leaves the range."
-unfoldable pub product : Rational64 → Rational64 → Checked
+unfoldable pub product : Rational64 → Rational64 → OptionRational64
 product x y = checked (reduced (unlike (x .negative) (y .negative)) (x .numer * y .numer) (x .denom * y .denom))
 
 -- 1/y, for a y that is not 0
@@ -81,40 +81,40 @@ abbrev pub reciprocal : Rational64 → Rational64
 reciprocal y = record { negative = y .negative; numer = y .denom; denom = y .numer }
 
 -- by a y that is not 0
-unfoldable pub quotient : Rational64 → Rational64 → Checked
+unfoldable pub quotient : Rational64 → Rational64 → OptionRational64
 quotient x y = checked (reduced (unlike (x .negative) (y .negative)) (x .numer * y .denom) (x .denom * y .numer))
 
 -- to a whole power k; 0 to the power 0 is 1. It doesn't compute where k is huge.
-unfoldable pub power : Rational64 → ℕ → Checked
+unfoldable pub power : Rational64 → ℕ → OptionRational64
 power x k = checked (reduced (x .negative && eqb (k % 2) 1) (x .numer ^ k) (x .denom ^ k))
 
 -- the r with r ^ k = n, if there is one; k above 1
 unfoldable pub wholeRoot : ℕ → ℕ → WholeRoot
 wholeRoot k n = cond (eqb (root k n ^ k) n) (Whole (root k n)) Absent
 
-abbrev pub rootRatio : WholeRoot → WholeRoot → Checked
+abbrev pub rootRatio : WholeRoot → WholeRoot → OptionRational64
 rootRatio (Whole a) (Whole b) = Some (ratio false a b)
 rootRatio (Whole a) Absent = None
 rootRatio Absent b = None
 
 -- the k-th root, if numerator and denominator have whole ones and the fraction is not negative; k above 1
-unfoldable pub rationalRoot : ℕ → Rational64 → Checked
+unfoldable pub rationalRoot : ℕ → Rational64 → OptionRational64
 rationalRoot k x = cond (x .negative) None (rootRatio (wholeRoot k (x .numer)) (wholeRoot k (x .denom)))
 
 -- without its whole part, "toward zero"
-abbrev pub fraction : Rational64 → Rational64
-fraction x = ratio (x .negative) (x .numer % x .denom) (x .denom)
+abbrev pub fractionalPart : Rational64 → Rational64
+fractionalPart x = ratio (x .negative) (x .numer % x .denom) (x .denom)
 
 abbrev pub isZero : Rational64 → Bool
 isZero x = eqb (x .numer) 0
 
-abbrev pub same : Rational64 → Rational64 → Bool
-same x y = Bool·beq (x .negative) (y .negative) && (eqb (x .numer) (y .numer) && eqb (x .denom) (y .denom))
+abbrev pub sameFraction : Rational64 → Rational64 → Bool
+sameFraction x y = Bool·beq (x .negative) (y .negative) && (eqb (x .numer) (y .numer) && eqb (x .denom) (y .denom))
 
 -- a further operation on results: an overflow stands
-abbrev pub step : Checked → (Rational64 → Checked) → Checked
-step (Some x) op = op x
-step None op = None
+abbrev pub andThenOption : OptionRational64 → (Rational64 → OptionRational64) → OptionRational64
+andThenOption (Some x) op = op x
+andThenOption None op = None
 
-abbrev pub both : (Rational64 → Rational64 → Checked) → Checked → Checked → Checked
-both op x y = step x (λ a. step y (λ b. op a b))
+abbrev pub both : (Rational64 → Rational64 → OptionRational64) → OptionRational64 → OptionRational64 → OptionRational64
+both op x y = andThenOption x (λ a. andThenOption y (λ b. op a b))

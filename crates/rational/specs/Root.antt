@@ -4,12 +4,12 @@ use mathlib.Core.Bool.{cond}
 use lib.Dec.{leb}
 
 -- twice the root of n without its last k binary digits, or one more; at most as many digits as the first argument says
-unfoldable pub digits : ℕ → ℕ → ℕ → ℕ
-digits zero k n = 0
-digits (suc f) k zero = 0
-digits (suc f) k (suc n) = let r = 2 * digits f k (suc n / 2 ^ k) in cond (leb ((r + 1) ^ k) (suc n)) (r + 1) r
+unfoldable pub rootDigits : ℕ → ℕ → ℕ → ℕ
+rootDigits zero k n = 0
+rootDigits (suc f) k zero = 0
+rootDigits (suc f) k (suc n) = let r = 2 * rootDigits f k (suc n / 2 ^ k) in cond (leb ((r + 1) ^ k) (suc n)) (r + 1) r
 
 -- it computes at numerals n of any size, where k is not huge
 unfoldable pub root : ℕ → ℕ → ℕ
-unfolding digits
-root k n = digits n k n
+unfolding rootDigits
+root k n = rootDigits n k n

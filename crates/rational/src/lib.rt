@@ -5,8 +5,8 @@ ghost use lib.Dec.{ltb, eqb};
 ghost use Prim.Native.Nat.{_+_, _-_, _*_, _/_, _%_, _<_, _≤_, _^_, min};
 ghost use Rattle.rational.specs.Gcd.{gcd};
 ghost use Rattle.rational.specs.Root.{root};
-ghost use Rattle.rational.specs.Rational.{LowestTerms, reduced, checked, unlike, sumMagnitude, sumSign, commonDenominator, allInRange, sum, opposite, difference, product, reciprocal, quotient, power, wholeRoot, rootRatio, rationalRoot, fraction, same, both};
-ghost use Rattle.rational.specs.Promise.{SoundChecked, ChecksTo};
+ghost use Rattle.rational.specs.Rational.{LowestTerms, reduced, checked, unlike, sumMagnitude, sumSign, commonDenominator, allInRange, fractionSum, opposite, difference, product, reciprocal, quotient, power, wholeRoot, rootRatio, rationalRoot, fractionalPart, sameFraction, both};
+ghost use Rattle.rational.specs.Promise.{SoundOption, ChecksTo};
 
 pub struct Rational64 {
     pub negative: bool,
@@ -15,7 +15,7 @@ pub struct Rational64 {
 }
 
 // Option<Rational64> in the Rust.
-pub enum Checked {
+pub enum OptionRational64 {
     Some(Rational64),
     None,
 }
@@ -27,7 +27,7 @@ pub enum WholeRoot {
 }
 
 // The first magnitude out of range. What passes it is cut to it, and tested once at the end.
-const LIMIT: u64 = 0x8000_0000_0000_0000;
+const MAGNITUDE_LIMIT: u64 = 0x8000_0000_0000_0000;
 
 pub fn gcd(a: u64, b: u64) -> u64
     ensures { λ r. ⌜ r ≡ gcd a b ⌝ }
@@ -55,10 +55,10 @@ pub fn capped_mul(a: u64, b: u64) -> u64
     if a == 0 {
         return 0;
     }
-    if b <= LIMIT / a {
+    if b <= MAGNITUDE_LIMIT / a {
         return a * b;
     }
-    LIMIT
+    MAGNITUDE_LIMIT
 }
 
 // b^k, cut to the limit, after at most 64 turns.
@@ -74,8 +74,8 @@ pub fn capped_pow(b: u64, k: u64) -> u64
     let mut r = 1u64;
     let mut i = 0u64;
     while i < k {
-        if LIMIT <= r {
-            return LIMIT;
+        if MAGNITUDE_LIMIT <= r {
+            return MAGNITUDE_LIMIT;
         }
         r = capped_mul(r, b);
         i += 1;
@@ -91,22 +91,22 @@ pub fn signs_differ(s: bool, t: bool) -> bool
 }
 
 // A sign, which zero has not.
-pub fn sign_of(s: bool, n: u64) -> bool
+pub fn sign_unless_zero(s: bool, n: u64) -> bool
     ensures { λ r. ⌜ r ≡ (s && ltb 0 n) ⌝ }
 {
     if s { 0 < n } else { false }
 }
 
 // The fraction, if it is in range.
-pub fn range_checked(x: Rational64) -> Checked
+pub fn range_checked(x: Rational64) -> OptionRational64
     ensures { λ r. ⌜ r ≡ checked x ⌝ }
 {
-    if x.numer < LIMIT {
-        if x.denom < LIMIT {
-            return Checked::Some(x);
+    if x.numer < MAGNITUDE_LIMIT {
+        if x.denom < MAGNITUDE_LIMIT {
+            return OptionRational64::Some(x);
         }
     }
-    Checked::None
+    OptionRational64::None
 }
 
 // n/d in lowest terms.
@@ -117,7 +117,7 @@ fn lowest_terms(s: bool, n: u64, d: u64) -> Rational64
     let g = gcd(n, d);
     let k = n / g;
     Rational64 {
-        negative: sign_of(s, k),
+        negative: sign_unless_zero(s, k),
         numer: k,
         denom: d / g,
     }
@@ -143,10 +143,10 @@ fn sum_magnitude(u: bool, p: u64, q: u64) -> u64
         }
         return p - q;
     }
-    if q <= LIMIT - p {
+    if q <= MAGNITUDE_LIMIT - p {
         return p + q;
     }
-    LIMIT
+    MAGNITUDE_LIMIT
 }
 
 // The sign of the larger.
@@ -159,10 +159,10 @@ fn sum_sign(s: bool, p: u64, t: bool, q: u64) -> bool
 fn all_in_range(l: u64, p: u64, q: u64, s: u64) -> bool
     ensures { λ r. ⌜ r ≡ allInRange l p q s ⌝ }
 {
-    if l < LIMIT {
-        if p < LIMIT {
-            if q < LIMIT {
-                return s < LIMIT;
+    if l < MAGNITUDE_LIMIT {
+        if p < MAGNITUDE_LIMIT {
+            if q < MAGNITUDE_LIMIT {
+                return s < MAGNITUDE_LIMIT;
             }
         }
     }
@@ -200,16 +200,16 @@ pub fn int_root(n: u64, k: u64) -> WholeRoot
 }
 
 // A root's numerator over its denominator.
-fn root_ratio(n: WholeRoot, d: WholeRoot) -> Checked
+fn root_ratio(n: WholeRoot, d: WholeRoot) -> OptionRational64
     ensures { λ r. ⌜ r ≡ rootRatio n d ⌝ }
 {
     let WholeRoot::Whole(a) = n else {
-        return Checked::None;
+        return OptionRational64::None;
     };
     let WholeRoot::Whole(b) = d else {
-        return Checked::None;
+        return OptionRational64::None;
     };
-    Checked::Some(Rational64 {
+    OptionRational64::Some(Rational64 {
         negative: false,
         numer: a,
         denom: b,
@@ -230,9 +230,9 @@ fn signs_equal(s: bool, t: bool) -> bool
 }
 
 impl Rational64 {
-    pub fn checked_add(self, y: Rational64) -> Checked
+    pub fn checked_add(self, y: Rational64) -> OptionRational64
         requires { ⌜ LowestTerms self × LowestTerms y ⌝ }
-        ensures { λ r. ⌜ ChecksTo (sum self y) r ⌝ }
+        ensures { λ r. ⌜ ChecksTo (fractionSum self y) r ⌝ }
     {
         let l = common_denominator(self.denom, y.denom);
         let p = capped_mul(l / self.denom, self.numer);
@@ -240,16 +240,16 @@ impl Rational64 {
         let s = sum_magnitude(signs_differ(self.negative, y.negative), p, q);
         let sign = sum_sign(self.negative, p, y.negative, q);
         if all_in_range(l, p, q, s) {
-            return Checked::Some(lowest_terms(sign, s, l));
+            return OptionRational64::Some(lowest_terms(sign, s, l));
         }
-        Checked::None
+        OptionRational64::None
     }
 
     pub fn opposite(self) -> Rational64
         requires { ⌜ LowestTerms self ⌝ }
         ensures { λ r. ⌜ (r ≡ opposite self) × LowestTerms r ⌝ }
     {
-        let s = sign_of(!self.negative, self.numer);
+        let s = sign_unless_zero(!self.negative, self.numer);
         Rational64 {
             negative: s,
             numer: self.numer,
@@ -257,7 +257,7 @@ impl Rational64 {
         }
     }
 
-    pub fn checked_sub(self, y: Rational64) -> Checked
+    pub fn checked_sub(self, y: Rational64) -> OptionRational64
         requires { ⌜ LowestTerms self × LowestTerms y ⌝ }
         ensures { λ r. ⌜ ChecksTo (difference self y) r ⌝ }
     {
@@ -265,7 +265,7 @@ impl Rational64 {
     }
 
     // Reduced crosswise first, so that no product leaves the range that the result does not leave.
-    pub fn checked_mul(self, y: Rational64) -> Checked
+    pub fn checked_mul(self, y: Rational64) -> OptionRational64
         requires { ⌜ LowestTerms self × LowestTerms y ⌝ }
         ensures { λ r. ⌜ ChecksTo (product self y) r ⌝ }
     {
@@ -273,7 +273,7 @@ impl Rational64 {
         let h = gcd(y.numer, self.denom);
         let n = capped_mul(self.numer / g, y.numer / h);
         let d = capped_mul(self.denom / h, y.denom / g);
-        let s = sign_of(signs_differ(self.negative, y.negative), n);
+        let s = sign_unless_zero(signs_differ(self.negative, y.negative), n);
         range_checked(Rational64 {
             negative: s,
             numer: n,
@@ -292,20 +292,20 @@ impl Rational64 {
         }
     }
 
-    pub fn checked_div(self, y: Rational64) -> Checked
+    pub fn checked_div(self, y: Rational64) -> OptionRational64
         requires { ⌜ LowestTerms self × (LowestTerms y × (0 < y .numer)) ⌝ }
         ensures { λ r. ⌜ ChecksTo (quotient self y) r ⌝ }
     {
         self.checked_mul(y.recip())
     }
 
-    pub fn checked_pow(self, k: u64) -> Checked
+    pub fn checked_pow(self, k: u64) -> OptionRational64
         requires { ⌜ LowestTerms self ⌝ }
         ensures { λ r. ⌜ ChecksTo (power self k) r ⌝ }
     {
         let n = capped_pow(self.numer, k);
         let d = capped_pow(self.denom, k);
-        let s = sign_of(power_sign(self.negative, k), n);
+        let s = sign_unless_zero(power_sign(self.negative, k), n);
         range_checked(Rational64 {
             negative: s,
             numer: n,
@@ -314,12 +314,12 @@ impl Rational64 {
     }
 
     // The k-th root, if numerator and denominator have whole ones.
-    pub fn rat_root(self, k: u64) -> Checked
+    pub fn rat_root(self, k: u64) -> OptionRational64
         requires { ⌜ LowestTerms self × (1 < k) ⌝ }
         ensures { λ r. ⌜ ChecksTo (rationalRoot k self) r ⌝ }
     {
         if self.negative {
-            return Checked::None;
+            return OptionRational64::None;
         }
         let n = int_root(self.numer, k);
         let d = int_root(self.denom, k);
@@ -329,10 +329,10 @@ impl Rational64 {
     // Without its whole part, toward zero.
     pub fn fract(self) -> Rational64
         requires { ⌜ LowestTerms self ⌝ }
-        ensures { λ r. ⌜ (r ≡ fraction self) × LowestTerms r ⌝ }
+        ensures { λ r. ⌜ (r ≡ fractionalPart self) × LowestTerms r ⌝ }
     {
         let n = self.numer % self.denom;
-        let s = sign_of(self.negative, n);
+        let s = sign_unless_zero(self.negative, n);
         Rational64 {
             negative: s,
             numer: n,
@@ -341,7 +341,7 @@ impl Rational64 {
     }
 
     pub fn equals(self, y: Rational64) -> bool
-        ensures { λ r. ⌜ r ≡ same self y ⌝ }
+        ensures { λ r. ⌜ r ≡ sameFraction self y ⌝ }
     {
         if signs_equal(self.negative, y.negative) {
             if self.numer == y.numer {
@@ -353,29 +353,29 @@ impl Rational64 {
 }
 
 // The product of two results.
-pub fn product_of(x: Checked, y: Checked) -> Checked
-    requires { ⌜ SoundChecked x × SoundChecked y ⌝ }
+pub fn product_of_options(x: OptionRational64, y: OptionRational64) -> OptionRational64
+    requires { ⌜ SoundOption x × SoundOption y ⌝ }
     ensures { λ r. ⌜ ChecksTo (both product x y) r ⌝ }
 {
-    let Checked::Some(a) = x else {
-        return Checked::None;
+    let OptionRational64::Some(a) = x else {
+        return OptionRational64::None;
     };
-    let Checked::Some(b) = y else {
-        return Checked::None;
+    let OptionRational64::Some(b) = y else {
+        return OptionRational64::None;
     };
     a.checked_mul(b)
 }
 
 // The sum of two results.
-pub fn sum_of(x: Checked, y: Checked) -> Checked
-    requires { ⌜ SoundChecked x × SoundChecked y ⌝ }
-    ensures { λ r. ⌜ ChecksTo (both sum x y) r ⌝ }
+pub fn sum_of_options(x: OptionRational64, y: OptionRational64) -> OptionRational64
+    requires { ⌜ SoundOption x × SoundOption y ⌝ }
+    ensures { λ r. ⌜ ChecksTo (both fractionSum x y) r ⌝ }
 {
-    let Checked::Some(a) = x else {
-        return Checked::None;
+    let OptionRational64::Some(a) = x else {
+        return OptionRational64::None;
     };
-    let Checked::Some(b) = y else {
-        return Checked::None;
+    let OptionRational64::Some(b) = y else {
+        return OptionRational64::None;
     };
     a.checked_add(b)
 }

@@ -5,36 +5,36 @@ use Prim.Native.Nat.{ℕ, _^_}
 use lib.Count.{trailingZeros}
 use lib.Ieee.{binary32, ofBits, ofFields, odd}
 use Rattle.rational.specs.Gcd.{gcd, euclid}
-use Rattle.rational.specs.Root.{root, digits}
-use Rattle.rational.specs.Rational.{ratio, sum, product, quotient, power, wholeRoot, rationalRoot}
+use Rattle.rational.specs.Root.{root, rootDigits}
+use Rattle.rational.specs.Rational.{ratio, fractionSum, product, quotient, power, wholeRoot, rationalRoot}
 use Rattle.float.specs.Float.{approximateFloat}
-use Rattle.value.specs.Value.{zero, one, half, value, rational, fromFloat, valueSum, valueQuotient, extractRoot, valuePower, sineTable, turn, sine, cosine, tangent}
+use Rattle.value.specs.Value.{zeroFraction, one, half, value, rationalValue, fromFloat, valueSum, valueQuotient, extractRoot, valuePower, sineTable, turn, sine, cosine, tangent}
 use Rattle.value.specs.declared.Value.{Value}
 use Rattle.value.specs.declared.Evaluation.the-variants as evaluation
 
 -- n/d, and n/d·pi
-abbrev plain : Bool → ℕ → ℕ → Value
-plain s n d = value (ratio s n d) zero
+abbrev rationalAngle : Bool → ℕ → ℕ → Value
+rationalAngle s n d = value (ratio s n d) zeroFraction
 
 abbrev piTimes : Bool → ℕ → ℕ → Value
-piTimes s n d = value zero (ratio s n d)
+piTimes s n d = value zeroFraction (ratio s n d)
 
 unfoldable everything : ℕ
-unfolding gcd euclid root digits sum product quotient power wholeRoot rationalRoot approximateFloat fromFloat valueSum valueQuotient extractRoot valuePower sineTable turn sine cosine tangent ofBits ofFields odd trailingZeros
+unfolding gcd euclid root rootDigits fractionSum product quotient power wholeRoot rationalRoot approximateFloat fromFloat valueSum valueQuotient extractRoot valuePower sineTable turn sine cosine tangent ofBits ofFields odd trailingZeros
 everything = 0
 
 -- 8^(2/3) = 4
-k4 : valuePower (plain false 8 1) (plain false 2 3) ≡ rational (ratio false 4 1)
+k4 : valuePower (rationalAngle false 8 1) (rationalAngle false 2 3) ≡ rationalValue (ratio false 4 1)
 unfolding everything
 k4 = refl
 
 -- 0^(-1/2)
-k5 : valuePower (plain false 0 1) (plain true 1 2) ≡ evaluation.DivideByZero
+k5 : valuePower (rationalAngle false 0 1) (rationalAngle true 1 2) ≡ evaluation.DivideByZero
 unfolding everything
 k5 = refl
 
 -- cos(pi/3) = 1/2
-k6 : cosine (piTimes false 1 3) ≡ rational half
+k6 : cosine (piTimes false 1 3) ≡ rationalValue half
 unfolding everything
 k6 = refl
 
@@ -44,42 +44,42 @@ unfolding everything
 k7 = (refl, refl)
 
 -- the f32 2^62, and 2^63
-k8 : (fromFloat (ofBits binary32 0x5E800000) ≡ rational (ratio false (2 ^ 62) 1)) × (fromFloat (ofBits binary32 0x5F000000) ≡ evaluation.ApproximateFail (ofBits binary32 0x5F000000))
+k8 : (fromFloat (ofBits binary32 0x5E800000) ≡ rationalValue (ratio false (2 ^ 62) 1)) × (fromFloat (ofBits binary32 0x5F000000) ≡ evaluation.ApproximateFail (ofBits binary32 0x5F000000))
 unfolding everything
 k8 = (refl, refl)
 
 -- the f32 2^-62, and 2^-63
-k9 : (fromFloat (ofBits binary32 0x20800000) ≡ rational (ratio false 1 (2 ^ 62))) × (fromFloat (ofBits binary32 0x20000000) ≡ evaluation.ApproximateFail (ofBits binary32 0x20000000))
+k9 : (fromFloat (ofBits binary32 0x20800000) ≡ rationalValue (ratio false 1 (2 ^ 62))) × (fromFloat (ofBits binary32 0x20000000) ≡ evaluation.ApproximateFail (ofBits binary32 0x20000000))
 unfolding everything
 k9 = (refl, refl)
 
 -- ---- the edges that document 01 names
 
 -- the base to |n| first, then the root: (-8)^(2/3) is 4, though -8 itself has no root here
-base-first : (valuePower (plain true 8 1) (plain false 2 3) ≡ rational (ratio false 4 1)) × (valuePower (plain true 8 1) (plain false 1 3) ≡ evaluation.FunctionOfFloats)
+base-first : (valuePower (rationalAngle true 8 1) (rationalAngle false 2 3) ≡ rationalValue (ratio false 4 1)) × (valuePower (rationalAngle true 8 1) (rationalAngle false 1 3) ≡ evaluation.FunctionOfFloats)
 unfolding everything
 base-first = (refl, refl)
 
 -- 0^0 is 1; a root above 2^32-1 of 0 is 13, and so before the 9 of a negative exponent
 zero-powers :
-    (valuePower (plain false 0 1) (plain false 0 1) ≡ rational one)
-    × (valuePower (plain false 0 1) (plain false 1 (2 ^ 32)) ≡ evaluation.FunctionOfFloats)
-    × (valuePower (plain false 0 1) (plain true 1 (2 ^ 32)) ≡ evaluation.FunctionOfFloats)
+    (valuePower (rationalAngle false 0 1) (rationalAngle false 0 1) ≡ rationalValue one)
+    × (valuePower (rationalAngle false 0 1) (rationalAngle false 1 (2 ^ 32)) ≡ evaluation.FunctionOfFloats)
+    × (valuePower (rationalAngle false 0 1) (rationalAngle true 1 (2 ^ 32)) ≡ evaluation.FunctionOfFloats)
 unfolding everything
 zero-powers = (refl, refl, refl)
 
 -- a power of exactly 1 takes no root, however large
-one-powers : (valuePower (plain false 1 1) (plain false 1 (2 ^ 62)) ≡ rational one) × (valuePower (plain true 1 1) (plain false 2 3) ≡ rational one)
+one-powers : (valuePower (rationalAngle false 1 1) (rationalAngle false 1 (2 ^ 62)) ≡ rationalValue one) × (valuePower (rationalAngle true 1 1) (rationalAngle false 2 3) ≡ rationalValue one)
 unfolding everything
 one-powers = (refl, refl)
 
 -- the sine's table; sin(pi) is a function of floats
 sines :
-    (sine (piTimes false 1 6) ≡ rational half)
-    × (sine (piTimes false 5 6) ≡ rational half)
-    × (sine (piTimes false 7 6) ≡ rational (ratio true 1 2))
-    × (sine (piTimes true 1 2) ≡ rational (ratio true 1 1))
+    (sine (piTimes false 1 6) ≡ rationalValue half)
+    × (sine (piTimes false 5 6) ≡ rationalValue half)
+    × (sine (piTimes false 7 6) ≡ rationalValue (ratio true 1 2))
+    × (sine (piTimes true 1 2) ≡ rationalValue (ratio true 1 1))
     × (sine (piTimes false 1 1) ≡ evaluation.FunctionOfFloats)
-    × (sine (piTimes true 4 1) ≡ rational zero)
+    × (sine (piTimes true 4 1) ≡ rationalValue zeroFraction)
 unfolding everything
 sines = (refl, refl, refl, refl, refl, refl)

@@ -14,13 +14,13 @@ use Rattle.rational.proofs.LowestTermsLaws.{zero-unsigned-of}
 use Rattle.float.specs.Float.{signed, ratioFloat}
 use Rattle.float.proofs.RoundLaws.{div-one, add-zero}
 use Rattle.value.specs.Value.{value, intoFloat}
-use Rattle.value.specs.Value.{zero as noFraction}
+use Rattle.value.specs.Value.{zeroFraction}
 
 one : ofInt binary32 (pos 1) ≡ fin false 1 (pos 0)
 unfolding ofInt round size units odd span climb trailingZeros
 one = refl
 
-pi-times-zero : mul binary32 (ofBits binary32 0x40490FDB) (ratioFloat noFraction) ≡ fin false 0 (pos 0)
+pi-times-zero : mul binary32 (ofBits binary32 0x40490FDB) (ratioFloat zeroFraction) ≡ fin false 0 (pos 0)
 unfolding ratioFloat ofInt round size units odd span climb trailingZeros div mul ofBits ofFields
 pi-times-zero = refl
 
@@ -41,7 +41,7 @@ twice false b = refl
 
 module _ (s : Bool) (n : ℕ) (small : n < 2 ^ 24) where
   -- the float is the whole number's, and its value is that number
-  pub whole-exact : (intoFloat (value (ratio s n 1) noFraction) ≡ ofInt binary32 (signed (s && ltb 0 n) n)) × HasValue (ofInt binary32 (signed (s && ltb 0 n) n)) (s && ltb 0 n) n 1
+  pub whole-exact : (intoFloat (value (ratio s n 1) zeroFraction) ≡ ofInt binary32 (signed (s && ltb 0 n) n)) × HasValue (ofInt binary32 (signed (s && ltb 0 n) n)) (s && ltb 0 n) n 1
   unfolding intoFloat ratioFloat
   whole-exact =
       let t = s && ltb 0 n in

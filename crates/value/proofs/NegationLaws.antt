@@ -7,18 +7,18 @@ use native.Mathlib.Omega.{arith}
 use lib.Dec.{ltb, lit<}
 use borrow.Author.Tests.{lt-ltb}
 use Rattle.rational.specs.Gcd.{gcd, euclid}
-use Rattle.rational.specs.Rational.{LowestTerms, ratio, opposite, unlike, sum, product, quotient, step}
-use Rattle.rational.specs.declared.Checked.the-variants.{Some}
+use Rattle.rational.specs.Rational.{LowestTerms, ratio, opposite, unlike, fractionSum, product, quotient, andThenOption}
+use Rattle.rational.specs.declared.OptionRational64.the-variants.{Some}
 use Rattle.rational.proofs.LowestTermsLaws.{opposite-lowest, zero-unsigned-of}
 use Rattle.rational.proofs.ReducedLaws.{sum-zero, product-zero, product-minus, quotient-found}
 use Rattle.float.proofs.PowerOfTwoLaws.{gcd-one, odd-power}
 use Rattle.value.specs.Value.{Sound, value, one, two, piSquared, valueSum, valueProduct, negation, wrapped, turn, sineTable, sine, cosine, tangent, valueQuotient}
-use Rattle.value.specs.Value.{zero as noFraction}
+use Rattle.value.specs.Value.{zeroFraction}
 use Rattle.value.specs.declared.Value.{Value}
 use Rattle.value.specs.declared.Evaluation.the-variants as evaluation
 use Rattle.value.proofs.SoundLaws.{zero-lowest, one-lowest}
 
-nothing-times : product noFraction piSquared ≡ Some noFraction
+nothing-times : product zeroFraction piSquared ≡ Some zeroFraction
 unfolding product gcd euclid
 nothing-times = refl
 
@@ -59,13 +59,13 @@ module _ (s : Bool) (n : ℕ) (small : n < 2 ^ 63) where
       none : (n : ℕ) → n ≡ 0 → n / 2 ≡ 0
       none n e = omega arith
 
-  after-odd : (t : Bool) → step (product (ratio t 1 2) two) wrapped ≡ Some one
-  unfolding product sum gcd euclid
+  after-odd : (t : Bool) → andThenOption (product (ratio t 1 2) two) wrapped ≡ Some one
+  unfolding product fractionSum gcd euclid
   after-odd true = refl
   after-odd false = refl
 
-  after-even : (t : Bool) → step (product (ratio t 0 1) two) wrapped ≡ Some noFraction
-  unfolding product sum gcd euclid
+  after-even : (t : Bool) → andThenOption (product (ratio t 0 1) two) wrapped ≡ Some zeroFraction
+  unfolding product fractionSum gcd euclid
   after-even true = refl
   after-even false = refl
 
@@ -74,7 +74,7 @@ module _ (s : Bool) (n : ℕ) (small : n < 2 ^ 63) where
   unfolding turn
   turn-odd e = rw (half-odd e) (rw e (after-odd (s && ltb 0 n)))
 
-  pub turn-even : n % 2 ≡ 0 → turn (ratio s n 1) ≡ Some noFraction
+  pub turn-even : n % 2 ≡ 0 → turn (ratio s n 1) ≡ Some zeroFraction
   unfolding turn
   turn-even e = rw (half-even e) (rw (rest (n / 2)) (after-even (s && ltb 0 (n / 2))))
     where
@@ -83,8 +83,8 @@ module _ (s : Bool) (n : ℕ) (small : n < 2 ^ 63) where
 
 -- ---- the tangent of 2/(2^62+1)·pi: its sine is a function of floats, its cosine an overflow, and the sine's refusal is told
 abbrev thin : Value
-thin = value noFraction (ratio false 2 (2 ^ 62 + 1))
+thin = value zeroFraction (ratio false 2 (2 ^ 62 + 1))
 
 pub sine-first : (sine thin ≡ evaluation.FunctionOfFloats) × (cosine thin ≡ evaluation.Overflow) × (tangent thin ≡ evaluation.FunctionOfFloats)
-unfolding sine cosine tangent turn sineTable valueSum valueQuotient sum product quotient gcd euclid
+unfolding sine cosine tangent turn sineTable valueSum valueQuotient fractionSum product quotient gcd euclid
 sine-first = (refl, refl, refl)

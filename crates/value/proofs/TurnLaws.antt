@@ -1,21 +1,21 @@
 -- The steps of `turn`, as the code takes them.
 use mathlib.Core.Path.{_≡_, sym, ap, _∙_}
 use mathlib.Core.Bool.{true, false}
-use Rattle.rational.specs.Rational.{sum, product, quotient, fraction, step}
+use Rattle.rational.specs.Rational.{fractionSum, product, quotient, fractionalPart, andThenOption}
 use Rattle.rational.specs.declared.Rational64.{Rational64}
-use Rattle.rational.specs.declared.Checked.{Checked}
-use Rattle.rational.specs.declared.Checked.the-variants.{Some, None}
+use Rattle.rational.specs.declared.OptionRational64.{OptionRational64}
+use Rattle.rational.specs.declared.OptionRational64.the-variants.{Some, None}
 use Rattle.value.specs.Value.{two, wrapped, turn}
 
 -- the half of b is q, by a divisor t that is 2
-module _ (b t : Rational64) (q : Checked) (et : t ≡ two) (eq : q ≡ quotient b t) where
+module _ (b t : Rational64) (q : OptionRational64) (et : t ≡ two) (eq : q ≡ quotient b t) where
   pub turn-unhalved : q ≡ None → None ≡ turn b
   unfolding turn
   turn-unhalved e = sym (rw (ap (quotient b) (sym et) ∙ sym eq ∙ e))
 
   -- and q is h, whose fraction f, doubled by a factor u that is 2, is d
-  module _ (h f u : Rational64) (d : Checked) (eh : q ≡ Some h) (ef : f ≡ fraction h) (eu : u ≡ two) (ed : d ≡ product f u) where
-    halved : turn b ≡ step d wrapped
+  module _ (h f u : Rational64) (d : OptionRational64) (eh : q ≡ Some h) (ef : f ≡ fractionalPart h) (eu : u ≡ two) (ed : d ≡ product f u) where
+    halved : turn b ≡ andThenOption d wrapped
     unfolding turn
     halved = rw (ap (quotient b) (sym et) ∙ sym eq ∙ eh) (rw (ed, ef, eu))
 
@@ -24,7 +24,7 @@ module _ (b t : Rational64) (q : Checked) (et : t ≡ two) (eq : q ≡ quotient 
 
     -- which is z
     module _ (z : Rational64) (ez : d ≡ Some z) where
-      pub turn-negative : (v : Rational64) (r : Checked) → v ≡ two → z .negative ≡ true → r ≡ sum z v → r ≡ turn b
+      pub turn-negative : (v : Rational64) (r : OptionRational64) → v ≡ two → z .negative ≡ true → r ≡ fractionSum z v → r ≡ turn b
       turn-negative v r ev n er = er ∙ rw ev (sym (halved ∙ rw ez (rw n)))
 
       pub turn-positive : z .negative ≡ false → Some z ≡ turn b

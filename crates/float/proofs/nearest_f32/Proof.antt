@@ -5,7 +5,7 @@ use mathlib.Core.Path.{_≡_, refl, ap, _∙_, subst}
 use Prim.Native.Nat.{ℕ, _*_, _-_, _^_, _≤_, _<_}
 use native.Mathlib.Omega.{arith}
 use lib.Dec.{lit≤}
-use Rattle.float.proofs.OfIntLaws.{small-power, in-room, under-room, next-power, closest-le, nearest-no-nan, nearest-by-bits}
+use Rattle.float.proofs.OfIntLaws.{small-power, above-significand, below-significand, next-power, closest-le, nearest-no-nan, nearest-by-bits}
 use Rattle.float.proofs.nearest_f32.Statement.{statement}
 use Rattle.float.proofs.nearest_f32.Tie as tie
 
@@ -37,13 +37,13 @@ add-k c = record { fits = omega arith }
 loop-less : tie.Need-loop-less Inv-loop μ-loop
 loop-less c =
     let l = c .before .loop in
-    let r = in-room _ _ _ (l .inv .0) (c .loop-test .taken) (c .before .before .before .fits .n .fits) in
+    let r = above-significand _ _ _ (l .inv .0) (c .loop-test .taken) (c .before .before .before .fits .n .fits) in
     omega arith
 
 loop-again : tie.Need-loop-again Inv-loop μ-loop
 loop-again c =
     let l = c .before .loop in
-    let r = in-room _ _ _ (l .inv .0) (c .loop-test .taken) (c .before .before .before .fits .n .fits) in
+    let r = above-significand _ _ _ (l .inv .0) (c .loop-test .taken) (c .before .before .before .fits .n .fits) in
     (next-power _ _ (l .inv .0), omega arith)
 
 closest-whole-requires : tie.Need-closest-whole-requires Inv-loop μ-loop
@@ -58,7 +58,7 @@ module _ (c : tie.After-closest-whole Inv-loop μ-loop) where
   least = subst (λ (z : ℕ). 2 ^ 23 * z ≤ c .before .before .before .before .args .n) (c .before .before .loop .inv .0) (c .before .before .loop .inv .1 .1)
 
   most : c .before .before .before .before .args .n < 2 ^ 24 * 2 ^ c .before .before .loop .k
-  most = under-room _ _ _ (c .before .before .loop .inv .0) (c .before .loop-test .left)
+  most = below-significand _ _ _ (c .before .before .loop .inv .0) (c .before .loop-test .left)
 
   small : c .closest-whole .result ≤ 2 ^ 24
   small = rw got (closest-le _ _ most)

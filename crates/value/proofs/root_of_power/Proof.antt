@@ -24,11 +24,11 @@ enum-told-2 c = search needs
 returns-2 : tie.Need-returns-2
 returns-2 c = sym (rw (c .before .before .before .before .p .given .1) (rw (sym (c .before .before .extract-root .ensures .is) ∙ c .enum-told2 .given .1)))
 
-power-value-requires : tie.Need-power-value-requires
-power-value-requires c κs = rw (c .before .root .given .1) at (c .before .before .before .extract-root .ensures .sound)
+inverted-if-negative-requires : tie.Need-inverted-if-negative-requires
+inverted-if-negative-requires c κs = rw (c .before .root .given .1) at (c .before .before .before .extract-root .ensures .sound)
 
 returns-3 : tie.Need-returns-3
-returns-3 c = c .power-value .ensures ∙ sym (rw (c .before .before .before .before .before .before .p .given .1) (rw (sym (c .before .before .before .before .extract-root .ensures .is) ∙ c .before .before .root .given .1)))
+returns-3 c = c .inverted-if-negative .ensures ∙ sym (rw (c .before .before .before .before .before .before .p .given .1) (rw (sym (c .before .before .before .before .extract-root .ensures .is) ∙ c .before .before .root .given .1)))
 
 pub root-of-power-spec : {M : Type 1} → statement M
 root-of-power-spec =
@@ -41,5 +41,5 @@ root-of-power-spec =
     enum-known-root
     enum-told-2
     returns-2
-    power-value-requires
+    inverted-if-negative-requires
     returns-3)

@@ -1,8 +1,8 @@
 use native.Mathlib.Omega.{arith}
 use mathlib.Core.Path.{sym, ap, _∙_}
-use Rattle.rational.specs.declared.Checked.the-variants.{Some}
+use Rattle.rational.specs.declared.OptionRational64.the-variants.{Some}
 use Rattle.rational.proofs.SumLaws.{common-pos, sum-is}
-use Rattle.rational.proofs.LowestTermsLaws.{checks, sum-sound}
+use Rattle.rational.proofs.LowestTermsLaws.{checks-to, sum-sound}
 use borrow.Author.Needs.{needs}
 use Rattle.rational.proofs.Rational64.checked_add.Statement.{statement}
 use Rattle.rational.proofs.Rational64.checked_add.Tie as tie
@@ -42,14 +42,14 @@ lowest-terms-requires c κs =
 returns : tie.Need-returns
 returns c =
     let a = c .before .before .before .before .before .before .before .before .before .before .before in
-    checks (ap Some (c .lowest-terms .ensures) ∙ sym (rw (c .before .if1 .taken)) ∙ sum-is (a .args .self) (a .args .y) (c .before .before .before .before .before .before .before .before .before .before .common-denominator .result) (c .before .before .before .before .before .before .before .before .capped-mul .result) (c .before .before .before .before .before .before .capped-mul2 .result) (c .before .before .before .before .sum-magnitude .result) (c .before .before .before .before .before .signs-differ .result) (c .before .before .before .sum-sign .result) (c .before .before .all-in-range .result)
+    checks-to (ap Some (c .lowest-terms .ensures) ∙ sym (rw (c .before .if1 .taken)) ∙ sum-is (a .args .self) (a .args .y) (c .before .before .before .before .before .before .before .before .before .before .common-denominator .result) (c .before .before .before .before .before .before .before .before .capped-mul .result) (c .before .before .before .before .before .before .capped-mul2 .result) (c .before .before .before .before .sum-magnitude .result) (c .before .before .before .before .before .signs-differ .result) (c .before .before .before .sum-sign .result) (c .before .before .all-in-range .result)
     (c .before .before .before .before .before .before .before .before .before .before .common-denominator .ensures) (c .before .before .before .before .before .before .before .before .capped-mul .ensures) (c .before .before .before .before .before .before .capped-mul2 .ensures) (c .before .before .before .before .before .signs-differ .ensures) (c .before .before .before .before .sum-magnitude .ensures) (c .before .before .before .sum-sign .ensures) (c .before .before .all-in-range .ensures))
     (sum-sound (a .args .self) (a .args .y) (a .pre .0) (a .pre .1))
 
 returns-2 : tie.Need-returns-2
 returns-2 c =
     let a = c .before .before .before .before .before .before .before .before .before .before in
-    checks (sym (rw (c .if1 .left)) ∙ sum-is (a .args .self) (a .args .y) (c .before .before .before .before .before .before .before .before .before .common-denominator .result) (c .before .before .before .before .before .before .before .capped-mul .result) (c .before .before .before .before .before .capped-mul2 .result) (c .before .before .before .sum-magnitude .result) (c .before .before .before .before .signs-differ .result) (c .before .before .sum-sign .result) (c .before .all-in-range .result)
+    checks-to (sym (rw (c .if1 .left)) ∙ sum-is (a .args .self) (a .args .y) (c .before .before .before .before .before .before .before .before .before .common-denominator .result) (c .before .before .before .before .before .before .before .capped-mul .result) (c .before .before .before .before .before .capped-mul2 .result) (c .before .before .before .sum-magnitude .result) (c .before .before .before .before .signs-differ .result) (c .before .before .sum-sign .result) (c .before .all-in-range .result)
     (c .before .before .before .before .before .before .before .before .before .common-denominator .ensures) (c .before .before .before .before .before .before .before .capped-mul .ensures) (c .before .before .before .before .before .capped-mul2 .ensures) (c .before .before .before .before .signs-differ .ensures) (c .before .before .before .sum-magnitude .ensures) (c .before .before .sum-sign .ensures) (c .before .all-in-range .ensures))
     (sum-sound (a .args .self) (a .args .y) (a .pre .0) (a .pre .1))
 

@@ -1,7 +1,7 @@
 use mathlib.Core.Path.{_∙_}
 use Rattle.rational.proofs.GcdLaws.{gcd-pos}
 use Rattle.rational.proofs.ProductLaws.{product-is}
-use Rattle.rational.proofs.LowestTermsLaws.{checks, product-sound}
+use Rattle.rational.proofs.LowestTermsLaws.{checks-to, product-sound}
 use borrow.Author.Needs.{needs}
 use Rattle.rational.proofs.Rational64.checked_mul.Statement.{statement}
 use Rattle.rational.proofs.Rational64.checked_mul.Tie as tie
@@ -33,8 +33,8 @@ capped-mul-requires-2 c κs = search needs
 signs-differ-requires : tie.Need-signs-differ-requires
 signs-differ-requires c κs = search needs
 
-sign-of-requires : tie.Need-sign-of-requires
-sign-of-requires c κs = search needs
+sign-unless-zero-requires : tie.Need-sign-unless-zero-requires
+sign-unless-zero-requires c κs = search needs
 
 range-checked-requires : tie.Need-range-checked-requires
 range-checked-requires c κs = search needs
@@ -42,9 +42,9 @@ range-checked-requires c κs = search needs
 returns : tie.Need-returns
 returns c =
     let a = c .before .before .before .before .before .before .before .before .before .before .before in
-    checks (c .range-checked .ensures
-    ∙ product-is (a .args .self) (a .args .y) (c .before .before .before .before .before .before .before .before .before .before .gcd .result) (c .before .before .before .before .before .before .before .before .before .gcd2 .result) (c .before .before .before .before .before .before .capped-mul .result) (c .before .before .before .capped-mul2 .result) (c .before .before .signs-differ .result) (c .before .sign-of .result)
-    (a .pre .0) (a .pre .1) (c .before .before .before .before .before .before .before .before .before .before .gcd .ensures) (c .before .before .before .before .before .before .before .before .before .gcd2 .ensures) (c .before .before .before .before .before .before .capped-mul .ensures) (c .before .before .before .capped-mul2 .ensures) (c .before .before .signs-differ .ensures) (c .before .sign-of .ensures))
+    checks-to (c .range-checked .ensures
+    ∙ product-is (a .args .self) (a .args .y) (c .before .before .before .before .before .before .before .before .before .before .gcd .result) (c .before .before .before .before .before .before .before .before .before .gcd2 .result) (c .before .before .before .before .before .before .capped-mul .result) (c .before .before .before .capped-mul2 .result) (c .before .before .signs-differ .result) (c .before .sign-unless-zero .result)
+    (a .pre .0) (a .pre .1) (c .before .before .before .before .before .before .before .before .before .before .gcd .ensures) (c .before .before .before .before .before .before .before .before .before .gcd2 .ensures) (c .before .before .before .before .before .before .capped-mul .ensures) (c .before .before .before .capped-mul2 .ensures) (c .before .before .signs-differ .ensures) (c .before .sign-unless-zero .ensures))
     (product-sound (a .args .self) (a .args .y) (a .pre .0) (a .pre .1))
 
 pub checked-mul-spec : {M : Type 1} → statement M
@@ -60,6 +60,6 @@ checked-mul-spec =
     div-capped-mul-4
     capped-mul-requires-2
     signs-differ-requires
-    sign-of-requires
+    sign-unless-zero-requires
     range-checked-requires
     returns)

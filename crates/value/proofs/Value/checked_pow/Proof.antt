@@ -1,6 +1,6 @@
 use mathlib.Core.Path.{_∙_, sym}
 use borrow.Author.Tests.{eq-eqb, ne-eqb}
-use Rattle.value.proofs.SoundLaws.{evaluates, power-sound-value}
+use Rattle.value.proofs.SoundLaws.{evaluates-to, power-sound-value}
 use Rattle.value.specs.Value.{valuePower}
 use borrow.Author.Needs.{needs}
 use Rattle.value.proofs.Value.checked_pow.Statement.{statement}
@@ -16,7 +16,7 @@ returns : tie.Need-returns
 unfolding valuePower
 returns c =
     let a = c .before .before .before .before .before .before .before .before .before .before in
-    evaluates (c .root-of-power .ensures ∙ rw (c .before .checked-pow .ensures .is) (sym (simp (eq-eqb _ _ (c .before .before .before .before .if1 .taken), eq-eqb _ _ (c .before .before .if2 .taken))))) (power-sound-value (a .args .self) (a .args .y) (a .pre .0) (a .pre .1))
+    evaluates-to (c .root-of-power .ensures ∙ rw (c .before .checked-pow .ensures .is) (sym (simp (eq-eqb _ _ (c .before .before .before .before .if1 .taken), eq-eqb _ _ (c .before .before .if2 .taken))))) (power-sound-value (a .args .self) (a .args .y) (a .pre .0) (a .pre .1))
 
 returns-2 : tie.Need-returns-2
 unfolding valuePower
