@@ -38,12 +38,12 @@ float-lowest f s zero e t = ap (gcd (0 * up e)) (zero-flat f s e t) ∙ gcd-one 
 float-lowest f s (suc m) (pos k) t = gcd-one (suc m * 2 ^ k)
 float-lowest f s (suc m) (negsuc k) t = ap (λ (z : ℕ). gcd z (2 ^ suc k)) (mul-one (suc m)) ∙ odd-power (suc m) (suc k) (float-odd f s m (negsuc k) t)
 
--- so its value, however it is written, comes to its own parts in reduced terms
+-- The value of a float that fits its format, however it is written, comes to the float's own parts in reduced terms.
 pub value-lowest : (f : Format) (s t : Bool) (m : ℕ) (e : ℤ) (a c : ℕ) → 0 < c → T (fits f (fin t m e)) → HasValue (fin t m e) s a c
     → (a / gcd a c ≡ m * up e) × (c / gcd a c ≡ down e)
 value-lowest f s t m e a c p h v = lowest-is a c (m * up e) (down e) p (float-lowest f t m e h) (v .1)
 
--- so its exact value, if in range, is a fraction in lowest terms
+-- The exact value of an f32, if it is in range, is a fraction in lowest terms.
 pub float-sound : (x : Float) → T (fits binary32 x) → SoundOption (approximateFloat x)
 unfolding approximateFloat
 float-sound nan h = tt

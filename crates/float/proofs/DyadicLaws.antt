@@ -1,4 +1,4 @@
--- A fraction over 2 ^ 149, brought to reduced terms by halving.
+-- A fraction over 2 ^ 149 that is halved while it can be is in reduced terms.
 use mathlib.Core.Path.{_≡_, sym, ap, _∙_}
 use mathlib.Core.Bool.{Bool, _&&_}
 use Prim.Native.Nat.{ℕ, _-_, _*_, _%_, _≤_, _<_, _^_, min}

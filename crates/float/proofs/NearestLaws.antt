@@ -19,7 +19,7 @@ use lib.Ieee.Order.{drop, kept}
 use lib.Ieee.Scale.{grid}
 use Rattle.float.proofs.OfIntLaws.{compare-lt, compare-eq, compare-gt}
 
--- how far two numbers are apart; one of the two differences is 0
+-- How far two numbers are apart. One of the two differences is 0.
 abbrev pub distance : ℕ → ℕ → ℕ
 distance x y = x - y + (y - x)
 
@@ -73,14 +73,14 @@ closest-nearest n u w h =
     subst (λ (z : ℕ). distance (closest n u * u) z ≤ distance (w * u) z) (div-add-mod' n u)
     (side (n / u * u) (w * u) (closest n u * u) u (n % u) (mod-lt n h) (where-is (n / u) w u) (taken (n / u) u (n % u)))
 
--- "ties to even"
+-- The number nearest to a quotient that lies in the middle is even: "ties to even".
 pub closest-even : (n u : ℕ) → n % u * 2 ≡ u → closest n u % 2 ≡ 0
 closest-even n u e = rw (compare-eq (n % u * 2) u e) (even (n / u))
   where
     even : (q : ℕ) → (q + q % 2) % 2 ≡ 0
     even q = omega arith
 
--- ---- a value that reaches 2 ^ (prec - 1 + k) units is a multiple of 2 ^ k units
+-- ---- a value of 2 ^ (prec - 1 + k) units or more is a multiple of 2 ^ k units
 abbrev HasPrecision : ℕ → ℕ → Type 0
 HasPrecision p Z = (k : ℕ) → 2 ^ (p - 1 + k) ≤ Z → 2 ^ k ∣ Z
 

@@ -13,14 +13,14 @@ use Rattle.rational.specs.declared.OptionRational64.the-variants.{None}
 use Rattle.rational.specs.Rational.{reduced, checked}
 use Rattle.float.specs.Float.{approximateFloat}
 
--- a float's fraction is its value in reduced terms, however the value is written
+-- The fraction of a float is its value in reduced terms, however the value is written.
 value-exact : (x : Float) (s : Bool) (a c : ℕ) → 0 < c → T (fits binary32 x) → HasValue x s a c → checked (reduced s a c) ≡ approximateFloat x
 unfolding approximateFloat
 value-exact nan s a c p h v = absurd v
 value-exact (inf t) s a c p h v = absurd v
 value-exact (fin t m e) s a c p h v = let q = value-lowest binary32 s t m e a c p h v in rw (q .0, q .1, v .0)
 
--- the three kinds of exponent's field
+-- The float of some bits, for each of the three kinds of exponent.
 module _ (b : ℕ) where
   subnormal : b % 2 ^ 31 / 2 ^ 23 ≡ 0 → ofBits binary32 b ≡ odd 24 (leb (2 ^ 31) b) (b % 2 ^ 23) 0 149
   unfolding ofBits ofFields

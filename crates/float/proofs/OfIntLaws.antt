@@ -26,7 +26,7 @@ size-gt n j h = lt-of-not-le (λ (g : size n ≤ j). not-le-of-lt (lt-of-lt-of-l
 pub size-is : (n j : ℕ) → 2 ^ j ≤ n → n < 2 ^ suc j → size n ≡ suc j
 size-is n j h l = le-antisymm (size-le n (suc j) l) (size-gt n j h)
 
--- n has 24 + k digits, and n * 2 ^ l has l more
+-- A number n of 24 + k binary digits has l more when it is multiplied by 2 ^ l.
 size-scaled : (n k l : ℕ) → 2 ^ 23 * 2 ^ k ≤ n → n < 2 ^ 24 * 2 ^ k → size (n * 2 ^ l / 1) ≡ suc (23 + (k + l))
 size-scaled n k l h g =
     ap size (div-one (n * 2 ^ l))

@@ -1,4 +1,4 @@
--- Powers of two: cut to the limit, halved, and as denominators.
+-- Powers of two that are capped at the limit, that are halved, and that are denominators.
 use mathlib.Core.Path.{_≡_, sym, ap, _∙_}
 use Prim.Native.Nat.{ℕ, zero, suc, _+_, _-_, _*_, _/_, _%_, _^_, _≤_, _<_, min}
 use native.Mathlib.Nat.{eq-one-of-dvd-one, mul-one, mul-assoc, pow-suc, zero-lt-suc, le-of-lt}
@@ -7,7 +7,7 @@ use lib.Pow.{pow-add, pow-pos, pow-mono}
 use Rattle.rational.specs.Gcd.{gcd}
 use Rattle.rational.proofs.GcdLaws.{gcd-dvd-right, gcd-step, coprime-mul-right, lowest-is}
 
--- ---- powers that are cut to the limit
+-- ---- powers that are capped at the limit
 pub shift-is : (e : ℕ) → e < 63 → 1 * 2 ^ e % 2 ^ 64 ≡ min (2 ^ e) (2 ^ 63)
 shift-is e h = let p : 2 ^ e ≤ 2 ^ 63 = pow-mono (le-of-lt h) in omega arith
 
@@ -24,7 +24,7 @@ halved m j e =
 pub gcd-one : (n : ℕ) → gcd n 1 ≡ 1
 gcd-one n = eq-one-of-dvd-one (gcd-dvd-right n 1)
 
--- an odd number and a power of two
+-- An odd number and a power of two have no common divisor.
 odd-two : (m : ℕ) → m % 2 ≡ 1 → gcd m 2 ≡ 1
 odd-two m e = gcd-step m 2 (zero-lt-suc 1) ∙ ap (gcd 2) e ∙ gcd-one 2
 

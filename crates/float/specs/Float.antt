@@ -8,13 +8,13 @@ use Rattle.rational.specs.declared.OptionRational64.{OptionRational64}
 use Rattle.rational.specs.declared.OptionRational64.the-variants.{None}
 use Rattle.rational.specs.Rational.{ratio, checked}
 
--- "the exact value of a finite f32, reduced; it fails exactly for infinities, NaN and values outside the range". A finite f32 is ±m·2^e with an odd m, or zero, so m·2^e is reduced as it stands.
+-- The fraction of an f32: "the exact value of a finite f32, reduced; it fails exactly for infinities, NaN and values outside the range". A finite f32 is ±m·2^e with an odd m, or zero, so m·2^e is reduced as it stands.
 unfoldable pub approximateFloat : Float → OptionRational64
 approximateFloat nan = None
 approximateFloat (inf s) = None
 approximateFloat (fin s m e) = checked (ratio s (m * up e) (down e))
 
--- the bits of an f32: "A NaN is reported as hexadecimal 7FC00000."
+-- The bits of an f32: "A NaN is reported as hexadecimal 7FC00000."
 unfoldable pub floatBits : Float → ℕ
 floatBits nan = 0x7FC00000
 floatBits (inf s) = toBits binary32 (inf s)
@@ -25,6 +25,6 @@ abbrev pub signed : Bool → ℕ → ℤ
 signed true n = negℤ (pos n)
 signed false n = pos n
 
--- "n and d each rounded to the nearest f32, ties to even; each n/d divided once"
+-- The f32 of a fraction: "n and d each rounded to the nearest f32, ties to even; each n/d divided once".
 unfoldable pub ratioFloat : Rational64 → Float
 ratioFloat x = div binary32 (ofInt binary32 (signed (x .negative) (x .numer))) (ofInt binary32 (pos (x .denom)))

@@ -1,4 +1,4 @@
-// f32 and fractions.
+// Whole numbers and fractions as f32, and f32 as fractions and as bits.
 use rational::OptionRational64;
 use rational::Rational64;
 ghost use mathlib.Core.Path.{_≡_};
@@ -11,7 +11,7 @@ ghost use Rattle.rational.specs.Rational.{LowestTerms, reduced, checked};
 ghost use Rattle.rational.specs.Promise.{ChecksTo};
 ghost use Rattle.float.specs.Float.{approximateFloat, floatBits, ratioFloat};
 
-// n/u to the nearest whole number, a tie to the even one.
+// The whole number nearest to n/u, and in the middle the even one.
 fn closest_whole(n: u64, u: u64) -> u64
     requires { ⌜ (0 < u) × (u ≤ 2 ^ 62) ⌝ }
     ensures { λ r. ⌜ r ≡ closest n u ⌝ }
@@ -27,7 +27,7 @@ fn closest_whole(n: u64, u: u64) -> u64
     q + 1
 }
 
-// The f32 nearest to n, a tie to the even one.
+// The f32 nearest to n, and in the middle the even one.
 pub fn nearest_f32(n: u64) -> f32
     ensures { λ r. ⌜ r ≡ Ieee.ofInt binary32 (pos n) ⌝ }
 {
@@ -44,7 +44,7 @@ pub fn nearest_f32(n: u64) -> f32
     f32::from_bits(((k + 149) * 8388608 + m) as u32)
 }
 
-// The bits of x, those of a NaN being 7FC00000.
+// The bits of x. Every NaN has the same ones.
 pub fn f32_to_bits(x: f32) -> u32
     ensures { λ r. ⌜ r ≡ floatBits x ⌝ }
 {
@@ -54,7 +54,7 @@ pub fn f32_to_bits(x: f32) -> u32
     f32::to_bits(x)
 }
 
-// The f32 of a word. from_bits takes no NaN's, so a quotient stands for them.
+// The f32 whose bits are a word. f32::from_bits does not take the bits of a NaN, so that a quotient stands for it.
 pub fn f32_from_bits(word: u64) -> f32
     requires { ⌜ word < 2 ^ 32 ⌝ }
     ensures { λ r. ⌜ r ≡ Ieee.ofBits binary32 word ⌝ }
@@ -65,7 +65,7 @@ pub fn f32_from_bits(word: u64) -> f32
     f32::from_bits(word as u32)
 }
 
-// 2^e, cut to the limit of a magnitude.
+// 2^e, capped at the limit of a magnitude.
 fn capped_power_of_two(e: u64) -> u64
     ensures { λ r. ⌜ r ≡ min (2 ^ e) (2 ^ 63) ⌝ }
 {
@@ -76,7 +76,7 @@ fn capped_power_of_two(e: u64) -> u64
     }
 }
 
-// ±q * 2^k / 2^149 as a fraction.
+// ±q * 2^k / 2^149 as a fraction, if it is in range.
 fn dyadic_rational(negative: bool, q: u64, k: u64) -> OptionRational64
     requires { ⌜ (q < 2 ^ 24) × (k < 254) ⌝ }
     ensures { λ r. ⌜ r ≡ checked (reduced negative (q * 2 ^ k) (2 ^ 149)) ⌝ }
@@ -122,7 +122,7 @@ pub fn approximate_float(x: f32) -> OptionRational64
     dyadic_rational(negative, 0x80_0000 + t, field - 1)
 }
 
-// Numerator and denominator each rounded to the nearest f32, and divided once.
+// The f32 of a fraction: numerator and denominator are each rounded to the nearest f32, and divided once.
 pub fn ratio_f32(x: Rational64) -> f32
     requires { ⌜ LowestTerms x ⌝ }
     ensures { λ r. ⌜ r ≡ ratioFloat x ⌝ }

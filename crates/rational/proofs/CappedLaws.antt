@@ -1,4 +1,4 @@
--- Products and powers that are cut to a limit.
+-- Products and powers that are capped at a limit, as the code computes them.
 use mathlib.Core.Path.{_≡_, refl, sym, ap, _∙_}
 use Prim.Native.Nat.{ℕ, zero, suc, _+_, _-_, _*_, _/_, _^_, _≤_, _<_, min}
 use native.Mathlib.Nat.{zero-mul, le-div-iff-mul-le, div-lt-iff-lt-mul, mul-le-mul-left, pow-suc, pow-zero, mul-zero, mul-one, mul-comm, pow-le-pow-right}
@@ -18,7 +18,7 @@ product-within a b H p h = omega (arith, le-div-iff-mul-le p .0 h)
 pub product-beyond : (a b H : ℕ) → 0 < a → H / a < b → H < a * b
 product-beyond a b H p h = omega (arith, div-lt-iff-lt-mul p .0 h)
 
--- a factor may be cut before the product that is
+-- A factor of a product that is capped may be capped before.
 pub min-mul : (m x H : ℕ) → min (m * min x H) H ≡ min (m * x) H
 min-mul zero x H = rw (zero-mul (min x H), zero-mul x)
 min-mul (suc m) x H = let p : m * min x H ≤ m * x = mul-le-mul-left m (omega arith) in go (x - H) refl
@@ -52,7 +52,7 @@ power-next b i r e =
 pub power-full : (b k i r : ℕ) → 0 < b → i ≤ k → r ≡ min (b ^ i) (2 ^ 63) → 2 ^ 63 ≤ r → 2 ^ 63 ≡ min (b ^ k) (2 ^ 63)
 power-full b k i r p h e l = let q : b ^ i ≤ b ^ k = pow-le-pow-right p h in omega arith
 
--- a cut power compares with a number below the limit as the power does
+-- A capped power compares with a number below the limit as the power does.
 pub power-within : (p n r : ℕ) → n < 2 ^ 63 → r ≡ min p (2 ^ 63) → r ≤ n → p ≤ n
 power-within p n r h e l = omega arith
 

@@ -1,4 +1,4 @@
--- What the definitions give is in lowest terms and in range.
+-- What the definitions of fractions give is in lowest terms and in range.
 use mathlib.Core.Path.{_≡_, refl, sym, _∙_, subst}
 use mathlib.Core.Bool.{Bool, true, false, not, _&&_, cond}
 use Prim.Native.Nat.{ℕ, zero, suc, _*_, _/_, _%_, _<_, _^_}
@@ -39,7 +39,7 @@ zero-unsigned-of s n e = rw e (falls s)
     falls true = refl
     falls false = refl
 
--- a sign that stands says that the number is not zero
+-- A fraction that has a sign is not zero.
 pub nonzero : {x : Rational64} → LowestTerms x → x .negative ≡ true → 0 < x .numer
 nonzero {x} l e = go (x .numer) (l .zero-unsigned)
   where

@@ -14,7 +14,7 @@ use Rattle.rational.proofs.GcdLaws.{gcd-dvd-right, lowest-is}
 use Rattle.rational.proofs.SumLaws.{sum-is}
 use Rattle.rational.proofs.LowestTermsLaws.{opposite-lowest}
 
--- ±n/d is r
+-- If ±n/d has the value of a fraction r, it comes to r.
 pub reduced-exact : (s : Bool) (n d : ℕ) (r : Rational64) → 0 < d → LowestTerms r → r .numer * d ≡ n * r .denom → (s && ltb 0 (r .numer)) ≡ r .negative → checked (reduced s n d) ≡ Some r
 reduced-exact s n d r p l e t =
     let parts = lowest-is n d (r .numer) (r .denom) p (l .coprime) e in

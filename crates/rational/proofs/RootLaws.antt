@@ -25,7 +25,7 @@ root-unique k n a b p q = le-antisymm (side a b p q) (side b a q p)
     side : (a b : ℕ) → IsRoot k n a → IsRoot k n b → a ≤ b
     side a b p q = le-of-suc-le-suc (lt-of-not-le (λ (g : suc b ≤ a). lt-irrefl n (lt-of-lt-of-le (q .1) (le-trans (pow-le-pow-left (subst (λ (z : ℕ). z ≤ a) (sym (plus b)) g) k) (p .0)))))
 
--- one digit more: r is the root of n / 2 ^ k
+-- If r is the root of n / 2 ^ k, then twice r or one more is the root of n.
 step : (k n r : ℕ) → IsRoot k (n / 2 ^ k) r → IsRoot k n (cond (leb ((2 * r + 1) ^ k) n) (2 * r + 1) (2 * r))
 step k n r p = go (leb ((2 * r + 1) ^ k) n) refl
   where

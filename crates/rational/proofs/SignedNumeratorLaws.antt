@@ -23,7 +23,7 @@ same : (b s : Bool) → cond b s s ≡ s
 same true s = refl
 same false s = refl
 
--- p - q, of either sign
+-- The magnitude and the sign of p - q are those of the difference of two integers.
 less : (p q : ℕ) → toZ (cond (ltb p q) true false) (p - q + (q - p)) ≡ pos p +ℤ negℤ (pos q)
 less p zero = ap (λ (b : Bool). toZ (cond b true false) (p - 0 + (0 - p))) (le-ltb p 0 (omega arith)) ∙ ap pos (flat p)
   where
@@ -84,7 +84,7 @@ toZ-product true true zero (suc m) = sym (no-sign (0 * suc m) (zero-mul (suc m))
 toZ-product true true (suc n) zero = sym (no-sign (suc n * 0) (mul-zero (suc n)))
 toZ-product true true (suc n) (suc m) = refl
 
--- a sign that zero drops changes no product
+-- A sign that zero drops changes no product.
 toZ-unsigned : (s : Bool) (k m : ℕ) → toZ (s && ltb 0 k) (k * m) ≡ toZ s (k * m)
 toZ-unsigned false k m = refl
 toZ-unsigned true zero m = no-sign (0 * m) (zero-mul m)
@@ -94,11 +94,11 @@ toZ-unsigned true (suc k) m = rw (lt-ltb 0 (suc k) (zero-lt-suc k)) refl
 abbrev pub signedNumerator : Rational64 → ℤ
 signedNumerator x = toZ (x .negative) (x .numer)
 
--- both sides are brought to the magnitudes k·D and n·e
+-- The numerator of a reduced fraction times m is a signed number of magnitude w.
 reduced-is : (s : Bool) (n d m w : ℕ) → n / gcd n d * m ≡ w → signedNumerator (reduced s n d) *ℤ pos m ≡ toZ s w
 reduced-is s n d m w e = toZ-times (s && ltb 0 (n / gcd n d)) (n / gcd n d) m ∙ toZ-unsigned s (n / gcd n d) m ∙ ap (toZ s) e
 
--- n/g · d and n · (d/g)
+-- The products n/g · d and n · (d/g), with g the greatest common divisor, are the same.
 crosswise : (n d : ℕ) → n / gcd n d * d ≡ n * (d / gcd n d)
 crosswise n d =
     let g = gcd n d in
@@ -113,7 +113,7 @@ only : (b : Bool) (x r : Rational64) → cond b (Some x) None ≡ Some r → x �
 only true x r e = cc
 only false x r e = absurd (let z : _≡_ {A = ℕ} 0 1 = cc in omega arith)
 
--- r = x·y: the numerator of r over its denominator is the product of the numerators over that of the denominators
+-- If r is the product of x and y, its numerator over its denominator is the product of the numerators over that of the denominators.
 pub product-integers : (x y r : Rational64) → product x y ≡ Some r → signedNumerator r *ℤ pos (x .denom * y .denom) ≡ signedNumerator x *ℤ signedNumerator y *ℤ pos (r .denom)
 unfolding product
 product-integers x y r e =
@@ -125,7 +125,7 @@ product-integers x y r e =
     ∙ sym (toZ-times s n (d / gcd n d))
     ∙ ap (λ (z : ℤ). z *ℤ pos (d / gcd n d)) (sym (toZ-product (x .negative) (y .negative) (x .numer) (y .numer))))
 
--- r = x/y: r times y is x
+-- If r is the quotient of x by y, then r times y is x.
 pub quotient-integers : (x y r : Rational64) → quotient x y ≡ Some r → signedNumerator r *ℤ (pos (x .denom) *ℤ signedNumerator y) ≡ signedNumerator x *ℤ pos (y .denom) *ℤ pos (r .denom)
 unfolding quotient
 quotient-integers x y r e =
@@ -163,14 +163,14 @@ ltb-times k p q h = go (ltb p q) refl
     go true e = lt-ltb (k * p) (k * q) (mul-lt-mul-of-pos-left (ltb-true p q e) h)
     go false e = le-ltb (k * p) (k * q) (mul-le-mul-left k (ltb-false p q e))
 
--- ±k·p ± k·q is k times ±p ± q
+-- A common factor k comes out of the sum ±k·p ± k·q.
 scaled : (s t : Bool) (k p q : ℕ) → 0 < k → toZ s (k * p) +ℤ toZ t (k * q) ≡ toZ (sumSign s p t q) (k * sumMagnitude (unlike s t) p q)
 scaled s t k p q h =
     sym (signed-sum s t (k * p) (k * q))
     ∙ ap (λ (b : Bool). toZ (cond b t s) (sumMagnitude (unlike s t) (k * p) (k * q))) (ltb-times k p q h)
     ∙ ap (toZ (sumSign s p t q)) (magnitude-times (unlike s t) k p q)
 
--- r = x + y over ℤ
+-- If r is the sum of x and y, it is their sum over ℤ.
 pub sum-integers : (x y r : Rational64) → LowestTerms x → LowestTerms y → fractionSum x y ≡ Some r
     → signedNumerator r *ℤ pos (x .denom * y .denom) ≡ (signedNumerator x *ℤ pos (y .denom) +ℤ signedNumerator y *ℤ pos (x .denom)) *ℤ pos (r .denom)
 unfolding fractionSum
@@ -209,7 +209,7 @@ sum-integers x y r px py e =
     whole : (k e m l g B b d : ℕ) → k * (B * d) ≡ m * e → g * B ≡ b → k * (b * d) ≡ g * m * e
     whole k e m l g B b d p q = rw (← q) (omega (arith, ap (λ (z : ℕ). g * z) p))
 
--- the opposite's numerator is the other way round
+-- The numerator of the opposite has the other sign.
 pub opposite-integers : (y : Rational64) → LowestTerms y → signedNumerator (opposite y) ≡ negℤ (signedNumerator y)
 opposite-integers y l = go (y .negative) (y .numer)
   where
@@ -219,7 +219,7 @@ opposite-integers y l = go (y .negative) (y .numer)
     go false zero = refl
     go false (suc n) = rw (lt-ltb 0 (suc n) (zero-lt-suc n)) refl
 
--- r = x - y over ℤ
+-- If r is the difference of x and y, it is their difference over ℤ.
 pub difference-integers : (x y r : Rational64) → LowestTerms x → LowestTerms y → difference x y ≡ Some r
     → signedNumerator r *ℤ pos (x .denom * y .denom) ≡ (signedNumerator x *ℤ pos (y .denom) +ℤ negℤ (signedNumerator y) *ℤ pos (x .denom)) *ℤ pos (r .denom)
 unfolding difference
@@ -243,7 +243,7 @@ sign-of-number false false (suc k) h e = refl
 same-fields : (s t : Bool) (n m d e : ℕ) → s ≡ t → n ≡ m → d ≡ e → _≡_ {A = Rational64} (record { negative = s; numer = n; denom = d }) (record { negative = t; numer = m; denom = e })
 same-fields s t n m d e p q r = rw (p, q, r)
 
--- two fractions of one value are the same fraction
+-- Two fractions of the same value are the same fraction.
 pub unique : (x y : Rational64) → LowestTerms x → LowestTerms y → signedNumerator x *ℤ pos (y .denom) ≡ signedNumerator y *ℤ pos (x .denom) → x ≡ y
 unique x y p q e =
     same-fields (x .negative) (y .negative) (x .numer) (y .numer) (x .denom) (y .denom) (signs (x .numer) refl) (parts .0) (parts .1)

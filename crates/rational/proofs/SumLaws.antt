@@ -1,4 +1,4 @@
--- The sum, whose steps stop at the limit, is the sum.
+-- The sum whose steps are each capped at the limit is the definition's sum.
 use mathlib.Core.Path.{_≡_, refl, sym, ap, _∙_, subst}
 use mathlib.Core.Bool.{Bool, true, false, _&&_, cond}
 use Prim.Native.Nat.{ℕ, _-_, _*_, _/_, _<_, _^_, min}
@@ -13,7 +13,7 @@ use Rattle.rational.specs.declared.OptionRational64.{OptionRational64}
 use Rattle.rational.specs.declared.OptionRational64.the-variants.{Some, None}
 use Rattle.rational.specs.Rational.{reduced, unlike, commonDenominator, sumMagnitude, sumSign, allInRange, fractionSum}
 
--- a number that is cut to the limit, where to fail its test is to overflow
+-- A number that must be below the limit may be capped at the limit before it is tested.
 cut-any : (a : ℕ) (F : ℕ → Bool → OptionRational64) → ((x : ℕ) → F x false ≡ None) → F (min a (2 ^ 63)) (ltb (min a (2 ^ 63)) (2 ^ 63)) ≡ F a (ltb a (2 ^ 63))
 cut-any a F h = go (ltb a (2 ^ 63)) refl
   where
@@ -27,7 +27,7 @@ cut-any a F h = go (ltb a (2 ^ 63)) refl
     go true e = rw (kept e)
     go false e = ap (F (min a (2 ^ 63))) (cut e) ∙ h (min a (2 ^ 63)) ∙ sym (h a) ∙ ap (F a) (sym e)
 
--- a test that fails, after others
+-- Tests of which the last one fails give nothing.
 no1 : (b : Bool) (v : OptionRational64) → cond (b && false) v None ≡ None
 no1 true v = refl
 no1 false v = refl
@@ -40,7 +40,7 @@ no3 : (a b d : Bool) (v : OptionRational64) → cond (a && (b && (d && false))) 
 no3 true b d v = no2 b d v
 no3 false b d v = refl
 
--- all steps, each cut to the limit before the next
+-- All steps of the sum, each capped at the limit before the next.
 steps : (L : ℕ) (P Q : ℕ → ℕ) (M : ℕ → ℕ → ℕ) (R : ℕ → ℕ → ℕ → ℕ → Rational64) (l p q m : ℕ)
     → l ≡ min L (2 ^ 63) → p ≡ min (P l) (2 ^ 63) → q ≡ min (Q l) (2 ^ 63) → m ≡ min (M p q) (2 ^ 63)
     → cond (allInRange l p q m) (Some (R l p q m)) None ≡ cond (allInRange L (P L) (Q L) (M (P L) (Q L))) (Some (R L (P L) (Q L) (M (P L) (Q L)))) None

@@ -1,4 +1,4 @@
--- Document 01, "Fractions and angles": the fractions. A fraction is a sign and two magnitudes; `proofs/Integers.antt` ties them to ℤ.
+-- Document 01, "Fractions and angles": the fractions. A fraction is a sign and two magnitudes; `proofs/SignedNumeratorLaws.antt` ties them to ℤ.
 use Prim.Native.Nat.{ℕ, _+_, _-_, _*_, _/_, _%_, _^_, _<_}
 use mathlib.Core.Path.{_≡_}
 use mathlib.Core.Bool.{Bool, true, false, not, _&&_, cond, Bool·beq}
@@ -19,39 +19,41 @@ pub record LowestTerms (x : Rational64) : Type 0 where
   pub coprime : gcd (x .numer) (x .denom) ≡ 1
   pub zero-unsigned : x .numer ≡ 0 → x .negative ≡ false
 
--- the range of a magnitude
+-- Whether a magnitude is in range.
 abbrev pub inRange : ℕ → Bool
 inRange m = ltb m (2 ^ 63)
 
--- ±n/d as it stands; zero has no sign
+-- The fraction ±n/d as it stands. Zero has no sign.
 abbrev pub ratio : Bool → ℕ → ℕ → Rational64
 ratio s n d = record { negative = s && ltb 0 n; numer = n; denom = d }
 
--- ±n/d "reduced"
+-- The fraction ±n/d "reduced".
 abbrev pub reduced : Bool → ℕ → ℕ → Rational64
 reduced s n d = ratio s (n / gcd n d) (d / gcd n d)
 
--- "overflow exactly if the reduced result leaves the range"; overflow is None
+-- "overflow exactly if the reduced result leaves the range". An overflow is None.
 abbrev pub checked : Rational64 → OptionRational64
 checked x = cond (inRange (x .numer) && inRange (x .denom)) (Some x) None
 
--- the sign of a product
+-- Whether two signs differ, which is the sign of a product.
 abbrev pub unlike : Bool → Bool → Bool
 unlike true t = not t
 unlike false t = t
 
--- the magnitude and the sign of ±p ± q; u says whether the two signs are unlike
+-- The magnitude of ±p ± q. The first argument says whether the two signs differ.
 abbrev pub sumMagnitude : Bool → ℕ → ℕ → ℕ
 sumMagnitude true p q = p - q + (q - p)
 sumMagnitude false p q = p + q
 
+-- The sign of ±p ± q, which is that of the larger magnitude.
 abbrev pub sumSign : Bool → ℕ → Bool → ℕ → Bool
 sumSign s p t q = cond (ltb p q) t s
 
--- "l = b/g·d", the common denominator, with "g = gcd(b,d)"
+-- "l = b/g·d" with "g = gcd(b,d)": the common denominator of two fractions.
 abbrev pub commonDenominator : ℕ → ℕ → ℕ
 commonDenominator b d = b / gcd b d * d
 
+-- Whether the four magnitudes of a sum are in range.
 abbrev pub allInRange : ℕ → ℕ → ℕ → ℕ → Bool
 allInRange l p q s = inRange l && (inRange p && (inRange q && inRange s))
 
@@ -64,11 +66,11 @@ fractionSum x y =
     let s = sumMagnitude (unlike (x .negative) (y .negative)) p q in
     cond (allInRange l p q s) (Some (reduced (sumSign (x .negative) p (y .negative) q) s l)) None
 
--- the fraction with the other sign
+-- The fraction with the other sign.
 abbrev pub opposite : Rational64 → Rational64
 opposite y = ratio (not (y .negative)) (y .numer) (y .denom)
 
--- "Difference likewise."
+-- "Difference likewise." The difference is the sum with the opposite.
 unfoldable pub difference : Rational64 → Rational64 → OptionRational64
 difference x y = fractionSum x (opposite y)
 
@@ -76,45 +78,49 @@ difference x y = fractionSum x (opposite y)
 unfoldable pub product : Rational64 → Rational64 → OptionRational64
 product x y = checked (reduced (unlike (x .negative) (y .negative)) (x .numer * y .numer) (x .denom * y .denom))
 
--- 1/y, for a y that is not 0
+-- The reciprocal 1/y of a fraction y that is not 0.
 abbrev pub reciprocal : Rational64 → Rational64
 reciprocal y = record { negative = y .negative; numer = y .denom; denom = y .numer }
 
--- by a y that is not 0
+-- The quotient by a fraction y that is not 0.
 unfoldable pub quotient : Rational64 → Rational64 → OptionRational64
 quotient x y = checked (reduced (unlike (x .negative) (y .negative)) (x .numer * y .denom) (x .denom * y .numer))
 
--- to a whole power k; 0 to the power 0 is 1. It doesn't compute where k is huge.
+-- The power with a whole exponent k; 0 to the power 0 is 1. The definition does not compute where k is huge.
 unfoldable pub power : Rational64 → ℕ → OptionRational64
 power x k = checked (reduced (x .negative && eqb (k % 2) 1) (x .numer ^ k) (x .denom ^ k))
 
--- the r with r ^ k = n, if there is one; k above 1
+-- The number r with r ^ k = n, if there is one, for k above 1.
 unfoldable pub wholeRoot : ℕ → ℕ → WholeRoot
 wholeRoot k n = cond (eqb (root k n ^ k) n) (Whole (root k n)) Absent
 
+-- The ratio of two roots, if both are whole.
 abbrev pub rootRatio : WholeRoot → WholeRoot → OptionRational64
 rootRatio (Whole a) (Whole b) = Some (ratio false a b)
 rootRatio (Whole a) Absent = None
 rootRatio Absent b = None
 
--- the k-th root, if numerator and denominator have whole ones and the fraction is not negative; k above 1
+-- The k-th root of a fraction for k above 1, if the fraction is not negative and both numerator and denominator have a whole k-th root.
 unfoldable pub rationalRoot : ℕ → Rational64 → OptionRational64
 rationalRoot k x = cond (x .negative) None (rootRatio (wholeRoot k (x .numer)) (wholeRoot k (x .denom)))
 
--- without its whole part, "toward zero"
+-- The fraction without its whole part, "toward zero".
 abbrev pub fractionalPart : Rational64 → Rational64
 fractionalPart x = ratio (x .negative) (x .numer % x .denom) (x .denom)
 
+-- Whether a fraction is 0.
 abbrev pub isZero : Rational64 → Bool
 isZero x = eqb (x .numer) 0
 
+-- Whether two fractions have the same sign, numerator and denominator.
 abbrev pub sameFraction : Rational64 → Rational64 → Bool
 sameFraction x y = Bool·beq (x .negative) (y .negative) && (eqb (x .numer) (y .numer) && eqb (x .denom) (y .denom))
 
--- a further operation on results: an overflow stands
+-- A further operation on a fraction, if there is one: an overflow stands.
 abbrev pub andThenOption : OptionRational64 → (Rational64 → OptionRational64) → OptionRational64
 andThenOption (Some x) op = op x
 andThenOption None op = None
 
+-- An operation on two fractions, if both are there: an overflow stands.
 abbrev pub both : (Rational64 → Rational64 → OptionRational64) → OptionRational64 → OptionRational64 → OptionRational64
 both op x y = andThenOption x (λ a. andThenOption y (λ b. op a b))

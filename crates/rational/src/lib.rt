@@ -14,7 +14,7 @@ pub struct Rational64 {
     pub denom: u64,
 }
 
-// Option<Rational64> in the Rust.
+// Option<Rational64> in the Rust: None is an overflow, or a root that is no fraction.
 pub enum OptionRational64 {
     Some(Rational64),
     None,
@@ -26,9 +26,10 @@ pub enum WholeRoot {
     Absent,
 }
 
-// The first magnitude out of range. What passes it is cut to it, and tested once at the end.
-const MAGNITUDE_LIMIT: u64 = 0x8000_0000_0000_0000;
+// 2^63, the first magnitude out of range. A step that passes it is capped at it, and the range is tested once at the end.
+pub const MAGNITUDE_LIMIT: u64 = 0x8000_0000_0000_0000;
 
+// The greatest common divisor, by Euclid's steps.
 pub fn gcd(a: u64, b: u64) -> u64
     ensures { λ r. ⌜ r ≡ gcd a b ⌝ }
 {
@@ -42,7 +43,7 @@ pub fn gcd(a: u64, b: u64) -> u64
     x
 }
 
-// a * b, cut to the limit.
+// a * b, capped at the limit.
 pub fn capped_mul(a: u64, b: u64) -> u64
     ensures { λ r. ⌜ r ≡ min (a * b) (2 ^ 63) ⌝ }
 {
@@ -61,7 +62,7 @@ pub fn capped_mul(a: u64, b: u64) -> u64
     MAGNITUDE_LIMIT
 }
 
-// b^k, cut to the limit, after at most 64 turns.
+// b^k, capped at the limit, after at most 64 turns of the loop.
 pub fn capped_pow(b: u64, k: u64) -> u64
     ensures { λ r. ⌜ r ≡ min (b ^ k) (2 ^ 63) ⌝ }
 {
@@ -90,7 +91,7 @@ pub fn signs_differ(s: bool, t: bool) -> bool
     if s { !t } else { t }
 }
 
-// A sign, which zero has not.
+// The sign of ±n. Zero has none.
 pub fn sign_unless_zero(s: bool, n: u64) -> bool
     ensures { λ r. ⌜ r ≡ (s && ltb 0 n) ⌝ }
 {
@@ -123,7 +124,7 @@ fn lowest_terms(s: bool, n: u64, d: u64) -> Rational64
     }
 }
 
-// The sum's common denominator, cut to the limit.
+// The common denominator of a sum, capped at the limit.
 fn common_denominator(b: u64, d: u64) -> u64
     requires { ⌜ 0 < d ⌝ }
     ensures { λ r. ⌜ r ≡ min (commonDenominator b d) (2 ^ 63) ⌝ }
@@ -132,7 +133,7 @@ fn common_denominator(b: u64, d: u64) -> u64
     capped_mul(b / g, d)
 }
 
-// p + q, or how far they are apart where the signs differ, cut to the limit.
+// The magnitude of a sum, capped at the limit: p + q, or how far p and q are apart where the signs differ.
 fn sum_magnitude(u: bool, p: u64, q: u64) -> u64
     requires { ⌜ (p ≤ 2 ^ 63) × (q ≤ 2 ^ 63) ⌝ }
     ensures { λ r. ⌜ r ≡ min (sumMagnitude u p q) (2 ^ 63) ⌝ }
@@ -149,13 +150,14 @@ fn sum_magnitude(u: bool, p: u64, q: u64) -> u64
     MAGNITUDE_LIMIT
 }
 
-// The sign of the larger.
+// The sign of a sum, which is that of the larger magnitude.
 fn sum_sign(s: bool, p: u64, t: bool, q: u64) -> bool
     ensures { λ r. ⌜ r ≡ sumSign s p t q ⌝ }
 {
     if p < q { t } else { s }
 }
 
+// Whether the four magnitudes of a sum are in range.
 fn all_in_range(l: u64, p: u64, q: u64, s: u64) -> bool
     ensures { λ r. ⌜ r ≡ allInRange l p q s ⌝ }
 {
@@ -199,7 +201,7 @@ pub fn int_root(n: u64, k: u64) -> WholeRoot
     WholeRoot::Absent
 }
 
-// A root's numerator over its denominator.
+// The root of a fraction, if numerator and denominator have whole roots.
 fn root_ratio(n: WholeRoot, d: WholeRoot) -> OptionRational64
     ensures { λ r. ⌜ r ≡ rootRatio n d ⌝ }
 {
@@ -216,13 +218,14 @@ fn root_ratio(n: WholeRoot, d: WholeRoot) -> OptionRational64
     })
 }
 
-// Whether a power keeps the sign.
+// The sign of a power, which is that of the base for an odd exponent.
 fn power_sign(s: bool, k: u64) -> bool
     ensures { λ r. ⌜ r ≡ (s && eqb (k % 2) 1) ⌝ }
 {
     if s { k % 2 == 1 } else { false }
 }
 
+// Whether two signs are the same.
 fn signs_equal(s: bool, t: bool) -> bool
     ensures { λ r. ⌜ r ≡ Bool·beq s t ⌝ }
 {
@@ -245,6 +248,7 @@ impl Rational64 {
         OptionRational64::None
     }
 
+    // The fraction with the other sign.
     pub fn opposite(self) -> Rational64
         requires { ⌜ LowestTerms self ⌝ }
         ensures { λ r. ⌜ (r ≡ opposite self) × LowestTerms r ⌝ }
@@ -264,7 +268,7 @@ impl Rational64 {
         self.checked_add(y.opposite())
     }
 
-    // Reduced crosswise first, so that no product leaves the range that the result does not leave.
+    // Numerators and denominators are reduced crosswise first, so that no product leaves the range unless the result does.
     pub fn checked_mul(self, y: Rational64) -> OptionRational64
         requires { ⌜ LowestTerms self × LowestTerms y ⌝ }
         ensures { λ r. ⌜ ChecksTo (product self y) r ⌝ }
@@ -313,7 +317,7 @@ impl Rational64 {
         })
     }
 
-    // The k-th root, if numerator and denominator have whole ones.
+    // The k-th root, if numerator and denominator have whole roots.
     pub fn rat_root(self, k: u64) -> OptionRational64
         requires { ⌜ LowestTerms self × (1 < k) ⌝ }
         ensures { λ r. ⌜ ChecksTo (rationalRoot k self) r ⌝ }
@@ -326,7 +330,7 @@ impl Rational64 {
         root_ratio(n, d)
     }
 
-    // Without its whole part, toward zero.
+    // The fraction without its whole part, toward zero.
     pub fn fract(self) -> Rational64
         requires { ⌜ LowestTerms self ⌝ }
         ensures { λ r. ⌜ (r ≡ fractionalPart self) × LowestTerms r ⌝ }
@@ -352,7 +356,7 @@ impl Rational64 {
     }
 }
 
-// The product of two results.
+// The product of two fractions, if both are there.
 pub fn product_of_options(x: OptionRational64, y: OptionRational64) -> OptionRational64
     requires { ⌜ SoundOption x × SoundOption y ⌝ }
     ensures { λ r. ⌜ ChecksTo (both product x y) r ⌝ }
@@ -366,7 +370,7 @@ pub fn product_of_options(x: OptionRational64, y: OptionRational64) -> OptionRat
     a.checked_mul(b)
 }
 
-// The sum of two results.
+// The sum of two fractions, if both are there.
 pub fn sum_of_options(x: OptionRational64, y: OptionRational64) -> OptionRational64
     requires { ⌜ SoundOption x × SoundOption y ⌝ }
     ensures { λ r. ⌜ ChecksTo (both fractionSum x y) r ⌝ }

@@ -12,55 +12,57 @@ use Rattle.value.specs.Value.{zeroFraction, one, half, value, rationalVa
 use Rattle.value.specs.declared.Value.{Value}
 use Rattle.value.specs.declared.Evaluation.the-variants as evaluation
 
--- n/d, and n/d·pi
+-- The angle ±n/d.
 abbrev rationalAngle : Bool → ℕ → ℕ → Value
 rationalAngle s n d = value (ratio s n d) zeroFraction
 
+-- The angle ±n/d·pi.
 abbrev piTimes : Bool → ℕ → ℕ → Value
 piTimes s n d = value zeroFraction (ratio s n d)
 
+-- The definitions that compute in the cases below.
 unfoldable everything : ℕ
 unfolding gcd euclid root rootDigits fractionSum product quotient power wholeRoot rationalRoot approximateFloat fromFloat valueSum valueQuotient extractRoot valuePower sineTable turn sine cosine tangent ofBits ofFields odd trailingZeros
 everything = 0
 
--- 8^(2/3) = 4
+-- K4: 8^(2/3) is 4.
 k4 : valuePower (rationalAngle false 8 1) (rationalAngle false 2 3) ≡ rationalValue (ratio false 4 1)
 unfolding everything
 k4 = refl
 
--- 0^(-1/2)
+-- K5: 0^(-1/2) is a division by zero.
 k5 : valuePower (rationalAngle false 0 1) (rationalAngle true 1 2) ≡ evaluation.DivideByZero
 unfolding everything
 k5 = refl
 
--- cos(pi/3) = 1/2
+-- K6: cos(pi/3) is 1/2.
 k6 : cosine (piTimes false 1 3) ≡ rationalValue half
 unfolding everything
 k6 = refl
 
--- tan(pi/2) and tan(-pi/2)
+-- K7: tan(pi/2) is a function of floats, and tan(-pi/2) a division by zero.
 k7 : (tangent (piTimes false 1 2) ≡ evaluation.FunctionOfFloats) × (tangent (piTimes true 1 2) ≡ evaluation.DivideByZero)
 unfolding everything
 k7 = (refl, refl)
 
--- the f32 2^62, and 2^63
+-- K8: the f32 2^62 is a fraction, and 2^63 is none.
 k8 : (fromFloat (ofBits binary32 0x5E800000) ≡ rationalValue (ratio false (2 ^ 62) 1)) × (fromFloat (ofBits binary32 0x5F000000) ≡ evaluation.ApproximateFail (ofBits binary32 0x5F000000))
 unfolding everything
 k8 = (refl, refl)
 
--- the f32 2^-62, and 2^-63
+-- K9: the f32 2^-62 is a fraction, and 2^-63 is none.
 k9 : (fromFloat (ofBits binary32 0x20800000) ≡ rationalValue (ratio false 1 (2 ^ 62))) × (fromFloat (ofBits binary32 0x20000000) ≡ evaluation.ApproximateFail (ofBits binary32 0x20000000))
 unfolding everything
 k9 = (refl, refl)
 
 -- ---- the edges that document 01 names
 
--- the base to |n| first, then the root: (-8)^(2/3) is 4, though -8 itself has no root here
+-- The base is raised to |n| before the root is taken: (-8)^(2/3) is 4, though -8 itself has no root here.
 base-first : (valuePower (rationalAngle true 8 1) (rationalAngle false 2 3) ≡ rationalValue (ratio false 4 1)) × (valuePower (rationalAngle true 8 1) (rationalAngle false 1 3) ≡ evaluation.FunctionOfFloats)
 unfolding everything
 base-first = (refl, refl)
 
--- 0^0 is 1; a root above 2^32-1 of 0 is 13, and so before the 9 of a negative exponent
+-- 0^0 is 1. A root above 2^32-1 of 0 is refusal 13, and this comes before the refusal 9 of a negative exponent.
 zero-powers :
     (valuePower (rationalAngle false 0 1) (rationalAngle false 0 1) ≡ rationalValue one)
     × (valuePower (rationalAngle false 0 1) (rationalAngle false 1 (2 ^ 32)) ≡ evaluation.FunctionOfFloats)
@@ -68,12 +70,12 @@ zero-powers :
 unfolding everything
 zero-powers = (refl, refl, refl)
 
--- a power of exactly 1 takes no root, however large
+-- No root is taken of a power that is exactly 1, however large the root.
 one-powers : (valuePower (rationalAngle false 1 1) (rationalAngle false 1 (2 ^ 62)) ≡ rationalValue one) × (valuePower (rationalAngle true 1 1) (rationalAngle false 2 3) ≡ rationalValue one)
 unfolding everything
 one-powers = (refl, refl)
 
--- the sine's table; sin(pi) is a function of floats
+-- The sines that the table has, and sin(pi), which is a function of floats.
 sines :
     (sine (piTimes false 1 6) ≡ rationalValue half)
     × (sine (piTimes false 5 6) ≡ rationalValue half)

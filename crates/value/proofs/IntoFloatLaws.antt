@@ -24,7 +24,7 @@ pi-times-zero : mul binary32 (ofBits binary32 0x40490FDB) (ratioFloat zeroFracti
 unfolding ratioFloat ofInt round size units odd span climb trailingZeros div mul ofBits ofFields
 pi-times-zero = refl
 
--- ±n as a float; zero has no sign
+-- The float of ±n, where zero has no sign, is the rounded number.
 rounded : (s : Bool) (n : ℕ) → ofInt binary32 (signed (s && ltb 0 n) n) ≡ round binary32 (s && ltb 0 n) n 1
 unfolding ofInt
 rounded s n = go (s && ltb 0 n) n (λ e. zero-unsigned-of s n e)
@@ -40,7 +40,7 @@ twice true false = refl
 twice false b = refl
 
 module _ (s : Bool) (n : ℕ) (small : n < 2 ^ 24) where
-  -- the float is the whole number's, and its value is that number
+  -- The float of a rational angle that is a whole number is the float of that number, and has its value.
   pub whole-exact : (intoFloat (value (ratio s n 1) zeroFraction) ≡ ofInt binary32 (signed (s && ltb 0 n) n)) × HasValue (ofInt binary32 (signed (s && ltb 0 n) n)) (s && ltb 0 n) n 1
   unfolding intoFloat ratioFloat
   whole-exact =

@@ -1,4 +1,4 @@
--- What the definitions give has both parts in lowest terms and in range.
+-- What the definitions of angles give has both parts in lowest terms and in range.
 use mathlib.Core.Path.{_≡_, refl, sym, subst}
 use mathlib.Core.Bool.{Bool, true, false, not, _&&_, _||_, cond}
 use Prim.Native.Nat.{ℕ, _^_, _<_}
@@ -26,7 +26,7 @@ use Rattle.value.specs.declared.Value.{Value}
 use Rattle.value.specs.declared.Evaluation.{Evaluation}
 use Rattle.value.specs.declared.Evaluation.the-variants as evaluation
 
--- a promise from its equation
+-- A promise follows from its equation.
 pub evaluates-to : {defined result : Evaluation} → result ≡ defined → SoundEvaluation defined → EvaluatesTo defined result
 evaluates-to e s = record { is = e; sound = subst SoundEvaluation (sym e) s }
 

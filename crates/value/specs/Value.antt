@@ -17,37 +17,42 @@ pub record Sound (x : Value) : Type 0 where
   pub rational-part : LowestTerms (x .a)
   pub pi-part : LowestTerms (x .b)
 
+-- The angle a + b·pi.
 abbrev pub value : Rational64 → Rational64 → Value
 value a b = record { a = a; b = b }
 
+-- The fraction 0.
 abbrev pub zeroFraction : Rational64
 zeroFraction = ratio false 0 1
 
+-- The fraction 1.
 abbrev pub one : Rational64
 one = ratio false 1 1
 
+-- The fraction 2.
 abbrev pub two : Rational64
 two = ratio false 2 1
 
+-- The fraction 1/2.
 abbrev pub half : Rational64
 half = ratio false 1 2
 
 -- ---- results
 
--- a rational angle
+-- The angle a, with no part of pi.
 abbrev pub rationalValue : Rational64 → Evaluation
 rationalValue a = evaluation.Value (value a zeroFraction)
 
--- what is made of a fraction, or its overflow: 11
+-- What is made of a fraction, or overflow where there is none: refusal 11.
 abbrev pub orOverflow : OptionRational64 → (Rational64 → Evaluation) → Evaluation
 orOverflow (Some x) make = make x
 orOverflow None make = evaluation.Overflow
 
--- both parts, or an overflow
+-- The angle of both parts, or overflow where one of them is missing.
 abbrev pub partsOrOverflow : OptionRational64 → OptionRational64 → Evaluation
 partsOrOverflow a b = orOverflow a (λ x. orOverflow b (λ y. evaluation.Value (value x y)))
 
--- a further operation on an angle; a refusal stands. "The left operand's refusal wins."
+-- A further operation on an angle, if there is one: a refusal stands. "The left operand's refusal wins."
 abbrev pub andThen : Evaluation → (Value → Evaluation) → Evaluation
 andThen (evaluation.Value x) operation = operation x
 andThen evaluation.DivideByZero operation = evaluation.DivideByZero
@@ -57,14 +62,15 @@ andThen evaluation.FunctionOfFloats operation = evaluation.FunctionOfFloats
 
 -- ---- constants and floats
 
--- pi, and pi/2
+-- The angle pi.
 abbrev pub pi : Value
 pi = value zeroFraction one
 
+-- The angle pi/2.
 abbrev pub halfPi : Value
 halfPi = value zeroFraction half
 
--- "A literal of 2^63 or more wraps in the Rust; here it is 11"
+-- A whole number as an angle: "A literal of 2^63 or more wraps in the Rust; here it is 11".
 unfoldable pub integer : ℕ → Evaluation
 integer n = cond (inRange n) (rationalValue (ratio false n 1)) evaluation.Overflow
 
@@ -72,11 +78,12 @@ integer n = cond (inRange n) (rationalValue (ratio false n 1)) evaluation.Overfl
 unfoldable pub intoFloat : Value → Float
 intoFloat x = add binary32 (ratioFloat (x .a)) (mul binary32 (ofBits binary32 0x40490FDB) (ratioFloat (x .b)))
 
+-- The angle of a fraction, or the f32 that has none: refusal 10.
 abbrev pub orFloat : OptionRational64 → Float → Evaluation
 orFloat (Some x) f = rationalValue x
 orFloat None f = evaluation.ApproximateFail f
 
--- the f32's exact value as an angle, or the f32: 10
+-- The exact value of an f32 as an angle, or the f32 itself: refusal 10.
 unfoldable pub fromFloat : Float → Evaluation
 fromFloat f = orFloat (approximateFloat f) f
 
@@ -86,6 +93,7 @@ fromFloat f = orFloat (approximateFloat f) f
 unfoldable pub valueSum : Value → Value → Evaluation
 valueSum x y = partsOrOverflow (fractionSum (x .a) (y .a)) (fractionSum (x .b) (y .b))
 
+-- The difference goes part by part, as the sum does.
 unfoldable pub valueDifference : Value → Value → Evaluation
 valueDifference x y = partsOrOverflow (difference (x .a) (y .a)) (difference (x .b) (y .b))
 
@@ -93,21 +101,21 @@ valueDifference x y = partsOrOverflow (difference (x .a) (y .a)) (difference (x 
 abbrev pub piSquared : Rational64
 piSquared = ratio false 6499908331188584841 658578405682719844
 
--- (a + b·pi)·(a' + b'·pi) = a·a' + b·b'·pi² + (b·a' + a·b')·pi
+-- The product (a + b·pi)·(a' + b'·pi) = a·a' + b·b'·pi² + (b·a' + a·b')·pi.
 unfoldable pub valueProduct : Value → Value → Evaluation
 valueProduct x y =
     let c = andThenOption (product (x .b) (y .b)) (λ bb. product bb piSquared) in
     partsOrOverflow (both fractionSum (product (x .a) (y .a)) c) (both fractionSum (product (x .b) (y .a)) (product (x .a) (y .b)))
 
--- the source's `neg_internal`: the product with -1
+-- The source's `neg_internal`, which is the product with -1.
 unfoldable pub negation : Value → Evaluation
 negation x = valueProduct x (value (ratio true 1 1) zeroFraction)
 
--- "one f32 division of both `into_float` results, made a fraction"
+-- The quotient by floats: "one f32 division of both `into_float` results, made a fraction".
 unfoldable pub approximateQuotient : Value → Value → Evaluation
 approximateQuotient x y = fromFloat (div binary32 (intoFloat x) (intoFloat y))
 
--- "the common ratio if a/a' = b/b'. Otherwise one f32 division"
+-- The quotient of two angles whose parts have the ratios p and q: "the common ratio if a/a' = b/b'. Otherwise one f32 division".
 abbrev pub commonRatio : Value → Value → Rational64 → Rational64 → Evaluation
 commonRatio x y p q = cond (sameFraction p q) (rationalValue p) (approximateQuotient x y)
 
@@ -120,7 +128,7 @@ valueQuotient x y =
     (cond (isZero (x .a)) (orOverflow (quotient (x .b) (y .b)) rationalValue) (approximateQuotient x y))
     (orOverflow (quotient (x .a) (y .a)) (λ p. orOverflow (quotient (x .b) (y .b)) (λ q. commonRatio x y p q))))
 
--- "With root 1, or where the power so far is 1, no root is taken. Else a root above 2^32-1, a negative or an inexact root ends in 13." None is 13.
+-- "With root 1, or where the power so far is 1, no root is taken. Else a root above 2^32-1, a negative or an inexact root ends in 13." A root that is missing is refusal 13.
 unfoldable pub extractRoot : ℕ → Rational64 → OptionRational64
 extractRoot k x = cond (eqb k 1 || sameFraction x one) (Some x) (cond (ltb k (2 ^ 32)) (rationalRoot k x) None)
 
@@ -128,6 +136,7 @@ extractRoot k x = cond (eqb k 1 || sameFraction x one) (Some x) (cond (ltb k (2 
 abbrev pub inverted : Bool → Rational64 → Evaluation
 inverted negative r = cond negative (cond (isZero r) evaluation.DivideByZero (rationalValue (reciprocal r))) (rationalValue r)
 
+-- What is made of a root, or a function of floats where there is none: refusal 13.
 abbrev pub orFunctionOfFloats : OptionRational64 → (Rational64 → Evaluation) → Evaluation
 orFunctionOfFloats (Some r) make = make r
 orFunctionOfFloats None make = evaluation.FunctionOfFloats
@@ -152,7 +161,7 @@ sineTable f =
     (cond (sameFraction f (ratio false 7 6) || sameFraction f (ratio false 11 6)) (rationalValue (ratio true 1 2))
     (cond (sameFraction f (ratio false 3 2)) (rationalValue (ratio true 1 1)) evaluation.FunctionOfFloats))))
 
--- "add 2 if negative": "The adding of 2 is a sum as above."
+-- The fraction from 0 to below 2: "add 2 if negative", and "The adding of 2 is a sum as above."
 abbrev pub wrapped : Rational64 → OptionRational64
 wrapped f = cond (f .negative) (fractionSum f two) (Some f)
 
@@ -160,6 +169,7 @@ wrapped f = cond (f .negative) (fractionSum f two) (Some f)
 unfoldable pub turn : Rational64 → OptionRational64
 turn b = andThenOption (quotient b two) (λ h. andThenOption (product (fractionalPart h) two) wrapped)
 
+-- The sine of an angle that is a multiple of pi; any other one goes to an f32 function.
 unfoldable pub sine : Value → Evaluation
 sine x = cond (isZero (x .a)) (orOverflow (turn (x .b)) sineTable) evaluation.FunctionOfFloats
 
@@ -175,5 +185,6 @@ tangent x = andThen (sine x) (λ s. andThen (cosine x) (λ c. valueQuotient s c)
 unfoldable pub exponential : Value → Evaluation
 exponential x = evaluation.FunctionOfFloats
 
+-- The logarithm always goes to an f32 function.
 unfoldable pub logarithm : Value → Evaluation
 logarithm x = evaluation.FunctionOfFloats

@@ -1,4 +1,4 @@
-// Angles a + b·pi: value.rs.
+// Angles a + b·pi with their arithmetic, after the Rust's value.rs.
 use rational::OptionRational64;
 use rational::Rational64;
 ghost use mathlib.Core.Path.{_≡_};
@@ -24,6 +24,7 @@ pub enum Evaluation {
     FunctionOfFloats,
 }
 
+// The fraction 0.
 fn rational_zero() -> Rational64
     ensures { λ r. ⌜ (r ≡ zeroFraction) × LowestTerms r ⌝ }
 {
@@ -34,6 +35,7 @@ fn rational_zero() -> Rational64
     }
 }
 
+// The fraction 2.
 fn rational_two() -> Rational64
     ensures { λ r. ⌜ (r ≡ two) × LowestTerms r ⌝ }
 {
@@ -44,6 +46,7 @@ fn rational_two() -> Rational64
     }
 }
 
+// The fraction that stands for pi².
 fn pi_squared() -> OptionRational64
     ensures { λ r. ⌜ ChecksTo (Some piSquared) r ⌝ }
 {
@@ -54,7 +57,7 @@ fn pi_squared() -> OptionRational64
     })
 }
 
-// A rational angle.
+// The angle x, with no part of pi.
 fn rational_value(x: Rational64) -> Evaluation
     ensures { λ r. ⌜ r ≡ rationalValue x ⌝ }
 {
@@ -62,7 +65,7 @@ fn rational_value(x: Rational64) -> Evaluation
     Evaluation::Value(Value { a: x, b: z })
 }
 
-// A rational angle, or the overflow.
+// The angle of a fraction, or overflow where there is none.
 fn rational_or_overflow(x: OptionRational64) -> Evaluation
     ensures { λ r. ⌜ r ≡ orOverflow x rationalValue ⌝ }
 {
@@ -72,7 +75,7 @@ fn rational_or_overflow(x: OptionRational64) -> Evaluation
     rational_value(a)
 }
 
-// Both parts, or the overflow.
+// The angle of both parts, or overflow where one of them is missing.
 fn parts_or_overflow(a: OptionRational64, b: OptionRational64) -> Evaluation
     ensures { λ r. ⌜ r ≡ partsOrOverflow a b ⌝ }
 {
@@ -85,7 +88,7 @@ fn parts_or_overflow(a: OptionRational64, b: OptionRational64) -> Evaluation
     Evaluation::Value(Value { a: x, b: y })
 }
 
-// The common ratio, or one division of floats.
+// The ratio p of two angles where it is also q, and otherwise one division of floats.
 fn common_ratio(p: OptionRational64, q: OptionRational64, x: Value, y: Value) -> Evaluation
     requires { ⌜ Sound x × Sound y ⌝ }
     ensures { λ r. ⌜ r ≡ orOverflow p (λ f. orOverflow q (λ g. commonRatio x y f g)) ⌝ }
@@ -102,7 +105,7 @@ fn common_ratio(p: OptionRational64, q: OptionRational64, x: Value, y: Value) ->
     x.approximate_div(y)
 }
 
-// The root of a power, where one is to be taken.
+// The k-th root of a power. No root is taken with index 1, or of 1.
 fn extract_root(x: Rational64, k: u64) -> OptionRational64
     requires { ⌜ LowestTerms x × (0 < k) ⌝ }
     ensures { λ r. ⌜ ChecksTo (extractRoot k x) r ⌝ }
@@ -119,7 +122,7 @@ fn extract_root(x: Rational64, k: u64) -> OptionRational64
     OptionRational64::None
 }
 
-// A negative exponent inverts.
+// The angle of a power, which a negative exponent inverts.
 fn inverted_if_negative(negative: bool, r: Rational64) -> Evaluation
     requires { ⌜ LowestTerms r ⌝ }
     ensures { λ r0. ⌜ r0 ≡ inverted negative r ⌝ }
@@ -133,7 +136,7 @@ fn inverted_if_negative(negative: bool, r: Rational64) -> Evaluation
     rational_value(r)
 }
 
-// The k-th root of a power, inverted for a negative exponent.
+// The angle of the k-th root of a power, which a negative exponent inverts.
 fn root_of_power(p: OptionRational64, k: u64, negative: bool) -> Evaluation
     requires { ⌜ SoundOption p × (0 < k) ⌝ }
     ensures { λ r. ⌜ r ≡ orOverflow p (λ x. orFunctionOfFloats (extractRoot k x) (inverted negative)) ⌝ }
@@ -148,7 +151,7 @@ fn root_of_power(p: OptionRational64, k: u64, negative: bool) -> Evaluation
     inverted_if_negative(negative, r)
 }
 
-// A rational root, or a function of floats.
+// The angle of a root, or a function of floats where there is none.
 fn rational_or_function_of_floats(root: OptionRational64) -> Evaluation
     ensures { λ r. ⌜ r ≡ orFunctionOfFloats root rationalValue ⌝ }
 {
@@ -158,6 +161,7 @@ fn rational_or_function_of_floats(root: OptionRational64) -> Evaluation
     rational_value(x)
 }
 
+// Whether x is n/d.
 fn is_ratio(x: Rational64, n: u64, d: u64) -> bool
     ensures { λ r. ⌜ r ≡ sameFraction x (ratio false n d) ⌝ }
 {
@@ -178,7 +182,7 @@ fn is_either_sixth(x: Rational64, m: u64, n: u64) -> bool
     is_ratio(x, n, 6)
 }
 
-// ±n/d as an angle.
+// The angle ±n/d.
 fn ratio_value(negative: bool, n: u64, d: u64) -> Evaluation
     ensures { λ r. ⌜ r ≡ rationalValue (record { negative = negative; numer = n; denom = d }) ⌝ }
 {
@@ -230,6 +234,7 @@ fn without_whole_turns(b: Rational64) -> OptionRational64
     OptionRational64::Some(f)
 }
 
+// The sine of f·pi from the source's list, or overflow where f is missing.
 fn sine_table_or_overflow(t: OptionRational64) -> Evaluation
     ensures { λ r. ⌜ r ≡ orOverflow t sineTable ⌝ }
 {
@@ -239,7 +244,7 @@ fn sine_table_or_overflow(t: OptionRational64) -> Evaluation
     sine_table(f)
 }
 
-// The sine of a result.
+// The sine of an angle, or the refusal.
 fn sine_of_evaluation(x: Evaluation) -> Evaluation
     requires { ⌜ SoundEvaluation x ⌝ }
     ensures { λ r. ⌜ r ≡ andThen x sine ⌝ }
@@ -253,7 +258,7 @@ fn sine_of_evaluation(x: Evaluation) -> Evaluation
     }
 }
 
-// A value divided by a result.
+// The quotient by an angle, or the refusal.
 fn divided_by_evaluation(s: Value, y: Evaluation) -> Evaluation
     requires { ⌜ Sound s × SoundEvaluation y ⌝ }
     ensures { λ r. ⌜ r ≡ andThen y (λ c. valueQuotient s c) ⌝ }
@@ -267,7 +272,7 @@ fn divided_by_evaluation(s: Value, y: Evaluation) -> Evaluation
     }
 }
 
-// The quotient of two results.
+// The quotient of two angles, or the first refusal.
 fn quotient_of_evaluations(x: Evaluation, y: Evaluation) -> Evaluation
     requires { ⌜ SoundEvaluation x × SoundEvaluation y ⌝ }
     ensures { λ r. ⌜ r ≡ andThen x (λ s. andThen y (λ c. valueQuotient s c)) ⌝ }
@@ -390,7 +395,7 @@ impl Value {
         })
     }
 
-    // One division of floats, made a fraction.
+    // The quotient by one division of floats, made a fraction.
     fn approximate_div(self, y: Value) -> Evaluation
         requires { ⌜ Sound self × Sound y ⌝ }
         ensures { λ r. ⌜ EvaluatesTo (approximateQuotient self y) r ⌝ }

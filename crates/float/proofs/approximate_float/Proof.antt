@@ -1,3 +1,4 @@
+-- `approximate_float` gives the exact value of a finite f32: the fields of its bits are that value.
 use mathlib.Core.Path.{_≡_, sym, ap, _∙_, subst}
 use mathlib.Core.Bool.{Bool, true}
 use lib.Dec.{T}

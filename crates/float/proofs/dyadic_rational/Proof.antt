@@ -1,3 +1,4 @@
+-- `dyadic_rational` gives the reduced fraction: each turn of its loop halves the numerator and doubles the power of 2 beside it.
 use mathlib.Core.Logic.{⊎-elim}
 use borrow.Author.Tests.{eqb-true, eqb-false}
 use Rattle.float.proofs.PowerOfTwoLaws.{halved}

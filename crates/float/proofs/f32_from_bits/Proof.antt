@@ -1,3 +1,4 @@
+-- `f32_from_bits` gives the f32 of some bits, and zero divided by zero for those of a NaN.
 use mathlib.Core.Path.{sym, _∙_}
 use lib.Arith.{le→nltb}
 use lib.Ieee.{binary32}

@@ -1,3 +1,4 @@
+-- `f32_to_bits` gives the bits of an f32, and those of the one NaN for every NaN.
 use mathlib.Core.Path.{sym, ap}
 use Rattle.float.specs.Float.{floatBits}
 use Rattle.float.proofs.NanLaws.{is-nan, no-nan, bits-is}

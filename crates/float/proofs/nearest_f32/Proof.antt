@@ -1,3 +1,4 @@
+-- `nearest_f32` gives the f32 nearest to a whole number: its loop finds how many binary digits must go, and the rest is rounded.
 use lib.Dec.{le→leb}
 use lib.Ieee.{inFloat}
 use lib.Ieee.Nearest.{closest}
@@ -49,7 +50,7 @@ loop-again c =
 closest-whole-requires : tie.Need-closest-whole-requires Inv-loop μ-loop
 closest-whole-requires c κs = omega (arith, small-power _ _ (c .before .loop .inv .0) (c .before .loop .inv .1 .0))
 
--- what is known once the digits are rounded
+-- What is known once the digits are rounded.
 module _ (c : tie.After-closest-whole Inv-loop μ-loop) where
   got : c .closest-whole .result ≡ closest (c .before .before .before .before .args .n) (2 ^ c .before .before .loop .k)
   got = c .closest-whole .ensures ∙ ap (closest (c .before .before .before .before .args .n)) (c .before .before .loop .inv .0)

@@ -1,3 +1,4 @@
+-- `ratio_f32` gives the quotient of the two nearest f32, with the sign on the numerator.
 use mathlib.Core.Path.{ap}
 use lib.IntN.{pos}
 use lib.Ieee.{Float, binary32, div, ofInt}

@@ -1,3 +1,4 @@
+-- `capped_mul` gives the product capped at the limit, and no product of its own wraps.
 use native.Mathlib.Omega.{arith}
 use Rattle.rational.proofs.CappedLaws.{zero-times, short-factors, product-within, product-beyond}
 use borrow.Author.Needs.{needs}

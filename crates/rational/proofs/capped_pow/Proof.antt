@@ -1,3 +1,4 @@
+-- `capped_pow` gives the power capped at the limit: after i turns of its loop it holds the capped i-th power.
 use borrow.Author.Needs.{needs}
 use mathlib.Core.Path.{_≡_, refl, _∙_}
 use Prim.Native.Nat.{_-_, _^_, _≤_, min}

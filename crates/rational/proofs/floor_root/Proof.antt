@@ -1,3 +1,4 @@
+-- `floor_root` gives `root`: the root stays between the two ends of an interval that its loop halves.
 use borrow.Author.Needs.{needs}
 use mathlib.Core.Path.{_≡_, subst}
 use Prim.Native.Nat.{ℕ, _+_, _-_, _^_, _≤_, _<_}

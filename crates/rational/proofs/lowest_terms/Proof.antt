@@ -1,3 +1,4 @@
+-- `lowest_terms` gives `reduced`, and never divides by 0.
 use Rattle.rational.proofs.GcdLaws.{gcd-pos}
 use borrow.Author.Needs.{needs}
 use Rattle.rational.proofs.lowest_terms.Statement.{statement}

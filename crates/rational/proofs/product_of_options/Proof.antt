@@ -1,3 +1,4 @@
+-- `product_of_options` gives the product of two fractions, and nothing where one of them is absent.
 use Rattle.rational.specs.Rational.{product}
 use Rattle.rational.proofs.LowestTermsLaws.{checks-to-both}
 use borrow.Author.Needs.{needs}

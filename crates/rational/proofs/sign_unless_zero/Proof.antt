@@ -1,3 +1,4 @@
+-- `sign_unless_zero` keeps a sign exactly for a number that is not 0.
 use borrow.Author.Needs.{needs}
 use Rattle.rational.proofs.sign_unless_zero.Statement.{statement}
 use Rattle.rational.proofs.sign_unless_zero.Tie as tie

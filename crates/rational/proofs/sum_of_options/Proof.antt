@@ -1,3 +1,4 @@
+-- `sum_of_options` gives the sum of two fractions, and nothing where one of them is absent.
 use Rattle.rational.specs.Rational.{fractionSum}
 use Rattle.rational.proofs.LowestTermsLaws.{checks-to-both}
 use borrow.Author.Needs.{needs}

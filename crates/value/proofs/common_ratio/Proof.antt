@@ -1,3 +1,4 @@
+-- `common_ratio` gives the ratio that both parts have in common, one division of floats where they have none, and overflow where one ratio is absent.
 use mathlib.Core.Path.{_∙_, sym}
 use borrow.Author.Needs.{needs}
 use Rattle.value.proofs.common_ratio.Statement.{statement}

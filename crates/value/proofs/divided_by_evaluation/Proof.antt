@@ -1,3 +1,4 @@
+-- `divided_by_evaluation` gives the quotient by an angle, and hands on a refusal.
 use mathlib.Core.Path.{_∙_, sym}
 use borrow.Author.Needs.{needs}
 use Rattle.value.proofs.divided_by_evaluation.Statement.{statement}

@@ -1,3 +1,4 @@
+-- `extract_root` gives `extractRoot`: no root is taken of 1 or with index 1, and none is there for a large index.
 use mathlib.Core.Path.{_∙_, sym}
 use borrow.Author.Tests.{eq-eqb, le-ltb, lt-ltb, ne-eqb}
 use Rattle.value.specs.Value.{extractRoot}

@@ -1,3 +1,4 @@
+-- `inverted_if_negative` gives `inverted`: the reciprocal for a negative exponent, and a division by zero where it has none.
 use mathlib.Core.Path.{_∙_, sym}
 use borrow.Author.Tests.{eq-eqb, ne-eqb}
 use borrow.Author.Needs.{needs}

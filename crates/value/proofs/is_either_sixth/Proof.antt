@@ -1,3 +1,4 @@
+-- `is_either_sixth` says whether a fraction is one of two sixths.
 use mathlib.Core.Path.{_∙_, sym}
 use borrow.Author.Needs.{needs}
 use Rattle.value.proofs.is_either_sixth.Statement.{statement}

@@ -1,3 +1,4 @@
+-- `parts_or_overflow` gives the angle of two fractions, and overflow where one of them is absent.
 use mathlib.Core.Path.{sym}
 use borrow.Author.Needs.{needs}
 use Rattle.value.proofs.parts_or_overflow.Statement.{statement}

@@ -1,3 +1,4 @@
+-- `pi_squared` gives the fraction for pi², which is in lowest terms.
 use Rattle.value.proofs.SoundLaws.{pi-squared-lowest}
 use mathlib.Core.Path.{refl}
 use Rattle.value.proofs.pi_squared.Statement.{statement}

@@ -1,3 +1,4 @@
+-- `quotient_of_evaluations` gives the quotient of two angles, and hands on the first refusal.
 use mathlib.Core.Path.{_∙_, sym}
 use borrow.Author.Needs.{needs}
 use Rattle.value.proofs.quotient_of_evaluations.Statement.{statement}

@@ -1,3 +1,4 @@
+-- `rational_or_function_of_floats` gives the angle of a root, and a function of floats where it is absent.
 use mathlib.Core.Path.{_∙_, sym}
 use borrow.Author.Needs.{needs}
 use Rattle.value.proofs.rational_or_function_of_floats.Statement.{statement}

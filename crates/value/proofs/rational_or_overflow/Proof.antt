@@ -1,3 +1,4 @@
+-- `rational_or_overflow` gives the angle of a fraction, and overflow where it is absent.
 use mathlib.Core.Path.{_∙_, sym}
 use borrow.Author.Needs.{needs}
 use Rattle.value.proofs.rational_or_overflow.Statement.{statement}

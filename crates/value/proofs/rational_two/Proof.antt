@@ -1,3 +1,4 @@
+-- `rational_two` gives the fraction 2/1, which is in lowest terms.
 use mathlib.Core.Path.{refl}
 use Rattle.value.proofs.SoundLaws.{two-lowest}
 use Rattle.value.proofs.rational_two.Statement.{statement}

@@ -1,3 +1,4 @@
+-- `rational_value` gives the angle of a fraction, with no part of pi.
 use borrow.Author.Needs.{needs}
 use Rattle.value.proofs.rational_value.Statement.{statement}
 use Rattle.value.proofs.rational_value.Tie as tie

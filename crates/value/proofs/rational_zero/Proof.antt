@@ -1,3 +1,4 @@
+-- `rational_zero` gives the fraction 0/1, which is in lowest terms.
 use mathlib.Core.Path.{refl}
 use Rattle.value.proofs.SoundLaws.{zero-lowest}
 use Rattle.value.proofs.rational_zero.Statement.{statement}

@@ -1,3 +1,4 @@
+-- `root_of_power` gives the root of a power, inverted for a negative exponent: a power that is absent is an overflow, a root that is absent a function of floats.
 use mathlib.Core.Path.{_∙_, sym}
 use borrow.Author.Needs.{needs}
 use Rattle.value.proofs.root_of_power.Statement.{statement}

@@ -1,3 +1,4 @@
+-- `sine_of_evaluation` gives the sine of an angle, and hands on a refusal.
 use mathlib.Core.Path.{_∙_, sym}
 use borrow.Author.Needs.{needs}
 use Rattle.value.proofs.sine_of_evaluation.Statement.{statement}

@@ -1,3 +1,4 @@
+-- `sine_table` gives `sineTable`: its tests are the definition's, in the same order.
 use mathlib.Core.Path.{_∙_, sym}
 use Rattle.value.specs.Value.{sineTable}
 use borrow.Author.Needs.{needs}

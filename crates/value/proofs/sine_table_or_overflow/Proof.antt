@@ -1,3 +1,4 @@
+-- `sine_table_or_overflow` gives the table's entry for a fraction, and overflow where it is absent.
 use mathlib.Core.Path.{_∙_, sym}
 use borrow.Author.Needs.{needs}
 use Rattle.value.proofs.sine_table_or_overflow.Statement.{statement}

@@ -1,3 +1,4 @@
+-- `without_whole_turns` gives `turn`: it halves, drops the whole part, doubles, and adds 2 to what is negative.
 use lib.Dec.{lit<}
 use Rattle.value.proofs.TurnLaws.{turn-negative, turn-positive, turn-undoubled, turn-unhalved}
 use Rattle.value.proofs.SoundLaws.{two-lowest}

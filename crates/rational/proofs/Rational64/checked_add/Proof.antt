@@ -1,3 +1,4 @@
+-- `Rational64::checked_add` gives `fractionSum`: its steps are the definition's, each capped at the limit before the next.
 use native.Mathlib.Omega.{arith}
 use mathlib.Core.Path.{sym, ap, _∙_}
 use Rattle.rational.specs.declared.OptionRational64.the-variants.{Some}

@@ -1,3 +1,4 @@
+-- `Rational64::checked_mul` gives `product`: numerators and denominators that are reduced crosswise are those of the reduced product.
 use mathlib.Core.Path.{_∙_}
 use Rattle.rational.proofs.GcdLaws.{gcd-pos}
 use Rattle.rational.proofs.ProductLaws.{product-is}

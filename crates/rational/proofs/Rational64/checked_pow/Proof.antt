@@ -1,3 +1,4 @@
+-- `Rational64::checked_pow` gives `power`: powers of coprime numbers are coprime, so that nothing is left to reduce.
 use mathlib.Core.Path.{_∙_}
 use Rattle.rational.proofs.PowerLaws.{power-is}
 use Rattle.rational.proofs.LowestTermsLaws.{checks-to, power-sound}

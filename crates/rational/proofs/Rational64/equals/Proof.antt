@@ -1,3 +1,4 @@
+-- `Rational64::equals` compares sign, numerator and denominator, as `sameFraction` does.
 use mathlib.Core.Path.{sym, _∙_}
 use borrow.Author.Tests.{eq-eqb, ne-eqb}
 use borrow.Author.Needs.{needs}

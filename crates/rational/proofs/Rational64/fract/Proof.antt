@@ -1,3 +1,4 @@
+-- `Rational64::fract` gives `fractionalPart`, which is in lowest terms.
 use mathlib.Core.Path.{refl}
 use Rattle.rational.proofs.LowestTermsLaws.{fractional-part-lowest}
 use borrow.Author.Needs.{needs}

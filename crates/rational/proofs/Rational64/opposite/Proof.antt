@@ -1,3 +1,4 @@
+-- `Rational64::opposite` gives the fraction with the other sign, in lowest terms.
 use mathlib.Core.Path.{refl}
 use Rattle.rational.proofs.LowestTermsLaws.{opposite-lowest}
 use borrow.Author.Needs.{needs}

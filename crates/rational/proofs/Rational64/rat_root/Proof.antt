@@ -1,3 +1,4 @@
+-- `Rational64::rat_root` gives `rationalRoot`: it is absent for a negative fraction, and otherwise the ratio of the two whole roots.
 use mathlib.Core.Path.{sym, _∙_}
 use native.Mathlib.Omega.{arith}
 use Rattle.rational.specs.Rational.{rationalRoot}

@@ -1,3 +1,4 @@
+-- `Value::checked_add` gives `valueSum`: the sum of both parts.
 use mathlib.Core.Path.{_∙_}
 use Rattle.value.proofs.SoundLaws.{evaluates-to, sum-sound-value}
 use Rattle.value.specs.Value.{valueSum}

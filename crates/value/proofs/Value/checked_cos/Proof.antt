@@ -1,3 +1,4 @@
+-- `Value::checked_cos` gives `cosine`: the sine of the angle with pi/2 added.
 use mathlib.Core.Path.{_∙_}
 use Rattle.value.specs.Value.{cosine}
 use Rattle.value.proofs.SoundLaws.{cosine-sound, evaluates-to}

@@ -1,3 +1,4 @@
+-- `Value::checked_div` gives `valueQuotient`: each of its five ways is the definition's for the parts that are 0.
 use mathlib.Core.Path.{_∙_, sym}
 use borrow.Author.Tests.{eq-eqb, ne-eqb}
 use Rattle.value.proofs.SoundLaws.{evaluates-to, quotient-sound-value}

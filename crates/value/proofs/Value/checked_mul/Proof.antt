@@ -1,3 +1,4 @@
+-- `Value::checked_mul` gives `valueProduct`: its products and sums are the definition's, an overflow handed on.
 use mathlib.Core.Path.{_∙_}
 use Rattle.value.proofs.SoundLaws.{evaluates-to, product-sound-value}
 use Rattle.value.specs.Value.{valueProduct}

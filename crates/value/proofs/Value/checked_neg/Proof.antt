@@ -1,3 +1,4 @@
+-- `Value::checked_neg` gives `negation`: the product with -1.
 use mathlib.Core.Path.{_∙_}
 use Rattle.value.proofs.SoundLaws.{evaluates-to, negation-sound, one-lowest, zero-lowest}
 use Rattle.value.specs.Value.{negation}

@@ -1,3 +1,4 @@
+-- `Value::checked_pow` gives `valuePower`: the root of a power where both angles are rational.
 use mathlib.Core.Path.{_∙_, sym}
 use borrow.Author.Tests.{eq-eqb, ne-eqb}
 use Rattle.value.proofs.SoundLaws.{evaluates-to, power-sound-value}

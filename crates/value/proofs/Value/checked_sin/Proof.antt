@@ -1,3 +1,4 @@
+-- `Value::checked_sin` gives `sine`: the table's entry for the part of pi without whole turns.
 use mathlib.Core.Path.{_∙_, sym}
 use borrow.Author.Tests.{eq-eqb, ne-eqb}
 use Rattle.value.proofs.SoundLaws.{evaluates-to, sine-sound}

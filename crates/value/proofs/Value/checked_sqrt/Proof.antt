@@ -1,3 +1,4 @@
+-- `Value::checked_sqrt` gives `squareRoot`: the rational root of a rational angle.
 use mathlib.Core.Path.{_∙_, sym}
 use borrow.Author.Tests.{eq-eqb, ne-eqb}
 use Rattle.value.proofs.SoundLaws.{evaluates-to, square-root-sound}

@@ -1,3 +1,4 @@
+-- `Value::checked_sub` gives `valueDifference`: the difference of both parts.
 use mathlib.Core.Path.{_∙_}
 use Rattle.value.proofs.SoundLaws.{difference-sound-value, evaluates-to}
 use Rattle.value.specs.Value.{valueDifference}

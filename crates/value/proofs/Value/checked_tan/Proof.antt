@@ -1,3 +1,4 @@
+-- `Value::checked_tan` gives `tangent`: the sine divided by the cosine, the sine worked out first.
 use mathlib.Core.Path.{_∙_}
 use Rattle.value.proofs.SoundLaws.{evaluates-to, tangent-sound}
 use Rattle.value.specs.Value.{tangent}

@@ -1,3 +1,4 @@
+-- `Value::from_float` gives `fromFloat`: the exact value of an f32 as a rational angle.
 use lib.Dec.{T}
 use mathlib.Core.Path.{_∙_, subst, sym}
 use Rattle.value.proofs.SoundLaws.{evaluates-to, from-float-sound}

@@ -1,3 +1,4 @@
+-- `Value::half_pi` gives the angle pi/2.
 use Rattle.value.proofs.SoundLaws.{half-lowest, zero-lowest}
 use mathlib.Core.Path.{refl}
 use borrow.Author.Needs.{needs}

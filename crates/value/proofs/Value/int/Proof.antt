@@ -1,3 +1,4 @@
+-- `Value::int` gives `integer`: a whole number as a rational angle, if it is in range.
 use mathlib.Core.Path.{_∙_, sym}
 use Rattle.value.proofs.SoundLaws.{evaluates-to, integer-sound}
 use Rattle.value.specs.Value.{integer}

@@ -1,3 +1,4 @@
+-- `Value::pi` gives the angle pi.
 use Rattle.value.proofs.SoundLaws.{one-lowest, zero-lowest}
 use mathlib.Core.Path.{refl}
 use borrow.Author.Needs.{needs}
