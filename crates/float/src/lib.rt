@@ -1,4 +1,5 @@
 // Whole numbers and fractions as f32, and f32 as fractions and as bits.
+use rational::MAGNITUDE_LIMIT;
 use rational::OptionRational64;
 use rational::Rational64;
 ghost use mathlib.Core.Path.{_≡_};
@@ -10,6 +11,30 @@ ghost use lib.Ieee.Nearest.{closest};
 ghost use Rattle.rational.specs.Rational.{LowestTerms, reduced, checked};
 ghost use Rattle.rational.specs.Promise.{ChecksTo};
 ghost use Rattle.float.specs.Float.{approximateFloat, floatBits, ratioFloat};
+
+// 2^24, the first whole number that has more binary digits than a significand.
+const SIGNIFICAND_LIMIT: u64 = 0x100_0000;
+
+// 2^23, the first digit of a significand. The bits of an f32 leave it out and have the exponent from there on.
+const HIDDEN_BIT: u64 = 0x80_0000;
+
+// 2^31, the bit of the sign.
+const SIGN_BIT: u64 = 0x8000_0000;
+
+// The exponent of an infinity and of a NaN: eight ones.
+const LARGEST_EXPONENT: u64 = 255;
+
+// The smallest f32 above 0 is 1/2^149.
+const SMALLEST_SHIFT: u64 = 149;
+
+// The bits of infinity. Larger ones, the sign left out, are those of a NaN.
+const INFINITY_BITS: u64 = 0x7f80_0000;
+
+// The bits that stand for every NaN.
+const NAN_BITS: u32 = 0x7fc0_0000;
+
+// 2^63 is the limit of a magnitude.
+const MAGNITUDE_BITS: u64 = 63;
 
 // The whole number nearest to n/u, and in the middle the even one.
 fn closest_whole(n: u64, u: u64) -> u64
@@ -31,17 +56,17 @@ fn closest_whole(n: u64, u: u64) -> u64
 pub fn nearest_f32(n: u64) -> f32
     ensures { λ r. ⌜ r ≡ Ieee.ofInt binary32 (pos n) ⌝ }
 {
-    if n < 16777216 {
+    if n < SIGNIFICAND_LIMIT {
         return n as f32;
     }
     let mut u = 1u64;
     let mut k = 0u64;
-    while 16777216 <= n / u {
+    while SIGNIFICAND_LIMIT <= n / u {
         u = u * 2;
         k += 1;
     }
     let m = closest_whole(n, u);
-    f32::from_bits(((k + 149) * 8388608 + m) as u32)
+    f32::from_bits(((k + SMALLEST_SHIFT) * HIDDEN_BIT + m) as u32)
 }
 
 // The bits of x. Every NaN has the same ones.
@@ -49,7 +74,7 @@ pub fn f32_to_bits(x: f32) -> u32
     ensures { λ r. ⌜ r ≡ floatBits x ⌝ }
 {
     if x != x {
-        return 0x7fc0_0000;
+        return NAN_BITS;
     }
     f32::to_bits(x)
 }
@@ -59,7 +84,7 @@ pub fn f32_from_bits(word: u64) -> f32
     requires { ⌜ word < 2 ^ 32 ⌝ }
     ensures { λ r. ⌜ r ≡ Ieee.ofBits binary32 word ⌝ }
 {
-    if word % 0x8000_0000 > 0x7f80_0000 {
+    if word % SIGN_BIT > INFINITY_BITS {
         return 0.0 / 0.0;
     }
     f32::from_bits(word as u32)
@@ -69,10 +94,10 @@ pub fn f32_from_bits(word: u64) -> f32
 fn capped_power_of_two(e: u64) -> u64
     ensures { λ r. ⌜ r ≡ min (2 ^ e) (2 ^ 63) ⌝ }
 {
-    if e < 63 {
+    if e < MAGNITUDE_BITS {
         1 << e
     } else {
-        0x8000_0000_0000_0000
+        MAGNITUDE_LIMIT
     }
 }
 
@@ -83,12 +108,12 @@ fn dyadic_rational(negative: bool, q: u64, k: u64) -> OptionRational64
 {
     let mut m = q;
     let mut j = k;
-    while j < 149 && m % 2 == 0 {
+    while j < SMALLEST_SHIFT && m % 2 == 0 {
         m = m / 2;
         j += 1;
     }
-    if 149 <= j {
-        let n = rational::capped_mul(m, capped_power_of_two(j - 149));
+    if SMALLEST_SHIFT <= j {
+        let n = rational::capped_mul(m, capped_power_of_two(j - SMALLEST_SHIFT));
         return rational::range_checked(Rational64 {
             negative: rational::sign_unless_zero(negative, n),
             numer: n,
@@ -98,7 +123,7 @@ fn dyadic_rational(negative: bool, q: u64, k: u64) -> OptionRational64
     rational::range_checked(Rational64 {
         negative: rational::sign_unless_zero(negative, m),
         numer: m,
-        denom: capped_power_of_two(149 - j),
+        denom: capped_power_of_two(SMALLEST_SHIFT - j),
     })
 }
 
@@ -110,16 +135,16 @@ pub fn approximate_float(x: f32) -> OptionRational64
         return OptionRational64::None;
     }
     let b = f32::to_bits(x) as u64;
-    let negative = 0x8000_0000 <= b;
-    let field = b % 0x8000_0000 / 0x80_0000;
-    let t = b % 0x80_0000;
-    if field == 0 {
+    let negative = SIGN_BIT <= b;
+    let exponent = b % SIGN_BIT / HIDDEN_BIT;
+    let t = b % HIDDEN_BIT;
+    if exponent == 0 {
         return dyadic_rational(negative, t, 0);
     }
-    if field == 255 {
+    if exponent == LARGEST_EXPONENT {
         return OptionRational64::None;
     }
-    dyadic_rational(negative, 0x80_0000 + t, field - 1)
+    dyadic_rational(negative, HIDDEN_BIT + t, exponent - 1)
 }
 
 // The f32 of a fraction: numerator and denominator are each rounded to the nearest f32, and divided once.

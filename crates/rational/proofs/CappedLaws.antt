@@ -9,8 +9,8 @@ use native.Mathlib.Omega.{arith}
 pub zero-times : (a b H : ℕ) → a ≡ 0 → 0 ≡ min (a * b) H
 zero-times a b H e = rw (e, zero-mul) (omega arith)
 
-pub short-factors : (a b : ℕ) → a < 4294967296 → b < 2147483648 → a * b < 2 ^ 63
-short-factors a b h l = let p : b * a ≤ b * 4294967296 = mul-le-mul-left b (omega arith) in omega (arith, mul-comm a b)
+pub short-factors : (a b : ℕ) → a < 2 ^ 32 → b < 2 ^ 31 → a * b < 2 ^ 63
+short-factors a b h l = let p : b * a ≤ b * 2 ^ 32 = mul-le-mul-left b (omega arith) in omega (arith, mul-comm a b)
 
 pub product-within : (a b H : ℕ) → 0 < a → b ≤ H / a → a * b ≤ H
 product-within a b H p h = omega (arith, le-div-iff-mul-le p .0 h)

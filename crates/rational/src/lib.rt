@@ -29,6 +29,12 @@ pub enum WholeRoot {
 // 2^63, the first magnitude out of range. A step that passes it is capped at it, and the range is tested once at the end.
 pub const MAGNITUDE_LIMIT: u64 = 0x8000_0000_0000_0000;
 
+// 2^32. The square root of a magnitude in range is below it, and so is every further root.
+const ROOT_LIMIT: u64 = 0x1_0000_0000;
+
+// 2^31. A number below it times a number below 2^32 is in range.
+const SHORT_FACTOR_LIMIT: u64 = MAGNITUDE_LIMIT / ROOT_LIMIT;
+
 // The greatest common divisor, by Euclid's steps.
 pub fn gcd(a: u64, b: u64) -> u64
     ensures { λ r. ⌜ r ≡ gcd a b ⌝ }
@@ -48,8 +54,8 @@ pub fn capped_mul(a: u64, b: u64) -> u64
     ensures { λ r. ⌜ r ≡ min (a * b) (2 ^ 63) ⌝ }
 {
     // Short factors, as most are, need no division.
-    if a < 0x1_0000_0000 {
-        if b < 0x8000_0000 {
+    if a < ROOT_LIMIT {
+        if b < SHORT_FACTOR_LIMIT {
             return a * b;
         }
     }
@@ -92,10 +98,10 @@ pub fn signs_differ(s: bool, t: bool) -> bool
 }
 
 // The sign of ±n. Zero has none.
-pub fn sign_unless_zero(s: bool, n: u64) -> bool
-    ensures { λ r. ⌜ r ≡ (s && ltb 0 n) ⌝ }
+pub fn sign_unless_zero(negative: bool, n: u64) -> bool
+    ensures { λ r. ⌜ r ≡ (negative && ltb 0 n) ⌝ }
 {
-    if s { 0 < n } else { false }
+    if negative { 0 < n } else { false }
 }
 
 // The fraction, if it is in range.
@@ -110,15 +116,15 @@ pub fn range_checked(x: Rational64) -> OptionRational64
     OptionRational64::None
 }
 
-// n/d in lowest terms.
-fn lowest_terms(s: bool, n: u64, d: u64) -> Rational64
+// ±n/d in lowest terms.
+fn lowest_terms(negative: bool, n: u64, d: u64) -> Rational64
     requires { ⌜ 0 < d ⌝ }
-    ensures { λ r. ⌜ r ≡ reduced s n d ⌝ }
+    ensures { λ r. ⌜ r ≡ reduced negative n d ⌝ }
 {
     let g = gcd(n, d);
     let k = n / g;
     Rational64 {
-        negative: sign_unless_zero(s, k),
+        negative: sign_unless_zero(negative, k),
         numer: k,
         denom: d / g,
     }
@@ -134,11 +140,11 @@ fn common_denominator(b: u64, d: u64) -> u64
 }
 
 // The magnitude of a sum, capped at the limit: p + q, or how far p and q are apart where the signs differ.
-fn sum_magnitude(u: bool, p: u64, q: u64) -> u64
+fn sum_magnitude(differ: bool, p: u64, q: u64) -> u64
     requires { ⌜ (p ≤ 2 ^ 63) × (q ≤ 2 ^ 63) ⌝ }
-    ensures { λ r. ⌜ r ≡ min (sumMagnitude u p q) (2 ^ 63) ⌝ }
+    ensures { λ r. ⌜ r ≡ min (sumMagnitude differ p q) (2 ^ 63) ⌝ }
 {
-    if u {
+    if differ {
         if p < q {
             return q - p;
         }
@@ -177,7 +183,7 @@ fn floor_root(n: u64, k: u64) -> u64
     ensures { λ r. ⌜ r ≡ root k n ⌝ }
 {
     let mut lo = 0u64;
-    let mut hi = 0x1_0000_0000u64;
+    let mut hi = ROOT_LIMIT;
     while lo + 1 < hi {
         let mid = (lo + hi) / 2;
         if capped_pow(mid, k) <= n {
@@ -219,10 +225,10 @@ fn root_ratio(n: WholeRoot, d: WholeRoot) -> OptionRational64
 }
 
 // The sign of a power, which is that of the base for an odd exponent.
-fn power_sign(s: bool, k: u64) -> bool
-    ensures { λ r. ⌜ r ≡ (s && eqb (k % 2) 1) ⌝ }
+fn power_sign(negative: bool, k: u64) -> bool
+    ensures { λ r. ⌜ r ≡ (negative && eqb (k % 2) 1) ⌝ }
 {
-    if s { k % 2 == 1 } else { false }
+    if negative { k % 2 == 1 } else { false }
 }
 
 // Whether two signs are the same.

@@ -1,4 +1,5 @@
 // Angles a + b·pi with their arithmetic, after the Rust's value.rs.
+use rational::MAGNITUDE_LIMIT;
 use rational::OptionRational64;
 use rational::Rational64;
 ghost use mathlib.Core.Path.{_≡_};
@@ -23,6 +24,12 @@ pub enum Evaluation {
     ApproximateFail(f32),
     FunctionOfFloats,
 }
+
+// 2^32, the first index of a root that the Rust does not take.
+const ROOT_INDEX_LIMIT: u64 = 0x1_0000_0000;
+
+// The bits of the f32 nearest to pi.
+const PI_BITS: u32 = 0x4049_0fdb;
 
 // The fraction 0.
 fn rational_zero() -> Rational64
@@ -116,7 +123,7 @@ fn extract_root(x: Rational64, k: u64) -> OptionRational64
     if is_ratio(x, 1, 1) {
         return OptionRational64::Some(x);
     }
-    if k < 0x1_0000_0000 {
+    if k < ROOT_INDEX_LIMIT {
         return x.rat_root(k);
     }
     OptionRational64::None
@@ -319,7 +326,7 @@ impl Value {
     pub fn int(n: u64) -> Evaluation
         ensures { λ r. ⌜ EvaluatesTo (integer n) r ⌝ }
     {
-        if n < 0x8000_0000_0000_0000 {
+        if n < MAGNITUDE_LIMIT {
             return ratio_value(false, n, 1);
         }
         Evaluation::Overflow
@@ -331,7 +338,7 @@ impl Value {
     {
         let a = self.a;
         let b = self.b;
-        float::ratio_f32(a) + f32::from_bits(0x4049_0fdb) * float::ratio_f32(b)
+        float::ratio_f32(a) + f32::from_bits(PI_BITS) * float::ratio_f32(b)
     }
 
     pub fn from_float(x: f32) -> Evaluation
