@@ -84,8 +84,8 @@ closest-even n u e = rw (compare-eq (n % u * 2) u e) (even (n / u))
 abbrev HasPrecision : ℕ → ℕ → Type 0
 HasPrecision p Z = (k : ℕ) → 2 ^ (p - 1 + k) ≤ Z → 2 ^ k ∣ Z
 
-coarse : (p m t Z : ℕ) → 0 < p → m < 2 ^ p → Z ≡ m * 2 ^ t → HasPrecision p Z
-coarse p m t Z P h e k g = subst (λ (z : ℕ). 2 ^ k ∣ z) (sym parts) (dvd-mul-left (2 ^ k) (m * 2 ^ (t - k)))
+has-precision : (p m t Z : ℕ) → 0 < p → m < 2 ^ p → Z ≡ m * 2 ^ t → HasPrecision p Z
+has-precision p m t Z P h e k g = subst (λ (z : ℕ). 2 ^ k ∣ z) (sym parts) (dvd-mul-left (2 ^ k) (m * 2 ^ (t - k)))
   where
     room : (p t k : ℕ) → 0 < p → suc t ≤ k → p + t ≤ p - 1 + k
     room p t k P h = omega arith
@@ -116,21 +116,21 @@ value-precision f (fin s zero e) Z t v = λ k h. absurd (lt-irrefl 0 (lt-of-lt-o
   where
     nought : (a b c : ℕ) → 0 * a * b ≡ 0 * c
     nought a b c = omega arith
-value-precision f (fin s (suc m) (pos j)) Z t v = coarse (prec f) (suc m) (j + low f) Z (two-le-pos (prec f) (two f)) (small f m (pos j) t .0) (sym (mul-one Z) ∙ sym (v .1) ∙ mul-assoc (suc m) (2 ^ j) (2 ^ low f) ∙ ap (λ (z : ℕ). suc m * z) (sym (pow-add 2 j (low f))))
+value-precision f (fin s (suc m) (pos j)) Z t v = has-precision (prec f) (suc m) (j + low f) Z (two-le-pos (prec f) (two f)) (small f m (pos j) t .0) (sym (mul-one Z) ∙ sym (v .1) ∙ mul-assoc (suc m) (2 ^ j) (2 ^ low f) ∙ ap (λ (z : ℕ). suc m * z) (sym (pow-add 2 j (low f))))
 value-precision f (fin s (suc m) (negsuc j)) Z t v =
-    coarse (prec f) (suc m) (low f - suc j) Z (two-le-pos (prec f) (two f)) (small f m (negsuc j) t .0)
+    has-precision (prec f) (suc m) (low f - suc j) Z (two-le-pos (prec f) (two f)) (small f m (negsuc j) t .0)
     (eq-of-mul-eq-mul-right (2 ^ suc j) (pow-pos (suc j)) Z (suc m * 2 ^ (low f - suc j))
     (sym (v .1)
     ∙ ap (λ (z : ℕ). z * 2 ^ low f) (mul-one (suc m))
-    ∙ ap (λ (z : ℕ). suc m * 2 ^ z) (split (low f) (suc j) (reach (suc j) (low f) (small f m (negsuc j) t .1)))
+    ∙ ap (λ (z : ℕ). suc m * 2 ^ z) (split (low f) (suc j) (exponents (suc j) (low f) (small f m (negsuc j) t .1)))
     ∙ ap (λ (z : ℕ). suc m * z) (pow-add 2 (low f - suc j) (suc j))
     ∙ sym (mul-assoc (suc m) (2 ^ (low f - suc j)) (2 ^ suc j))))
   where
     split : (l j : ℕ) → j ≤ l → l ≡ l - j + j
     split l j h = omega arith
 
-    reach : (j l : ℕ) → 2 ^ j ≤ 2 ^ l → j ≤ l
-    reach j l h = le-of-suc-le-suc (lt-of-not-le (λ (g : suc l ≤ j). lt-irrefl (2 ^ l) (lt-of-lt-of-le (pow-lt {i = l} {j = suc l} (le-refl (suc l))) (le-trans (pow-mono g) h))))
+    exponents : (j l : ℕ) → 2 ^ j ≤ 2 ^ l → j ≤ l
+    exponents j l h = le-of-suc-le-suc (lt-of-not-le (λ (g : suc l ≤ j). lt-irrefl (2 ^ l) (lt-of-lt-of-le (pow-lt {i = l} {j = suc l} (le-refl (suc l))) (le-trans (pow-mono g) h))))
 
 -- ---- what is kept of n / den, against Z units
 kept-nearest : (p n den Z : ℕ) → 0 < p → 0 < den → HasPrecision p Z → distance (kept p n den * 2 ^ drop p n den * den) n ≤ distance (Z * den) n
@@ -162,9 +162,9 @@ kept-nearest p n den Z P D h = go (leb (2 ^ (p - 1 + k)) Z) refl
     less : Z < 2 ^ (p - 1 + k) → 0 < k → distance (kept p n den * 2 ^ k * den) n ≤ distance (Z * den) n
     less l K =
         let top : 2 ^ (p - 1) * 2 ^ k ≡ 2 ^ (p - 1 + k) = sym (pow-add 2 (p - 1) k) in
-        let reaches : 2 ^ (p - 1 + k) * den ≤ n = le-div-iff-mul-le D .0 (size-reaches (n / den) (p - 1 + k) (all-in-use (size (n / den)) p P K)) in
+        let enough : 2 ^ (p - 1 + k) * den ≤ n = le-div-iff-mul-le D .0 (size-reaches (n / den) (p - 1 + k) (all-in-use (size (n / den)) p P K)) in
         le-trans (subst (λ (z : ℕ). distance (kept p n den * 2 ^ k * den) n ≤ distance (z * den) n) top (to (2 ^ (p - 1))))
-        (between (2 ^ (p - 1 + k) * den) (Z * den) n (mul-le-mul-right den (le-of-lt l)) reaches)
+        (between (2 ^ (p - 1 + k) * den) (Z * den) n (mul-le-mul-right den (le-of-lt l)) enough)
 
     unit : k ≡ 0 → 2 ^ k ∣ Z
     unit e = subst (λ (z : ℕ). z ∣ Z) (sym (ap (λ (z : ℕ). 2 ^ z) e)) (subst (λ (z : ℕ). 1 ∣ z) (mul-one Z) (dvd-mul-left 1 Z))

@@ -1,12 +1,11 @@
 -- Document 01, "Fractions and angles": what it says of f32. The f32 itself, its rounding to nearest with ties to even and its arithmetic are `lib.Ieee`.
 use Prim.Native.Nat.{ℕ, _*_}
-use mathlib.Core.Bool.{Bool, true, false}
-use lib.IntN.{ℤ, pos, negℤ}
+use lib.IntN.{pos}
 use lib.Ieee.{Float, nan, inf, fin, up, down, binary32, ofInt, toBits, div}
 use Rattle.rational.specs.declared.Rational64.{Rational64}
 use Rattle.rational.specs.declared.OptionRational64.{OptionRational64}
 use Rattle.rational.specs.declared.OptionRational64.the-variants.{None}
-use Rattle.rational.specs.Rational.{ratio, checked}
+use Rattle.rational.specs.Rational.{signedInteger, ratio, checked}
 
 -- The fraction of an f32: "the exact value of a finite f32, reduced; it fails exactly for infinities, NaN and values outside the range". A finite f32 is ±m·2^e with an odd m, or zero, so m·2^e is reduced as it stands.
 unfoldable pub approximateFloat : Float → OptionRational64
@@ -20,11 +19,6 @@ floatBits nan = 0x7FC00000
 floatBits (inf s) = toBits binary32 (inf s)
 floatBits (fin s m e) = toBits binary32 (fin s m e)
 
--- ±n
-abbrev pub signed : Bool → ℕ → ℤ
-signed true n = negℤ (pos n)
-signed false n = pos n
-
 -- The f32 of a fraction: "n and d each rounded to the nearest f32, ties to even; each n/d divided once".
 unfoldable pub ratioFloat : Rational64 → Float
-ratioFloat x = div binary32 (ofInt binary32 (signed (x .negative) (x .numer))) (ofInt binary32 (pos (x .denom)))
+ratioFloat x = div binary32 (ofInt binary32 (signedInteger (x .negative) (x .numer))) (ofInt binary32 (pos (x .denom)))

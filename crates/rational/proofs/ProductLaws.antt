@@ -17,13 +17,13 @@ checked-min s N D = go (ltb N (2 ^ 63)) (ltb D (2 ^ 63)) refl refl
     kept : (N : ℕ) → ltb N (2 ^ 63) ≡ true → min N (2 ^ 63) ≡ N
     kept N e = omega (arith, ltb-true N (2 ^ 63) e)
 
-    cut : (N : ℕ) → ltb N (2 ^ 63) ≡ false → ltb (min N (2 ^ 63)) (2 ^ 63) ≡ false
-    cut N e = le-ltb (min N (2 ^ 63)) (2 ^ 63) (omega (arith, ltb-false N (2 ^ 63) e))
+    capped : (N : ℕ) → ltb N (2 ^ 63) ≡ false → ltb (min N (2 ^ 63)) (2 ^ 63) ≡ false
+    capped N e = le-ltb (min N (2 ^ 63)) (2 ^ 63) (omega (arith, ltb-false N (2 ^ 63) e))
 
     go : (p q : Bool) → ltb N (2 ^ 63) ≡ p → ltb D (2 ^ 63) ≡ q → checked (ratio s (min N (2 ^ 63)) (min D (2 ^ 63))) ≡ checked (ratio s N D)
     go true true e f = rw (kept N e, kept D f)
-    go true false e f = rw (kept N e) (simp (e, cut D f, f))
-    go false q e f = simp (cut N e, e)
+    go true false e f = rw (kept N e) (simp (e, capped D f, f))
+    go false q e f = simp (capped N e, e)
 
 -- The product as the code computes it, one hypothesis for each step.
 pub product-is : (x y : Rational64) (g h n d : ℕ) (t s : Bool) → LowestTerms x → LowestTerms y → g ≡ gcd (x .numer) (y .denom) → h ≡ gcd (y .numer) (x .denom)

@@ -52,7 +52,7 @@ sum-zero x l =
     let c : commonDenominator d 1 ≡ d = rw g (plain d) in
     let o : d / d ≡ 1 = div-eq-of-eq-mul-right (l .positive) (sym (mul-one d)) in
     let e = lowest-is n d n d (l .positive) (l .coprime) refl in
-    sym (sum-is x (ratio false 0 1) d n 0 n (x .negative) (x .negative) true (sym (rw c (cut d (l .denom-fits)))) (sym (rw o (once n (l .numer-fits)))) (nought d) (even (x .negative)) (size (x .negative) n (l .numer-fits)) (sign (x .negative) n) (tests d n (l .denom-fits) (l .numer-fits)))
+    sym (sum-is x (ratio false 0 1) d n 0 n (x .negative) (x .negative) true (sym (rw c (uncapped d (l .denom-fits)))) (sym (rw o (once n (l .numer-fits)))) (nought d) (even (x .negative)) (size (x .negative) n (l .numer-fits)) (sign (x .negative) n) (tests d n (l .denom-fits) (l .numer-fits)))
     ∙ rw (e .0, e .1) (ap (λ (b : Bool). Some (record { negative = b; numer = n; denom = d })) (signed-as x l))
   where
     unit : (d : ℕ) → gcd d 1 ≡ 1
@@ -61,8 +61,8 @@ sum-zero x l =
     plain : (d : ℕ) → d / 1 * 1 ≡ d
     plain d = omega arith
 
-    cut : (d : ℕ) → d < 2 ^ 63 → min d (2 ^ 63) ≡ d
-    cut d h = omega arith
+    uncapped : (d : ℕ) → d < 2 ^ 63 → min d (2 ^ 63) ≡ d
+    uncapped d h = omega arith
 
     once : (n : ℕ) → n < 2 ^ 63 → min (1 * n) (2 ^ 63) ≡ n
     once n h = omega arith

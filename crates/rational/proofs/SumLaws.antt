@@ -14,18 +14,18 @@ use Rattle.rational.specs.declared.OptionRational64.the-variants.{Some, 
 use Rattle.rational.specs.Rational.{reduced, unlike, commonDenominator, sumMagnitude, sumSign, allInRange, fractionSum}
 
 -- A number that must be below the limit may be capped at the limit before it is tested.
-cut-any : (a : ℕ) (F : ℕ → Bool → OptionRational64) → ((x : ℕ) → F x false ≡ None) → F (min a (2 ^ 63)) (ltb (min a (2 ^ 63)) (2 ^ 63)) ≡ F a (ltb a (2 ^ 63))
-cut-any a F h = go (ltb a (2 ^ 63)) refl
+capped-any : (a : ℕ) (F : ℕ → Bool → OptionRational64) → ((x : ℕ) → F x false ≡ None) → F (min a (2 ^ 63)) (ltb (min a (2 ^ 63)) (2 ^ 63)) ≡ F a (ltb a (2 ^ 63))
+capped-any a F h = go (ltb a (2 ^ 63)) refl
   where
     kept : ltb a (2 ^ 63) ≡ true → min a (2 ^ 63) ≡ a
     kept e = omega (arith, ltb-true a (2 ^ 63) e)
 
-    cut : ltb a (2 ^ 63) ≡ false → ltb (min a (2 ^ 63)) (2 ^ 63) ≡ false
-    cut e = le-ltb (min a (2 ^ 63)) (2 ^ 63) (omega (arith, ltb-false a (2 ^ 63) e))
+    capped : ltb a (2 ^ 63) ≡ false → ltb (min a (2 ^ 63)) (2 ^ 63) ≡ false
+    capped e = le-ltb (min a (2 ^ 63)) (2 ^ 63) (omega (arith, ltb-false a (2 ^ 63) e))
 
     go : (b : Bool) → ltb a (2 ^ 63) ≡ b → F (min a (2 ^ 63)) (ltb (min a (2 ^ 63)) (2 ^ 63)) ≡ F a (ltb a (2 ^ 63))
     go true e = rw (kept e)
-    go false e = ap (F (min a (2 ^ 63))) (cut e) ∙ h (min a (2 ^ 63)) ∙ sym (h a) ∙ ap (F a) (sym e)
+    go false e = ap (F (min a (2 ^ 63))) (capped e) ∙ h (min a (2 ^ 63)) ∙ sym (h a) ∙ ap (F a) (sym e)
 
 -- Tests of which the last one fails give nothing.
 no1 : (b : Bool) (v : OptionRational64) → cond (b && false) v None ≡ None
@@ -47,10 +47,10 @@ steps : (L : ℕ) (P Q : ℕ → ℕ) (M : ℕ → ℕ → ℕ) (R : ℕ → ℕ
 steps L P Q M R l p q m el ep eq em =
     let H = 2 ^ 63 in
     rw (em, eq, ep, el)
-    (cut-any L (λ l b. cond (b && (ltb (min (P l) H) H && (ltb (min (Q l) H) H && ltb (min (M (min (P l) H) (min (Q l) H)) H) H))) (Some (R l (min (P l) H) (min (Q l) H) (min (M (min (P l) H) (min (Q l) H)) H))) None) (λ x. refl)
-    ∙ cut-any (P L) (λ p b. cond (ltb L H && (b && (ltb (min (Q L) H) H && ltb (min (M p (min (Q L) H)) H) H))) (Some (R L p (min (Q L) H) (min (M p (min (Q L) H)) H))) None) (λ x. no1 (ltb L H) _)
-    ∙ cut-any (Q L) (λ q b. cond (ltb L H && (ltb (P L) H && (b && ltb (min (M (P L) q) H) H))) (Some (R L (P L) q (min (M (P L) q) H))) None) (λ x. no2 (ltb L H) (ltb (P L) H) _)
-    ∙ cut-any (M (P L) (Q L)) (λ m b. cond (ltb L H && (ltb (P L) H && (ltb (Q L) H && b))) (Some (R L (P L) (Q L) m)) None) (λ x. no3 (ltb L H) (ltb (P L) H) (ltb (Q L) H) _))
+    (capped-any L (λ l b. cond (b && (ltb (min (P l) H) H && (ltb (min (Q l) H) H && ltb (min (M (min (P l) H) (min (Q l) H)) H) H))) (Some (R l (min (P l) H) (min (Q l) H) (min (M (min (P l) H) (min (Q l) H)) H))) None) (λ x. refl)
+    ∙ capped-any (P L) (λ p b. cond (ltb L H && (b && (ltb (min (Q L) H) H && ltb (min (M p (min (Q L) H)) H) H))) (Some (R L p (min (Q L) H) (min (M p (min (Q L) H)) H))) None) (λ x. no1 (ltb L H) _)
+    ∙ capped-any (Q L) (λ q b. cond (ltb L H && (ltb (P L) H && (b && ltb (min (M (P L) q) H) H))) (Some (R L (P L) q (min (M (P L) q) H))) None) (λ x. no2 (ltb L H) (ltb (P L) H) _)
+    ∙ capped-any (M (P L) (Q L)) (λ m b. cond (ltb L H && (ltb (P L) H && (ltb (Q L) H && b))) (Some (R L (P L) (Q L) m)) None) (λ x. no3 (ltb L H) (ltb (P L) H) (ltb (Q L) H) _))
 
 pub common-pos : (b d : ℕ) → 0 < b → 0 < d → 0 < commonDenominator b d
 common-pos b d B D = mul-pos (pos-factor (gcd b d) (b / gcd b d) (subst (λ (z : ℕ). 0 < z) (sym (mul-div-cancel' (gcd b d) (gcd-dvd-left b d))) B)) D

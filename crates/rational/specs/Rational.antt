@@ -3,6 +3,7 @@ use Prim.Native.Nat.{ℕ, _+_, _-_, _*_, _/_, _%_, _^_, _<_}
 use mathlib.Core.Path.{_≡_}
 use mathlib.Core.Bool.{Bool, true, false, not, _&&_, cond, Bool·beq}
 use lib.Dec.{ltb, eqb}
+use lib.IntN.{ℤ, pos, negℤ}
 use Rattle.rational.specs.Gcd.{gcd}
 use Rattle.rational.specs.Root.{root}
 use Rattle.rational.specs.declared.Rational64.{Rational64}
@@ -22,6 +23,11 @@ pub record LowestTerms (x : Rational64) : Type 0 where
 -- Whether a magnitude is in range.
 abbrev pub inRange : ℕ → Bool
 inRange m = ltb m (2 ^ 63)
+
+-- The integer ±n.
+abbrev pub signedInteger : Bool → ℕ → ℤ
+signedInteger true n = negℤ (pos n)
+signedInteger false n = pos n
 
 -- The fraction ±n/d as it stands. Zero has no sign.
 abbrev pub ratio : Bool → ℕ → ℕ → Rational64

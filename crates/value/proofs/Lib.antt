@@ -3,3 +3,4 @@ pub mod SoundLaws
 pub mod TurnLaws
 pub mod IntoFloatLaws
 pub mod NegationLaws
+pub mod TangentLaws
