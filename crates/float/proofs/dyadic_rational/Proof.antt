@@ -42,8 +42,11 @@ range-checked-requires c κs = search needs
 
 returns : tie.Need-returns Inv-loop μ-loop
 returns c =
-    let l = c .before .before .before .before .before .before .loop in
-    c .range-checked .ensures ∙ whole-is (c .before .before .before .before .before .before .before .args .negative) _ _ _ _ _ _ (c .before .before .before .before .if2 .taken) (l .inv .0) (c .before .before .before .capped-power-of-two .ensures) (c .before .before .capped-mul .ensures) (c .before .sign-unless-zero .ensures)
+    let args = c .before .before .before .before .before .before .before .args in
+    let loop = c .before .before .before .before .before .before .loop in
+    let if2 = c .before .before .before .before .if2 .taken in
+    let l = loop in
+    c .range-checked .ensures ∙ whole-is (args .negative) _ _ _ _ _ _ if2 (l .inv .0) (c .before .before .before .capped-power-of-two .ensures) (c .before .before .capped-mul .ensures) (c .before .sign-unless-zero .ensures)
 
 sign-unless-zero-requires-2 : tie.Need-sign-unless-zero-requires-2 Inv-loop μ-loop
 sign-unless-zero-requires-2 c κs = search needs
@@ -59,11 +62,14 @@ range-checked-requires-2 c κs = search needs
 
 returns-2 : tie.Need-returns-2 Inv-loop μ-loop
 returns-2 c =
-    let l = c .before .before .before .before .before .loop in
+    let args = c .before .before .before .before .before .before .args in
+    let loop = c .before .before .before .before .before .loop in
+    let loop-test = c .before .before .before .before .loop-test .came in
+    let l = loop in
     let below = c .before .before .before .if2 .left in
-    let o : l .m % 2 ≡ 1 = ⊎-elim (λ w. omega (arith, eqb-false (l .m % 2) 0 (w .1 .left))) (λ w. omega arith) (c .before .before .before .before .loop-test .came) in
+    let o : l .m % 2 ≡ 1 = ⊎-elim (λ w. omega (arith, eqb-false (l .m % 2) 0 (w .1 .left))) (λ w. omega arith) loop-test in
     c .range-checked2 .ensures
-    ∙ odd-is (c .before .before .before .before .before .before .args .negative) _ _ _ _ _ o (omega arith) (l .inv .0) (omega arith) (c .before .capped-power-of-two2 .ensures) (c .before .before .sign-unless-zero2 .ensures)
+    ∙ odd-is (args .negative) _ _ _ _ _ o (omega arith) (l .inv .0) (omega arith) (c .before .capped-power-of-two2 .ensures) (c .before .before .sign-unless-zero2 .ensures)
 
 pub dyadic-rational-spec : {M : Type 1} → statement M
 dyadic-rational-spec =

@@ -26,9 +26,10 @@ capped-pow-requires c κs = search needs
 returns : tie.Need-returns
 unfolding wholeRoot
 returns c =
+    let floor-root = c .before .before .floor-root .ensures in
     let a = c .before .before .before in
-    let e : root (a .args .k) (a .args .n) ^ a .args .k ≡ a .args .n = held _ _ _ _ (a .pre .1) (c .before .before .floor-root .ensures) (c .before .capped-pow .ensures) (c .if1 .taken) in
-    ap Whole (c .before .before .floor-root .ensures) ∙ sym (rw (eq-eqb _ _ e))
+    let e : root (a .args .k) (a .args .n) ^ a .args .k ≡ a .args .n = held _ _ _ _ (a .pre .1) floor-root (c .before .capped-pow .ensures) (c .if1 .taken) in
+    ap Whole floor-root ∙ sym (rw (eq-eqb _ _ e))
 
 returns-2 : tie.Need-returns-2
 unfolding wholeRoot

@@ -30,8 +30,9 @@ checked-mul-requires c κs =
 
 returns-3 : tie.Need-returns-3
 returns-3 c =
+    let x = c .before .before .before .before .before .x in
     let a = c .before .before .before .before .before .before .before in
-    checks-to-both product (a .args .x) (a .args .y) _ _ _ (c .before .before .before .before .before .x .given .1) (c .before .before .y .given .1) (c .checked-mul .ensures)
+    checks-to-both product (a .args .x) (a .args .y) _ _ _ (x .given .1) (c .before .before .y .given .1) (c .checked-mul .ensures)
 
 pub product-of-options-spec : {M : Type 1} → statement M
 product-of-options-spec =

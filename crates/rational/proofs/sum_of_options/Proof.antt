@@ -30,8 +30,9 @@ checked-add-requires c κs =
 
 returns-3 : tie.Need-returns-3
 returns-3 c =
+    let x = c .before .before .before .before .before .x in
     let a = c .before .before .before .before .before .before .before in
-    checks-to-both fractionSum (a .args .x) (a .args .y) _ _ _ (c .before .before .before .before .before .x .given .1) (c .before .before .y .given .1) (c .checked-add .ensures)
+    checks-to-both fractionSum (a .args .x) (a .args .y) _ _ _ (x .given .1) (c .before .before .y .given .1) (c .checked-add .ensures)
 
 pub sum-of-options-spec : {M : Type 1} → statement M
 sum-of-options-spec =

@@ -8,7 +8,9 @@ enum-known-y : tie.Need-enum-known-y
 enum-known-y c = search needs
 
 checked-div-requires : tie.Need-checked-div-requires
-checked-div-requires c κs = (c .before .before .before .pre .0, rw (c .before .y .given .1) at (c .before .before .before .pre .1))
+checked-div-requires c κs =
+    let pre = c .before .before .before .pre in
+    (pre .0, rw (c .before .y .given .1) at (pre .1))
 
 enum-told : tie.Need-enum-told
 enum-told c = search needs

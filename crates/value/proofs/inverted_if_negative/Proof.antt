@@ -15,7 +15,9 @@ rational-value-requires : tie.Need-rational-value-requires
 rational-value-requires c κs = search needs
 
 returns-2 : tie.Need-returns-2
-returns-2 c = c .rational-value .ensures ∙ rw (c .before .recip .ensures .0) (sym (simp (c .before .before .before .before .if1 .taken, ne-eqb _ _ (c .before .before .if2 .left))))
+returns-2 c =
+    let if1 = c .before .before .before .before .if1 .taken in
+    c .rational-value .ensures ∙ rw (c .before .recip .ensures .0) (sym (simp (if1, ne-eqb _ _ (c .before .before .if2 .left))))
 
 rational-value-requires-2 : tie.Need-rational-value-requires-2
 rational-value-requires-2 c κs = search needs

@@ -8,7 +8,9 @@ enum-known-x : tie.Need-enum-known-x
 enum-known-x c = search needs
 
 divided-by-evaluation-requires : tie.Need-divided-by-evaluation-requires
-divided-by-evaluation-requires c κs = (rw (c .before .x .given .1) at (c .before .before .before .pre .0), c .before .before .before .pre .1)
+divided-by-evaluation-requires c κs =
+    let pre = c .before .before .before .pre in
+    (rw (c .before .x .given .1) at (pre .0), pre .1)
 
 enum-told : tie.Need-enum-told
 enum-told c = search needs

@@ -14,7 +14,9 @@ returns : tie.Need-returns
 returns c = search needs
 
 extract-root-requires : tie.Need-extract-root-requires
-extract-root-requires c κs = (rw (c .before .p .given .1) at (c .before .before .before .pre .0), c .before .before .before .pre .1)
+extract-root-requires c κs =
+    let pre = c .before .before .before .pre in
+    (rw (c .before .p .given .1) at (pre .0), pre .1)
 
 enum-known-root : tie.Need-enum-known-root
 enum-known-root c = search needs
@@ -29,7 +31,10 @@ inverted-if-negative-requires : tie.Need-inverted-if-negative-requires
 inverted-if-negative-requires c κs = rw (c .before .root .given .1) at (c .before .before .before .extract-root .ensures .sound)
 
 returns-3 : tie.Need-returns-3
-returns-3 c = c .inverted-if-negative .ensures ∙ sym (rw (c .before .before .before .before .before .before .p .given .1) (rw (sym (c .before .before .before .before .extract-root .ensures .is) ∙ c .before .before .root .given .1)))
+returns-3 c =
+    let p = c .before .before .before .before .before .before .p in
+    let extract-root = c .before .before .before .before .extract-root .ensures in
+    c .inverted-if-negative .ensures ∙ sym (rw (p .given .1) (rw (sym (extract-root .is) ∙ c .before .before .root .given .1)))
 
 pub root-of-power-spec : {M : Type 1} → statement M
 root-of-power-spec =

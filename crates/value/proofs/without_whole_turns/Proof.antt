@@ -37,21 +37,46 @@ enum-told-2 : tie.Need-enum-told-2
 enum-told-2 c = search needs
 
 returns-2 : tie.Need-returns-2
-returns-2 c = record { is = turn-undoubled (c .before .before .before .before .before .before .before .before .before .before .args .b) (c .before .before .before .before .before .before .before .before .before .rational-two .result) _ (c .before .before .before .before .before .before .before .before .before .rational-two .ensures .0) (c .before .before .before .before .before .before .before .before .checked-div .ensures .is) _ _ _ _ (c .before .before .before .before .before .before .quotient .given .1) (c .before .before .before .before .fract .ensures .0) (c .before .before .before .rational-two2 .ensures .0) (c .before .before .checked-mul .ensures .is) (c .enum-told2 .given .1); sound = tt }
+returns-2 c =
+    let args = c .before .before .before .before .before .before .before .before .before .before .args in
+    let rational-two = c .before .before .before .before .before .before .before .before .before .rational-two in
+    let checked-div = c .before .before .before .before .before .before .before .before .checked-div .ensures in
+    let quotient = c .before .before .before .before .before .before .quotient in
+    let fract = c .before .before .before .before .fract .ensures in
+    record { is = turn-undoubled (args .b) (rational-two .result) _ (rational-two .ensures .0) (checked-div .is) _ _ _ _ (quotient .given .1) (fract .0) (c .before .before .before .rational-two2 .ensures .0) (c .before .before .checked-mul .ensures .is) (c .enum-told2 .given .1); sound = tt }
 
 rational-two-requires-3 : tie.Need-rational-two-requires-3
 rational-two-requires-3 c κs = search needs
 
 checked-add-requires : tie.Need-checked-add-requires
-checked-add-requires c κs = (rw (c .before .before .before .doubled .given .1) at (c .before .before .before .before .before .checked-mul .ensures .sound), c .rational-two3 .ensures .1)
+checked-add-requires c κs =
+    let checked-mul = c .before .before .before .before .before .checked-mul .ensures in
+    (rw (c .before .before .before .doubled .given .1) at (checked-mul .sound), c .rational-two3 .ensures .1)
 
 returns-3 : tie.Need-returns-3
 returns-3 c =
+    let args = c .before .before .before .before .before .before .before .before .before .before .before .before .before .before .args in
+    let rational-two = c .before .before .before .before .before .before .before .before .before .before .before .before .before .rational-two in
+    let checked-div = c .before .before .before .before .before .before .before .before .before .before .before .before .checked-div .ensures in
+    let quotient = c .before .before .before .before .before .before .before .before .before .before .quotient in
+    let fract = c .before .before .before .before .before .before .before .before .fract .ensures in
+    let rational-two2 = c .before .before .before .before .before .before .before .rational-two2 .ensures in
+    let checked-mul = c .before .before .before .before .before .before .checked-mul .ensures in
+    let doubled = c .before .before .before .before .doubled in
     let e = c .checked-add .ensures in
-    record { is = turn-negative (c .before .before .before .before .before .before .before .before .before .before .before .before .before .before .args .b) (c .before .before .before .before .before .before .before .before .before .before .before .before .before .rational-two .result) _ (c .before .before .before .before .before .before .before .before .before .before .before .before .before .rational-two .ensures .0) (c .before .before .before .before .before .before .before .before .before .before .before .before .checked-div .ensures .is) _ _ _ _ (c .before .before .before .before .before .before .before .before .before .before .quotient .given .1) (c .before .before .before .before .before .before .before .before .fract .ensures .0) (c .before .before .before .before .before .before .before .rational-two2 .ensures .0) (c .before .before .before .before .before .before .checked-mul .ensures .is) _ (c .before .before .before .before .doubled .given .1) _ _ (c .before .rational-two3 .ensures .0) (c .before .before .if1 .taken) (e .is); sound = e .sound }
+    record { is = turn-negative (args .b) (rational-two .result) _ (rational-two .ensures .0) (checked-div .is) _ _ _ _ (quotient .given .1) (fract .0) (rational-two2 .0) (checked-mul .is) _ (doubled .given .1) _ _ (c .before .rational-two3 .ensures .0) (c .before .before .if1 .taken) (e .is); sound = e .sound }
 
 returns-4 : tie.Need-returns-4
-returns-4 c = record { is = turn-positive (c .before .before .before .before .before .before .before .before .before .before .before .before .args .b) (c .before .before .before .before .before .before .before .before .before .before .before .rational-two .result) _ (c .before .before .before .before .before .before .before .before .before .before .before .rational-two .ensures .0) (c .before .before .before .before .before .before .before .before .before .before .checked-div .ensures .is) _ _ _ _ (c .before .before .before .before .before .before .before .before .quotient .given .1) (c .before .before .before .before .before .before .fract .ensures .0) (c .before .before .before .before .before .rational-two2 .ensures .0) (c .before .before .before .before .checked-mul .ensures .is) _ (c .before .before .doubled .given .1) (c .if1 .left); sound = rw (c .before .before .doubled .given .1) at (c .before .before .before .before .checked-mul .ensures .sound) }
+returns-4 c =
+    let args = c .before .before .before .before .before .before .before .before .before .before .before .before .args in
+    let rational-two = c .before .before .before .before .before .before .before .before .before .before .before .rational-two in
+    let checked-div = c .before .before .before .before .before .before .before .before .before .before .checked-div .ensures in
+    let quotient = c .before .before .before .before .before .before .before .before .quotient in
+    let fract = c .before .before .before .before .before .before .fract .ensures in
+    let rational-two2 = c .before .before .before .before .before .rational-two2 .ensures in
+    let checked-mul = c .before .before .before .before .checked-mul .ensures in
+    let doubled = c .before .before .doubled in
+    record { is = turn-positive (args .b) (rational-two .result) _ (rational-two .ensures .0) (checked-div .is) _ _ _ _ (quotient .given .1) (fract .0) (rational-two2 .0) (checked-mul .is) _ (doubled .given .1) (c .if1 .left); sound = rw (doubled .given .1) at (checked-mul .sound) }
 
 pub without-whole-turns-spec : {M : Type 1} → statement M
 without-whole-turns-spec =

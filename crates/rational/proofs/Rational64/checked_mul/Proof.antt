@@ -23,10 +23,16 @@ capped-mul-requires : tie.Need-capped-mul-requires
 capped-mul-requires c κs = search needs
 
 div-capped-mul-3 : tie.Need-div-capped-mul-3
-div-capped-mul-3 c = rw (c .before .before .before .before .gcd2 .ensures) (gcd-pos _ _ (c .before .before .before .before .before .before .pre .0 .positive))
+div-capped-mul-3 c =
+    let pre = c .before .before .before .before .before .before .pre in
+    let gcd2 = c .before .before .before .before .gcd2 .ensures in
+    rw gcd2 (gcd-pos _ _ (pre .0 .positive))
 
 div-capped-mul-4 : tie.Need-div-capped-mul-4
-div-capped-mul-4 c = rw (c .before .before .before .before .before .before .gcd .ensures) (gcd-pos _ _ (c .before .before .before .before .before .before .before .pre .1 .positive))
+div-capped-mul-4 c =
+    let pre = c .before .before .before .before .before .before .before .pre in
+    let gcd = c .before .before .before .before .before .before .gcd .ensures in
+    rw gcd (gcd-pos _ _ (pre .1 .positive))
 
 capped-mul-requires-2 : tie.Need-capped-mul-requires-2
 capped-mul-requires-2 c κs = search needs
@@ -42,10 +48,15 @@ range-checked-requires c κs = search needs
 
 returns : tie.Need-returns
 returns c =
+    let gcd = c .before .before .before .before .before .before .before .before .before .before .gcd in
+    let gcd2 = c .before .before .before .before .before .before .before .before .before .gcd2 in
+    let capped-mul = c .before .before .before .before .before .before .capped-mul in
+    let capped-mul2 = c .before .before .before .capped-mul2 in
+    let signs-differ = c .before .before .signs-differ in
     let a = c .before .before .before .before .before .before .before .before .before .before .before in
     checks-to (c .range-checked .ensures
-    ∙ product-is (a .args .self) (a .args .y) (c .before .before .before .before .before .before .before .before .before .before .gcd .result) (c .before .before .before .before .before .before .before .before .before .gcd2 .result) (c .before .before .before .before .before .before .capped-mul .result) (c .before .before .before .capped-mul2 .result) (c .before .before .signs-differ .result) (c .before .sign-unless-zero .result)
-    (a .pre .0) (a .pre .1) (c .before .before .before .before .before .before .before .before .before .before .gcd .ensures) (c .before .before .before .before .before .before .before .before .before .gcd2 .ensures) (c .before .before .before .before .before .before .capped-mul .ensures) (c .before .before .before .capped-mul2 .ensures) (c .before .before .signs-differ .ensures) (c .before .sign-unless-zero .ensures))
+    ∙ product-is (a .args .self) (a .args .y) (gcd .result) (gcd2 .result) (capped-mul .result) (capped-mul2 .result) (signs-differ .result) (c .before .sign-unless-zero .result)
+    (a .pre .0) (a .pre .1) (gcd .ensures) (gcd2 .ensures) (capped-mul .ensures) (capped-mul2 .ensures) (signs-differ .ensures) (c .before .sign-unless-zero .ensures))
     (product-sound (a .args .self) (a .args .y) (a .pre .0) (a .pre .1))
 
 pub checked-mul-spec : {M : Type 1} → statement M

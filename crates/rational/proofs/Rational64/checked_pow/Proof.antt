@@ -23,9 +23,10 @@ range-checked-requires c κs = search needs
 
 returns : tie.Need-returns
 returns c =
+    let capped-pow = c .before .before .before .before .capped-pow .ensures in
     let a = c .before .before .before .before .before in
     checks-to (c .range-checked .ensures
-    ∙ rw (c .before .sign-unless-zero .ensures, c .before .before .power-sign .ensures, c .before .before .before .capped-pow2 .ensures, c .before .before .before .before .capped-pow .ensures)
+    ∙ rw (c .before .sign-unless-zero .ensures, c .before .before .power-sign .ensures, c .before .before .before .capped-pow2 .ensures, capped-pow)
     (power-is (a .args .self) (a .args .k) (a .pre)))
     (power-sound (a .args .self) (a .args .k) (a .pre))
 

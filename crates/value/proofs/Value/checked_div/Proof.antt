@@ -25,8 +25,9 @@ parts-or-overflow-requires c κs = search needs
 returns-2 : tie.Need-returns-2
 unfolding valueQuotient
 returns-2 c =
+    let if1 = c .before .before .before .before .before .if1 .taken in
     let a = c .before .before .before .before .before .before .before .before .before .before .before in
-    evaluates-to (c .parts-or-overflow .ensures ∙ rw (c .before .before .checked-div .ensures .is, c .before .checked-div2 .ensures .is) (sym (simp (eq-eqb _ _ (c .before .before .before .before .before .if1 .taken), ne-eqb _ _ (c .before .before .before .if2 .left))))) (quotient-sound-value (a .args .self) (a .args .y) (a .pre .0) (a .pre .1))
+    evaluates-to (c .parts-or-overflow .ensures ∙ rw (c .before .before .checked-div .ensures .is, c .before .checked-div2 .ensures .is) (sym (simp (eq-eqb _ _ if1, ne-eqb _ _ (c .before .before .before .if2 .left))))) (quotient-sound-value (a .args .self) (a .args .y) (a .pre .0) (a .pre .1))
 
 checked-div-requires-3 : tie.Need-checked-div-requires-3
 checked-div-requires-3 c κs = search needs
@@ -37,8 +38,10 @@ rational-or-overflow-requires c κs = search needs
 returns-3 : tie.Need-returns-3
 unfolding valueQuotient
 returns-3 c =
+    let if1 = c .before .before .before .before .before .before .if1 .left in
+    let if3 = c .before .before .before .before .if3 .taken in
     let a = c .before .before .before .before .before .before .before .before .before .before .before .before in
-    evaluates-to (c .rational-or-overflow .ensures ∙ rw (c .before .checked-div3 .ensures .is) (sym (simp (ne-eqb _ _ (c .before .before .before .before .before .before .if1 .left), eq-eqb _ _ (c .before .before .before .before .if3 .taken), eq-eqb _ _ (c .before .before .if4 .taken))))) (quotient-sound-value (a .args .self) (a .args .y) (a .pre .0) (a .pre .1))
+    evaluates-to (c .rational-or-overflow .ensures ∙ rw (c .before .checked-div3 .ensures .is) (sym (simp (ne-eqb _ _ if1, eq-eqb _ _ if3, eq-eqb _ _ (c .before .before .if4 .taken))))) (quotient-sound-value (a .args .self) (a .args .y) (a .pre .0) (a .pre .1))
 
 approximate-div-requires : tie.Need-approximate-div-requires
 approximate-div-requires c κs = search needs
@@ -46,8 +49,9 @@ approximate-div-requires c κs = search needs
 returns-4 : tie.Need-returns-4
 unfolding valueQuotient
 returns-4 c =
+    let if1 = c .before .before .before .before .before .if1 .left in
     let a = c .before .before .before .before .before .before .before .before .before .before .before in
-    evaluates-to (c .approximate-div .ensures .is ∙ sym (simp (ne-eqb _ _ (c .before .before .before .before .before .if1 .left), eq-eqb _ _ (c .before .before .before .if3 .taken), ne-eqb _ _ (c .before .if4 .left)))) (quotient-sound-value (a .args .self) (a .args .y) (a .pre .0) (a .pre .1))
+    evaluates-to (c .approximate-div .ensures .is ∙ sym (simp (ne-eqb _ _ if1, eq-eqb _ _ (c .before .before .before .if3 .taken), ne-eqb _ _ (c .before .if4 .left)))) (quotient-sound-value (a .args .self) (a .args .y) (a .pre .0) (a .pre .1))
 
 checked-div-requires-4 : tie.Need-checked-div-requires-4
 checked-div-requires-4 c κs = search needs
@@ -61,8 +65,9 @@ common-ratio-requires c κs = search needs
 returns-5 : tie.Need-returns-5
 unfolding valueQuotient
 returns-5 c =
+    let if1 = c .before .before .before .before .before .if1 .left in
     let a = c .before .before .before .before .before .before .before .before .before .before .before in
-    evaluates-to (c .common-ratio .ensures ∙ rw (c .before .before .checked-div4 .ensures .is, c .before .checked-div5 .ensures .is) (sym (simp (ne-eqb _ _ (c .before .before .before .before .before .if1 .left), ne-eqb _ _ (c .before .before .before .if3 .left))))) (quotient-sound-value (a .args .self) (a .args .y) (a .pre .0) (a .pre .1))
+    evaluates-to (c .common-ratio .ensures ∙ rw (c .before .before .checked-div4 .ensures .is, c .before .checked-div5 .ensures .is) (sym (simp (ne-eqb _ _ if1, ne-eqb _ _ (c .before .before .before .if3 .left))))) (quotient-sound-value (a .args .self) (a .args .y) (a .pre .0) (a .pre .1))
 
 pub checked-div-spec : {M : Type 1} → statement M
 checked-div-spec =

@@ -36,10 +36,15 @@ parts-or-overflow-requires c κs = search needs
 returns : tie.Need-returns
 unfolding valueProduct
 returns c =
+    let checked-mul = c .before .before .before .before .before .before .before .before .checked-mul .ensures in
+    let pi-squared = c .before .before .before .before .before .before .before .pi-squared .ensures in
+    let product-of-options = c .before .before .before .before .before .before .product-of-options .ensures in
+    let checked-mul2 = c .before .before .before .before .before .checked-mul2 .ensures in
+    let sum-of-options = c .before .before .before .before .sum-of-options .ensures in
     let a = c .before .before .before .before .before .before .before .before .before .before .before .before .before in
     evaluates-to
     (c .parts-or-overflow .ensures
-    ∙ rw (c .before .sum-of-options2 .ensures .is, c .before .before .checked-mul4 .ensures .is, c .before .before .before .checked-mul3 .ensures .is, c .before .before .before .before .sum-of-options .ensures .is, c .before .before .before .before .before .checked-mul2 .ensures .is, c .before .before .before .before .before .before .product-of-options .ensures .is, c .before .before .before .before .before .before .before .pi-squared .ensures .is, c .before .before .before .before .before .before .before .before .checked-mul .ensures .is))
+    ∙ rw (c .before .sum-of-options2 .ensures .is, c .before .before .checked-mul4 .ensures .is, c .before .before .before .checked-mul3 .ensures .is, sum-of-options .is, checked-mul2 .is, product-of-options .is, pi-squared .is, checked-mul .is))
     (product-sound-value (a .args .self) (a .args .y) (a .pre .0) (a .pre .1))
 
 pub checked-mul-spec : {M : Type 1} → statement M

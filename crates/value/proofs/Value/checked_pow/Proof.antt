@@ -16,8 +16,9 @@ root-of-power-requires c κs = search needs
 returns : tie.Need-returns
 unfolding valuePower
 returns c =
+    let if1 = c .before .before .before .before .if1 .taken in
     let a = c .before .before .before .before .before .before .before .before .before .before in
-    evaluates-to (c .root-of-power .ensures ∙ rw (c .before .checked-pow .ensures .is) (sym (simp (eq-eqb _ _ (c .before .before .before .before .if1 .taken), eq-eqb _ _ (c .before .before .if2 .taken))))) (power-sound-value (a .args .self) (a .args .y) (a .pre .0) (a .pre .1))
+    evaluates-to (c .root-of-power .ensures ∙ rw (c .before .checked-pow .ensures .is) (sym (simp (eq-eqb _ _ if1, eq-eqb _ _ (c .before .before .if2 .taken))))) (power-sound-value (a .args .self) (a .args .y) (a .pre .0) (a .pre .1))
 
 returns-2 : tie.Need-returns-2
 unfolding valuePower

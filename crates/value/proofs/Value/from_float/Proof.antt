@@ -26,8 +26,10 @@ rational-value-requires c κs = search needs
 returns-2 : tie.Need-returns-2
 unfolding fromFloat
 returns-2 c =
-    evaluates-to (c .rational-value .ensures ∙ sym (rw (sym (c .before .before .before .before .approximate-float .ensures .is) ∙ c .before .before .exact .given .1)))
-    (from-float-sound _ (subst T (sym (c .before .before .before .before .before .good .0 .1)) tt))
+    let good = c .before .before .before .before .before .good in
+    let approximate-float = c .before .before .before .before .approximate-float .ensures in
+    evaluates-to (c .rational-value .ensures ∙ sym (rw (sym (approximate-float .is) ∙ c .before .before .exact .given .1)))
+    (from-float-sound _ (subst T (sym (good .0 .1)) tt))
 
 pub from-float-spec : {M : Type 1} → statement M
 from-float-spec =
