@@ -10,7 +10,7 @@ use lib.Ieee.Fits.{and-l, down-pos}
 use lib.Ieee.Exact.{HasValue}
 use borrow.Author.Tests.{ltb-true}
 use Rattle.rational.specs.Gcd.{gcd}
-use Rattle.rational.specs.Rational.{inRange, ratio}
+use Rattle.rational.specs.Rational.{magnitudeInRange, ratio}
 use Rattle.rational.specs.Promise.{SoundOption}
 use Rattle.rational.proofs.GcdLaws.{lowest-is}
 use Rattle.rational.proofs.LowestTermsLaws.{tested, both-true, zero-unsigned-of}
@@ -49,8 +49,8 @@ unfolding approximateFloat
 float-sound nan h = tt
 float-sound (inf s) h = tt
 float-sound (fin s m e) h =
-    tested (inRange (m * up e) && inRange (down e)) (ratio s (m * up e) (down e))
-    (λ t. let r = both-true (inRange (m * up e)) (inRange (down e)) t in record {
+    tested (magnitudeInRange (m * up e) && magnitudeInRange (down e)) (ratio s (m * up e) (down e))
+    (λ t. let r = both-true (magnitudeInRange (m * up e)) (magnitudeInRange (down e)) t in record {
       positive = down-pos e;
       numer-fits = ltb-true _ _ (r .0);
       denom-fits = ltb-true _ _ (r .1);

@@ -59,14 +59,14 @@ pub fn nearest_f32(n: u64) -> f32
     if n < SIGNIFICAND_LIMIT {
         return n as f32;
     }
-    let mut u = 1u64;
-    let mut k = 0u64;
-    while SIGNIFICAND_LIMIT <= n / u {
-        u = u * 2;
-        k += 1;
+    let mut unit = 1u64;
+    let mut shift = 0u64;
+    while SIGNIFICAND_LIMIT <= n / unit {
+        unit = unit * 2;
+        shift += 1;
     }
-    let m = closest_whole(n, u);
-    f32::from_bits(((k + SMALLEST_SHIFT) * HIDDEN_BIT + m) as u32)
+    let significand = closest_whole(n, unit);
+    f32::from_bits(((shift + SMALLEST_SHIFT) * HIDDEN_BIT + significand) as u32)
 }
 
 // The bits of x. Every NaN has the same ones.
@@ -134,17 +134,17 @@ pub fn approximate_float(x: f32) -> OptionRational64
     if x != x {
         return OptionRational64::None;
     }
-    let b = f32::to_bits(x) as u64;
-    let negative = SIGN_BIT <= b;
-    let exponent = b % SIGN_BIT / HIDDEN_BIT;
-    let t = b % HIDDEN_BIT;
+    let word = f32::to_bits(x) as u64;
+    let negative = SIGN_BIT <= word;
+    let exponent = word % SIGN_BIT / HIDDEN_BIT;
+    let significand = word % HIDDEN_BIT;
     if exponent == 0 {
-        return dyadic_rational(negative, t, 0);
+        return dyadic_rational(negative, significand, 0);
     }
     if exponent == LARGEST_EXPONENT {
         return OptionRational64::None;
     }
-    dyadic_rational(negative, HIDDEN_BIT + t, exponent - 1)
+    dyadic_rational(negative, HIDDEN_BIT + significand, exponent - 1)
 }
 
 // The f32 of a fraction: numerator and denominator are each rounded to the nearest f32, and divided once.

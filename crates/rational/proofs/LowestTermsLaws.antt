@@ -7,7 +7,7 @@ use native.Mathlib.Omega.{arith}
 use lib.Dec.{ltb, eqb}
 use borrow.Author.Tests.{ltb-true}
 use Rattle.rational.specs.Gcd.{gcd}
-use Rattle.rational.specs.Rational.{LowestTerms, inRange, reduced, checked, unlike, sumMagnitude, sumSign, commonDenominator, allInRange, fractionSum, opposite, difference, product, reciprocal, quotient, power, fractionalPart, both}
+use Rattle.rational.specs.Rational.{LowestTerms, magnitudeInRange, reduced, checked, unlike, sumMagnitude, sumSign, commonDenominator, allInRange, fractionSum, opposite, difference, product, reciprocal, quotient, power, fractionalPart, both}
 use Rattle.rational.specs.Promise.{SoundOption, ChecksTo}
 use Rattle.rational.specs.declared.Rational64.{Rational64}
 use Rattle.rational.specs.declared.OptionRational64.{OptionRational64}
@@ -59,8 +59,8 @@ reduced-lowest s n d p hn hd = record {
 
 checked-sound : (s : Bool) (n d : ℕ) → 0 < d → SoundOption (checked (reduced s n d))
 checked-sound s n d p =
-    tested (inRange (n / gcd n d) && inRange (d / gcd n d)) (reduced s n d)
-    (λ e. let t = both-true (inRange (n / gcd n d)) (inRange (d / gcd n d)) e in reduced-lowest s n d p (ltb-true _ _ (t .0)) (ltb-true _ _ (t .1)))
+    tested (magnitudeInRange (n / gcd n d) && magnitudeInRange (d / gcd n d)) (reduced s n d)
+    (λ e. let t = both-true (magnitudeInRange (n / gcd n d)) (magnitudeInRange (d / gcd n d)) e in reduced-lowest s n d p (ltb-true _ _ (t .0)) (ltb-true _ _ (t .1)))
 
 pub product-sound : (x y : Rational64) → LowestTerms x → LowestTerms y → SoundOption (product x y)
 unfolding product
@@ -80,8 +80,8 @@ sum-sound x y px py =
     let s = sumSign (x .negative) p (y .negative) q in
     tested (allInRange l p q m) (reduced s m l)
     (λ e.
-    let t = both-true (inRange l) (inRange p && (inRange q && inRange m)) e in
-    let u = both-true (inRange q) (inRange m) (both-true (inRange p) (inRange q && inRange m) (t .1) .1) in
+    let t = both-true (magnitudeInRange l) (magnitudeInRange p && (magnitudeInRange q && magnitudeInRange m)) e in
+    let u = both-true (magnitudeInRange q) (magnitudeInRange m) (both-true (magnitudeInRange p) (magnitudeInRange q && magnitudeInRange m) (t .1) .1) in
     reduced-lowest s m l (common-pos (x .denom) (y .denom) (px .positive) (py .positive)) (lt-of-le-of-lt (div-le-self m (gcd m l)) (ltb-true _ _ (u .1))) (lt-of-le-of-lt (div-le-self l (gcd m l)) (ltb-true _ _ (t .0))))
 
 -- ---- the opposite, the reciprocal, the fraction without its whole part

@@ -8,7 +8,7 @@ use lib.Dec.{ltb}
 use lib.IntN.{ℤ, pos, negsuc, negℤ, natAbs, pos-ne-negsuc, _+ℤ_, _*ℤ_, negℤ-+ℤ, +ℤ-comm}
 use borrow.Author.Tests.{ltb-true, ltb-false, lt-ltb, le-ltb}
 use Rattle.rational.specs.Gcd.{gcd}
-use Rattle.rational.specs.Rational.{LowestTerms, inRange, signedInteger, reduced, unlike, sumMagnitude, sumSign, commonDenominator, allInRange, fractionSum, opposite, difference, product, quotient}
+use Rattle.rational.specs.Rational.{LowestTerms, magnitudeInRange, signedInteger, reduced, unlike, sumMagnitude, sumSign, commonDenominator, allInRange, fractionSum, opposite, difference, product, quotient}
 use Rattle.rational.specs.declared.Rational64.{Rational64}
 use Rattle.rational.specs.declared.OptionRational64.the-variants.{Some, None}
 use Rattle.rational.proofs.GcdLaws.{gcd-dvd-left, gcd-dvd-right, gcd-pos, lowest-unique}
@@ -116,7 +116,7 @@ product-integers x y r e =
     let s = unlike (x .negative) (y .negative) in
     let n = x .numer * y .numer in
     let d = x .denom * y .denom in
-    subst (λ (z : Rational64). signedNumerator z *ℤ pos d ≡ signedNumerator x *ℤ signedNumerator y *ℤ pos (z .denom)) (only (inRange (n / gcd n d) && inRange (d / gcd n d)) (reduced s n d) r e)
+    subst (λ (z : Rational64). signedNumerator z *ℤ pos d ≡ signedNumerator x *ℤ signedNumerator y *ℤ pos (z .denom)) (only (magnitudeInRange (n / gcd n d) && magnitudeInRange (d / gcd n d)) (reduced s n d) r e)
     (reduced-is s n d d (n * (d / gcd n d)) (crosswise n d)
     ∙ sym (signed-integer-times s n (d / gcd n d))
     ∙ ap (λ (z : ℤ). z *ℤ pos (d / gcd n d)) (sym (signed-integer-product (x .negative) (y .negative) (x .numer) (y .numer))))
@@ -129,7 +129,7 @@ quotient-integers x y r e =
     let n = x .numer * y .denom in
     let d = x .denom * y .numer in
     let k = n / gcd n d in
-    subst (λ (z : Rational64). signedNumerator z *ℤ (pos (x .denom) *ℤ signedNumerator y) ≡ signedNumerator x *ℤ pos (y .denom) *ℤ pos (z .denom)) (only (inRange (n / gcd n d) && inRange (d / gcd n d)) (reduced s n d) r e)
+    subst (λ (z : Rational64). signedNumerator z *ℤ (pos (x .denom) *ℤ signedNumerator y) ≡ signedNumerator x *ℤ pos (y .denom) *ℤ pos (z .denom)) (only (magnitudeInRange (n / gcd n d) && magnitudeInRange (d / gcd n d)) (reduced s n d) r e)
     (ap (λ (z : ℤ). signedNumerator (reduced s n d) *ℤ z) (signed-integer-product false (y .negative) (x .denom) (y .numer))
     ∙ signed-integer-product (s && ltb 0 k) (y .negative) k d
     ∙ signs (x .negative) (y .negative) k d

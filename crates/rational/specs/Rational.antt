@@ -21,8 +21,8 @@ pub record LowestTerms (x : Rational64) : Type 0 where
   pub zero-unsigned : x .numer ≡ 0 → x .negative ≡ false
 
 -- Whether a magnitude is in range.
-abbrev pub inRange : ℕ → Bool
-inRange m = ltb m (2 ^ 63)
+abbrev pub magnitudeInRange : ℕ → Bool
+magnitudeInRange m = ltb m (2 ^ 63)
 
 -- The integer ±n.
 abbrev pub signedInteger : Bool → ℕ → ℤ
@@ -39,7 +39,7 @@ reduced s n d = ratio s (n / gcd n d) (d / gcd n d)
 
 -- "overflow exactly if the reduced result leaves the range". An overflow is None.
 abbrev pub checked : Rational64 → OptionRational64
-checked x = cond (inRange (x .numer) && inRange (x .denom)) (Some x) None
+checked x = cond (magnitudeInRange (x .numer) && magnitudeInRange (x .denom)) (Some x) None
 
 -- Whether two signs differ, which is the sign of a product.
 abbrev pub unlike : Bool → Bool → Bool
@@ -61,7 +61,7 @@ commonDenominator b d = b / gcd b d * d
 
 -- Whether the four magnitudes of a sum are in range.
 abbrev pub allInRange : ℕ → ℕ → ℕ → ℕ → Bool
-allInRange l p q s = inRange l && (inRange p && (inRange q && inRange s))
+allInRange l p q s = magnitudeInRange l && (magnitudeInRange p && (magnitudeInRange q && magnitudeInRange s))
 
 -- "Sum of a/b and c/d: g = gcd(b,d), l = b/g·d, p = l/b·a, q = l/d·c, s = p+q, then s/l reduced. Overflow exactly if l, p, q or s leaves the range."
 unfoldable pub fractionSum : Rational64 → Rational64 → OptionRational64

@@ -9,7 +9,7 @@ use lib.Ieee.{Float, binary32, fits, div}
 use lib.Ieee.Fits.{div-fits}
 use borrow.Author.Tests.{ltb-true, eqb-true, eqb-false}
 use Rattle.rational.specs.Gcd.{gcd, euclid}
-use Rattle.rational.specs.Rational.{LowestTerms, inRange, ratio, fractionSum, difference, product, quotient, power, rationalRoot, reciprocal, fractionalPart, isZero, sameFraction, andThenOption, both}
+use Rattle.rational.specs.Rational.{LowestTerms, magnitudeInRange, ratio, fractionSum, difference, product, quotient, power, rationalRoot, reciprocal, fractionalPart, isZero, sameFraction, andThenOption, both}
 use Rattle.rational.specs.Promise.{SoundOption}
 use Rattle.rational.specs.declared.Rational64.{Rational64}
 use Rattle.rational.specs.declared.OptionRational64.{OptionRational64}
@@ -32,13 +32,13 @@ evaluates-to e s = record { is = e; sound = subst SoundEvaluation (sym e) s }
 
 -- ---- constants: a test that computes
 abbrev lowestTest : Bool → ℕ → ℕ → Bool
-lowestTest s n d = ltb 0 d && (inRange n && (inRange d && (eqb (gcd n d) 1 && (not s || ltb 0 n))))
+lowestTest s n d = ltb 0 d && (magnitudeInRange n && (magnitudeInRange d && (eqb (gcd n d) 1 && (not s || ltb 0 n))))
 
 lowest-tested : (s : Bool) (n d : ℕ) → lowestTest s n d ≡ true → LowestTerms (record { negative = s; numer = n; denom = d })
 lowest-tested s n d e =
-    let a = both-true (ltb 0 d) (inRange n && (inRange d && (eqb (gcd n d) 1 && (not s || ltb 0 n)))) e in
-    let b = both-true (inRange n) (inRange d && (eqb (gcd n d) 1 && (not s || ltb 0 n))) (a .1) in
-    let f = both-true (inRange d) (eqb (gcd n d) 1 && (not s || ltb 0 n)) (b .1) in
+    let a = both-true (ltb 0 d) (magnitudeInRange n && (magnitudeInRange d && (eqb (gcd n d) 1 && (not s || ltb 0 n)))) e in
+    let b = both-true (magnitudeInRange n) (magnitudeInRange d && (eqb (gcd n d) 1 && (not s || ltb 0 n))) (a .1) in
+    let f = both-true (magnitudeInRange d) (eqb (gcd n d) 1 && (not s || ltb 0 n)) (b .1) in
     let g = both-true (eqb (gcd n d) 1) (not s || ltb 0 n) (f .1) in
     record {
       positive = ltb-true 0 d (a .0);
@@ -161,7 +161,7 @@ turn-sound b l =
 pub integer-sound : (n : ℕ) → SoundEvaluation (integer n)
 unfolding integer
 integer-sound n =
-    either-sound (inRange n) (rationalValue (ratio false n 1)) evaluation.Overflow
+    either-sound (magnitudeInRange n) (rationalValue (ratio false n 1)) evaluation.Overflow
     (λ e. rational-value-sound (record { positive = lit< tt; numer-fits = ltb-true n (2 ^ 63) e; denom-fits = lit< tt; coprime = gcd-one n; zero-unsigned = λ z. refl }))
     (λ e. tt)
 

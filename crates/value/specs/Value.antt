@@ -6,7 +6,7 @@ use lib.Ieee.{Float, binary32, ofBits, add, mul, div}
 use Rattle.rational.specs.declared.Rational64.{Rational64}
 use Rattle.rational.specs.declared.OptionRational64.{OptionRational64}
 use Rattle.rational.specs.declared.OptionRational64.the-variants.{Some, None}
-use Rattle.rational.specs.Rational.{LowestTerms, inRange, ratio, fractionSum, difference, product, quotient, power, rationalRoot, reciprocal, fractionalPart, isZero, sameFraction, andThenOption, both}
+use Rattle.rational.specs.Rational.{LowestTerms, magnitudeInRange, ratio, fractionSum, difference, product, quotient, power, rationalRoot, reciprocal, fractionalPart, isZero, sameFraction, andThenOption, both}
 use Rattle.float.specs.Float.{approximateFloat, ratioFloat}
 use Rattle.value.specs.declared.Value.{Value}
 use Rattle.value.specs.declared.Evaluation.{Evaluation}
@@ -72,7 +72,7 @@ halfPi = value zeroFraction half
 
 -- A whole number as an angle: "A literal of 2^63 or more wraps in the Rust; here it is 11".
 unfoldable pub integer : ℕ → Evaluation
-integer n = cond (inRange n) (rationalValue (ratio false n 1)) evaluation.Overflow
+integer n = cond (magnitudeInRange n) (rationalValue (ratio false n 1)) evaluation.Overflow
 
 -- "`into_float`: n and d each rounded to the nearest f32, ties to even; each n/d divided once; then a + c·b with c the f32 of bits hexadecimal 40490FDB."
 unfoldable pub intoFloat : Value → Float

@@ -21,11 +21,11 @@ returns : tie.Need-returns
 unfolding approximateFloat
 returns c = record { is = sym (ap approximateFloat (is-nan _ (c .if1 .taken))); sound = tt }
 
-float-to-bits-b : tie.Need-float-to-bits-b
-float-to-bits-b c = no-nan _ (c .if1 .left)
+float-to-bits-word : tie.Need-float-to-bits-word
+float-to-bits-word c = no-nan _ (c .if1 .left)
 
-cast-b : tie.Need-cast-b
-cast-b c = record { fits = omega (arith, toBits-lt binary32 _ (fit (c .before .good .0 .1))) }
+cast-word : tie.Need-cast-word
+cast-word c = record { fits = omega (arith, toBits-lt binary32 _ (fit (c .before .good .0 .1))) }
 
 dyadic-rational-requires : tie.Need-dyadic-rational-requires
 dyadic-rational-requires c κs = search needs
@@ -58,8 +58,8 @@ approximate-float-spec =
     tie.close
     (tie.spec
     returns
-    float-to-bits-b
-    cast-b
+    float-to-bits-word
+    cast-word
     dyadic-rational-requires
     returns-2
     returns-3
