@@ -1,11 +1,19 @@
 -- Document 01, "Fractions and angles": what it says of f32. The f32 itself, its rounding to nearest with ties to even and its arithmetic are `lib.Ieee`.
-use Prim.Native.Nat.{ℕ, _*_}
+use Prim.Native.Nat.{ℕ, _*_, _^_}
 use lib.IntN.{pos}
 use lib.Ieee.{Float, nan, inf, fin, up, down, binary32, ofInt, toBits, div}
 use Rattle.rational.specs.declared.Rational64.{Rational64}
 use Rattle.rational.specs.declared.OptionRational64.{OptionRational64}
 use Rattle.rational.specs.declared.OptionRational64.the-variants.{None}
 use Rattle.rational.specs.Rational.{signedInteger, ratio, checked}
+
+-- The first number that is not the bits of an f32.
+abbrev pub floatBitsLimit : ℕ
+floatBitsLimit = 2 ^ 32
+
+-- The first whole number that has more binary digits than the significand of an f32.
+abbrev pub significandLimit : ℕ
+significandLimit = 2 ^ 24
 
 -- The fraction of an f32: "the exact value of a finite f32, reduced; it fails exactly for infinities, NaN and values outside the range". A finite f32 is ±m·2^e with an odd m, or zero, so m·2^e is reduced as it stands.
 unfoldable pub approximateFloat : Float → OptionRational64

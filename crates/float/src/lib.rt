@@ -8,9 +8,9 @@ ghost use lib.IntN.{pos};
 ghost use lib.Ieee as Ieee;
 ghost use lib.Ieee.{binary32};
 ghost use lib.Ieee.Nearest.{closest};
-ghost use Rattle.rational.specs.Rational.{LowestTerms, reduced, checked};
+ghost use Rattle.rational.specs.Rational.{magnitudeLimit, LowestTerms, reduced, checked};
 ghost use Rattle.rational.specs.Promise.{ChecksTo};
-ghost use Rattle.float.specs.Float.{approximateFloat, floatBits, ratioFloat};
+ghost use Rattle.float.specs.Float.{floatBitsLimit, significandLimit, approximateFloat, floatBits, ratioFloat};
 
 // 2^24, the first whole number that has more binary digits than a significand.
 const SIGNIFICAND_LIMIT: u64 = 0x100_0000;
@@ -36,7 +36,7 @@ const NAN_BITS: u32 = 0x7fc0_0000;
 // 2^63 is the limit of a magnitude.
 const MAGNITUDE_BITS: u64 = 63;
 
-// The whole number nearest to n/u, and in the middle the even one.
+// The whole number nearest to n/u, and in the middle the even one. A divisor of at most 2^62 leaves room for twice a remainder.
 fn closest_whole(n: u64, u: u64) -> u64
     requires { ⌜ (0 < u) × (u ≤ 2 ^ 62) ⌝ }
     ensures { λ r. ⌜ r ≡ closest n u ⌝ }
@@ -81,7 +81,7 @@ pub fn f32_to_bits(x: f32) -> u32
 
 // The f32 whose bits are a word. f32::from_bits does not take the bits of a NaN, so that a quotient stands for it.
 pub fn f32_from_bits(word: u64) -> f32
-    requires { ⌜ word < 2 ^ 32 ⌝ }
+    requires { ⌜ word < floatBitsLimit ⌝ }
     ensures { λ r. ⌜ r ≡ Ieee.ofBits binary32 word ⌝ }
 {
     if word % SIGN_BIT > INFINITY_BITS {
@@ -92,7 +92,7 @@ pub fn f32_from_bits(word: u64) -> f32
 
 // 2^e, capped at the limit of a magnitude.
 fn capped_power_of_two(e: u64) -> u64
-    ensures { λ r. ⌜ r ≡ min (2 ^ e) (2 ^ 63) ⌝ }
+    ensures { λ r. ⌜ r ≡ min (2 ^ e) magnitudeLimit ⌝ }
 {
     if e < MAGNITUDE_BITS {
         1 << e
@@ -103,7 +103,7 @@ fn capped_power_of_two(e: u64) -> u64
 
 // ±q * 2^k / 2^149 as a fraction, if it is in range.
 fn dyadic_rational(negative: bool, q: u64, k: u64) -> OptionRational64
-    requires { ⌜ (q < 2 ^ 24) × (k < 254) ⌝ }
+    requires { ⌜ (q < significandLimit) × (k < 254) ⌝ }
     ensures { λ r. ⌜ r ≡ checked (reduced negative (q * 2 ^ k) (2 ^ 149)) ⌝ }
 {
     let mut m = q;

@@ -12,17 +12,21 @@ use Rattle.rational.specs.declared.OptionRational64.the-variants.{Some, 
 use Rattle.rational.specs.declared.WholeRoot.{WholeRoot}
 use Rattle.rational.specs.declared.WholeRoot.the-variants.{Whole, Absent}
 
+-- The first magnitude out of range.
+abbrev pub magnitudeLimit : ℕ
+magnitudeLimit = 2 ^ 63
+
 -- "A fraction is n/d in lowest terms, d from 1 to 2^63-1, n from -(2^63-1) to 2^63-1." Zero has no sign.
 pub record LowestTerms (x : Rational64) : Type 0 where
   pub positive : 0 < x .denom
-  pub numer-fits : x .numer < 2 ^ 63
-  pub denom-fits : x .denom < 2 ^ 63
+  pub numer-fits : x .numer < magnitudeLimit
+  pub denom-fits : x .denom < magnitudeLimit
   pub coprime : gcd (x .numer) (x .denom) ≡ 1
   pub zero-unsigned : x .numer ≡ 0 → x .negative ≡ false
 
 -- Whether a magnitude is in range.
 abbrev pub magnitudeInRange : ℕ → Bool
-magnitudeInRange m = ltb m (2 ^ 63)
+magnitudeInRange m = ltb m magnitudeLimit
 
 -- The integer ±n.
 abbrev pub signedInteger : Bool → ℕ → ℤ

@@ -5,7 +5,8 @@ ghost use lib.Dec.{ltb, eqb};
 ghost use Prim.Native.Nat.{_+_, _-_, _*_, _/_, _%_, _<_, _≤_, _^_, min};
 ghost use Rattle.rational.specs.Gcd.{gcd};
 ghost use Rattle.rational.specs.Root.{root};
-ghost use Rattle.rational.specs.Rational.{LowestTerms, reduced, checked, unlike, sumMagnitude, sumSign, commonDenominator, allInRange, fractionSum, opposite, difference, product, reciprocal, quotient, power, wholeRoot, rootRatio, rationalRoot, fractionalPart, sameFraction, both};
+ghost use Rattle.rational.specs.Rational.{magnitudeLimit, LowestTerms, reduced, checked, unlike, opposite, reciprocal, fractionalPart, sameFraction, both};
+ghost use Rattle.rational.specs.Rational.{sumMagnitude, sumSign, commonDenominator, allInRange, fractionSum, difference, product, quotient, power, wholeRoot, rootRatio, rationalRoot};
 ghost use Rattle.rational.specs.Promise.{SoundOption, ChecksTo};
 
 pub struct Rational64 {
@@ -51,7 +52,7 @@ pub fn gcd(a: u64, b: u64) -> u64
 
 // a * b, capped at the limit.
 pub fn capped_mul(a: u64, b: u64) -> u64
-    ensures { λ r. ⌜ r ≡ min (a * b) (2 ^ 63) ⌝ }
+    ensures { λ r. ⌜ r ≡ min (a * b) magnitudeLimit ⌝ }
 {
     // Short factors, as most are, need no division.
     if a < ROOT_LIMIT {
@@ -70,7 +71,7 @@ pub fn capped_mul(a: u64, b: u64) -> u64
 
 // b^k, capped at the limit, after at most 64 turns of the loop.
 pub fn capped_pow(b: u64, k: u64) -> u64
-    ensures { λ r. ⌜ r ≡ min (b ^ k) (2 ^ 63) ⌝ }
+    ensures { λ r. ⌜ r ≡ min (b ^ k) magnitudeLimit ⌝ }
 {
     if k == 0 {
         return 1;
@@ -133,7 +134,7 @@ fn lowest_terms(negative: bool, n: u64, d: u64) -> Rational64
 // The common denominator of a sum, capped at the limit.
 fn common_denominator(b: u64, d: u64) -> u64
     requires { ⌜ 0 < d ⌝ }
-    ensures { λ r. ⌜ r ≡ min (commonDenominator b d) (2 ^ 63) ⌝ }
+    ensures { λ r. ⌜ r ≡ min (commonDenominator b d) magnitudeLimit ⌝ }
 {
     let g = gcd(b, d);
     capped_mul(b / g, d)
@@ -141,8 +142,8 @@ fn common_denominator(b: u64, d: u64) -> u64
 
 // The magnitude of a sum, capped at the limit: p + q, or how far p and q are apart where the signs differ.
 fn sum_magnitude(differ: bool, p: u64, q: u64) -> u64
-    requires { ⌜ (p ≤ 2 ^ 63) × (q ≤ 2 ^ 63) ⌝ }
-    ensures { λ r. ⌜ r ≡ min (sumMagnitude differ p q) (2 ^ 63) ⌝ }
+    requires { ⌜ (p ≤ magnitudeLimit) × (q ≤ magnitudeLimit) ⌝ }
+    ensures { λ r. ⌜ r ≡ min (sumMagnitude differ p q) magnitudeLimit ⌝ }
 {
     if differ {
         if p < q {
@@ -179,7 +180,7 @@ fn all_in_range(l: u64, p: u64, q: u64, s: u64) -> bool
 
 // The whole part of the k-th root, by halving the interval that it lies in.
 fn floor_root(n: u64, k: u64) -> u64
-    requires { ⌜ (1 < k) × (n < 2 ^ 63) ⌝ }
+    requires { ⌜ (1 < k) × (n < magnitudeLimit) ⌝ }
     ensures { λ r. ⌜ r ≡ root k n ⌝ }
 {
     let mut lo = 0u64;
@@ -197,7 +198,7 @@ fn floor_root(n: u64, k: u64) -> u64
 
 // The k-th root of n, if it is whole.
 pub fn int_root(n: u64, k: u64) -> WholeRoot
-    requires { ⌜ (1 < k) × (n < 2 ^ 63) ⌝ }
+    requires { ⌜ (1 < k) × (n < magnitudeLimit) ⌝ }
     ensures { λ r. ⌜ r ≡ wholeRoot k n ⌝ }
 {
     let r = floor_root(n, k);

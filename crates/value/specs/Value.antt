@@ -128,9 +128,13 @@ valueQuotient x y =
     (cond (isZero (x .a)) (orOverflow (quotient (x .b) (y .b)) rationalValue) (approximateQuotient x y))
     (orOverflow (quotient (x .a) (y .a)) (λ p. orOverflow (quotient (x .b) (y .b)) (λ q. commonRatio x y p q))))
 
+-- The first index of a root that ends in refusal 13 for its size.
+abbrev pub rootIndexLimit : ℕ
+rootIndexLimit = 2 ^ 32
+
 -- "With root 1, or where the power so far is 1, no root is taken. Else a root above 2^32-1, a negative or an inexact root ends in 13." A root that is missing is refusal 13.
 unfoldable pub extractRoot : ℕ → Rational64 → OptionRational64
-extractRoot k x = cond (eqb k 1 || sameFraction x one) (Some x) (cond (ltb k (2 ^ 32)) (rationalRoot k x) None)
+extractRoot k x = cond (eqb k 1 || sameFraction x one) (Some x) (cond (ltb k rootIndexLimit) (rationalRoot k x) None)
 
 -- "A negative exponent inverts; a zero root is then 9."
 abbrev pub inverted : Bool → Rational64 → Evaluation

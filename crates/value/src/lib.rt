@@ -8,7 +8,8 @@ ghost use Prim.Native.Nat.{_<_};
 ghost use Rattle.rational.specs.Rational.{LowestTerms, ratio, sameFraction};
 ghost use Rattle.rational.specs.Promise.{SoundOption, ChecksTo};
 ghost use Rattle.rational.specs.declared.OptionRational64.the-variants.{Some};
-ghost use Rattle.value.specs.Value.{Sound, zeroFraction, one, two, rationalValue, orOverflow, partsOrOverflow, andThen, pi, halfPi, integer, intoFloat, fromFloat, valueSum, valueDifference, piSquared, valueProduct, negation, approximateQuotient, commonRatio, valueQuotient, extractRoot, inverted, orFunctionOfFloats, valuePower, squareRoot, sineTable, turn, sine, cosine, tangent, exponential, logarithm};
+ghost use Rattle.value.specs.Value.{Sound, zeroFraction, one, two, rationalValue, orOverflow, partsOrOverflow, andThen, pi, halfPi, piSquared, commonRatio, extractRoot, inverted, orFunctionOfFloats, sineTable, turn};
+ghost use Rattle.value.specs.Value.{integer, intoFloat, fromFloat, valueSum, valueDifference, valueProduct, negation, approximateQuotient, valueQuotient, valuePower, squareRoot, sine, cosine, tangent, exponential, logarithm};
 ghost use Rattle.value.specs.Promise.{SoundEvaluation, EvaluatesTo};
 
 pub struct Value {
