@@ -4,8 +4,8 @@ use mathlib.Core.List.{flatMap}
 use lib.Ieee.{ofInt, add, mul, div, ofBits, toBits}
 use Rattle.rational.specs.Gcd.{gcd}
 use Rattle.rational.specs.Root.{root}
-use Rattle.rational.specs.Rational.{sum as fractionSum, difference, product, quotient, power, wholeRoot, rationalRoot}
-use Rattle.float.specs.Float.{approximateFloat, bits as floatBits, ratioFloat}
+use Rattle.rational.specs.Rational.{fractionSum, difference, product, quotient, power, wholeRoot, rationalRoot}
+use Rattle.float.specs.Float.{approximateFloat, floatBits, ratioFloat}
 use Rattle.value.specs.Value.{integer, intoFloat, fromFloat, valueSum, valueDifference, valueProduct, negation, approximateQuotient, valueQuotient, extractRoot, valuePower, squareRoot, sineTable, turn, sine, cosine, tangent, exponential, logarithm}
 use Rattle.model.specs.Lists.{range, sum, largest, every, all, placed, rising}
 use Rattle.model.specs.Image.{statementOf, expressionOf, firstQubit, firstBit, statement, expression, variables, scopeStatements, argumentSize, classicalArgumentSize, rounds}

@@ -6,7 +6,7 @@ use lib.ListN.{length, getD}
 use Rattle.value.specs.declared.Value.{Value}
 use Rattle.value.specs.Value.{Sound}
 use Rattle.model.specs.Evaluate.{zeroValue}
-use Rattle.float.specs.Float.{bits as floatBits}
+use Rattle.float.specs.Float.{floatBits}
 use Rattle.model.specs.Records.{Record, encode}
 use Rattle.model.specs.Steps.{Step, write, Refusal}
 use Rattle.model.specs.Run.{Answer, done, refused, full, flawed, shortTrace}

@@ -72,7 +72,7 @@ fn of_kind(kind: LinearizeErrorKind) -> Numbers
         LinearizeErrorKind::ApproximateFail(place, x) => Numbers {
             number: 10,
             place,
-            second: float::bits_of(x) as u64,
+            second: float::f32_to_bits(x) as u64,
         },
         LinearizeErrorKind::NumericalOverflow(place) => Numbers {
             number: 11,
