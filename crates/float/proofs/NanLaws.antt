@@ -1,4 +1,4 @@
--- A NaN is what differs from itself; its bits are the library's. There is one: read from any of its patterns, or zero divided by zero.
+-- The one NaN is what differs from itself, what is read from any NaN's bits, and zero divided by zero.
 use mathlib.Core.Path.{_≡_, refl, sym, _∙_, subst}
 use Prim.Native.Nat.{ℕ, _%_, _<_, _*_}
 use mathlib.Core.Bool.{true, false, not, true≢false}

@@ -1,4 +1,4 @@
--- What the fields of an `f32`'s bit pattern say of its value.
+-- The three fields of an f32's bits give its exact value as a fraction.
 use mathlib.Core.Path.{_≡_, refl, sym, ap, _∙_, subst}
 use mathlib.Core.Bool.{Bool, true, false, cond}
 use Prim.Native.Nat.{ℕ, suc, _+_, _-_, _*_, _/_, _%_, _<_, _^_}

@@ -1,4 +1,4 @@
--- A whole number above 2 ^ 24 as an `f32`: which digits are kept, by integers alone.
+-- The f32 nearest to a whole number above 2 ^ 24 has the bits that the code puts together from whole numbers alone.
 use mathlib.Core.Path.{_≡_, refl, sym, ap, _∙_, subst}
 use mathlib.Core.Bool.{Bool, true, false, cond, not}
 use Prim.Native.Nat.{ℕ, suc, _+_, _-_, _*_, _/_, _%_, _^_, _≤_, _<_, compare, Ordering, Ordering·lt, Ordering·eq, Ordering·gt}

@@ -1,4 +1,4 @@
--- Powers of two that are capped at the limit, that are halved, and that are denominators.
+-- A capped shift is the capped power of two, and a number over a power of two is reduced once it is odd or whole.
 use mathlib.Core.Path.{_≡_, sym, ap, _∙_}
 use Prim.Native.Nat.{ℕ, zero, suc, _+_, _-_, _*_, _/_, _%_, _^_, _≤_, _<_, min}
 use native.Mathlib.Nat.{eq-one-of-dvd-one, mul-one, mul-assoc, pow-suc, zero-lt-suc, le-of-lt}

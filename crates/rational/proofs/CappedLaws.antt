@@ -1,4 +1,4 @@
--- Products and powers that are capped at a limit, as the code computes them.
+-- A product and a power that are capped step by step are the product and the power, capped once.
 use mathlib.Core.Path.{_≡_, refl, sym, ap, _∙_}
 use Prim.Native.Nat.{ℕ, zero, suc, _+_, _-_, _*_, _/_, _^_, _≤_, _<_, min}
 use native.Mathlib.Nat.{zero-mul, le-div-iff-mul-le, div-lt-iff-lt-mul, mul-le-mul-left, pow-suc, pow-zero, mul-zero, mul-one, mul-comm, pow-le-pow-right}

@@ -1,4 +1,4 @@
--- For a reader who doubts the sign and the magnitudes: sum, difference, product and quotient against ℤ, and that a fraction has one form in lowest terms.
+-- The sum, difference, product and quotient of fractions are those of signed integers, and a fraction has one form in lowest terms.
 use mathlib.Core.Path.{_≡_, refl, sym, ap, _∙_, subst}
 use mathlib.Core.Bool.{Bool, true, false, not, cond, _&&_}
 use Prim.Native.Nat.{ℕ, zero, suc, _+_, _-_, _*_, _/_, _<_}

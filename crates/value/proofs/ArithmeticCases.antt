@@ -1,4 +1,4 @@
--- The arithmetic of document 01's cases K4 to K9, computed from the definitions.
+-- The definitions give what document 01 says in its cases K4 to K9 and at the edges that it names.
 use mathlib.Core.Path.{_≡_, refl}
 use mathlib.Core.Bool.{Bool, true, false}
 use Prim.Native.Nat.{ℕ, _^_}

@@ -1,4 +1,4 @@
--- The steps of `turn` as the code takes them, and the whole multiples of pi: odd ones are half a turn, even ones none.
+-- The steps of `turn` as the code takes them, and the whole multiples of pi: an odd one is half a turn beside whole turns, an even one is whole turns alone.
 use mathlib.Core.Path.{_≡_, refl, sym, ap, _∙_}
 use mathlib.Core.Bool.{Bool, true, false, _&&_}
 use Prim.Native.Nat.{ℕ, zero, suc, _*_, _/_, _%_, _^_, _<_}
@@ -17,6 +17,7 @@ use Rattle.float.proofs.PowerOfTwoLaws.{gcd-one, odd-power}
 use Rattle.value.specs.Value.{zeroFraction, one, two, wrapped, turn}
 
 -- ---- the steps of the code
+
 -- The quotient q of b by a divisor t that is 2.
 module _ (b t : Rational64) (q : OptionRational64) (et : t ≡ two) (eq : q ≡ quotient b t) where
   pub turn-unhalved : q ≡ None → None ≡ turn b
@@ -81,12 +82,12 @@ module _ (s : Bool) (n : ℕ) (small : n < 2 ^ 63) where
   after-even true = refl
   after-even false = refl
 
-  -- An odd multiple of pi is half a turn.
+  -- An odd multiple of pi is half a turn beside whole turns.
   pub turn-odd : n % 2 ≡ 1 → turn (ratio s n 1) ≡ Some one
   unfolding turn
   turn-odd e = rw (half-odd e) (rw e (after-odd (s && ltb 0 n)))
 
-  -- An even multiple of pi is no part of a turn.
+  -- An even multiple of pi is a number of whole turns.
   pub turn-even : n % 2 ≡ 0 → turn (ratio s n 1) ≡ Some zeroFraction
   unfolding turn
   turn-even e = rw (half-even e) (rw (rest (n / 2)) (after-even (s && ltb 0 (n / 2))))
