@@ -15,7 +15,7 @@ ghost use Rattle.image.specs.Layout.{LayoutOf};
 ghost use Rattle.record_writer.specs.Promise.{SoundAngles, InOutput, WroteSteps};
 ghost use Rattle.expression.specs.Table.{anglesIn, ConstantsKept};
 ghost use Rattle.argument.specs.Frames.{scopeFrame, ScopeContext};
-ghost use Rattle.gate.specs.Running.{RunContext, RanSteps, plainSteps, callOf, CallStatement, callSteps};
+ghost use Rattle.gate.specs.RunContext.{RunContext, RanSteps, plainSteps, callOf, CallStatement, callSteps};
 
 // The sixteen angles and sixteen qubits that a gate's body has at most, an angle in six words.
 pub struct Frame {
@@ -24,7 +24,7 @@ pub struct Frame {
 }
 
 // A call's pair of trace words: the caller's scope and the place of the call.
-fn mark_call(trace: &mut [u64], at: u64, scope: u64, place: u64)
+fn write_trace_pair(trace: &mut [u64], at: u64, scope: u64, place: u64)
     requires { ⌜ at + 1 < length (now trace) ⌝ }
     ensures { λ _. ⌜ now (trace .exit) ≡ sets (now (trace .entry)) at (scope ∷ place ∷ []) ⌝ }
 {
@@ -34,7 +34,7 @@ fn mark_call(trace: &mut [u64], at: u64, scope: u64, place: u64)
 }
 
 // A body with no level left: its gate with its qubits, and no angles.
-fn write_cut(
+fn write_cut_gate(
     image: &[u64],
     l: Layout,
     formals: [u64; 16],
@@ -52,7 +52,7 @@ fn write_cut(
 }
 
 // A statement of kind 1, 2, 4, 5 or 6, which opens no gate.
-fn visit_leaf(
+fn visit_primitive(
     image: &[u64],
     l: Layout,
     qubits: &[u64],
@@ -125,7 +125,7 @@ fn call_at(image: &[u64], l: Layout, s: u64) -> Call
 }
 
 // A position with some words of trace.
-fn at_trace(at: Position, trace: u64) -> Position
+fn with_trace_words(at: Position, trace: u64) -> Position
     ensures { λ r. ⌜ r ≡ record { records = at .records; words = at .words; trace = trace } ⌝ }
 {
     Position {
@@ -171,7 +171,7 @@ pub fn visit_statement(
             at,
         );
     }
-    visit_leaf(
+    visit_primitive(
         image,
         l,
         qubits,
@@ -302,13 +302,13 @@ fn visit_rounds(
             left,
             out,
             trace,
-            at_trace(now, at.trace + 2),
+            with_trace_words(now, at.trace + 2),
         ) {
             Linearized::Done(next) => {
-                now = at_trace(next, at.trace);
+                now = with_trace_words(next, at.trace);
             }
             Linearized::Refused(e) => {
-                mark_call(trace, at.trace, scope, call.place);
+                write_trace_pair(trace, at.trace, scope, call.place);
                 return Linearized::Refused(e);
             }
         }
@@ -337,7 +337,7 @@ fn open_gate(
     let angles = frame.angles;
     let formals = frame.qubits;
     if left == 0 {
-        return write_cut(image, l, formals, g, out, at);
+        return write_cut_gate(image, l, formals, g, out, at);
     }
     let body = image::statements_of(image, l, g + 1);
     let first = body.first;

@@ -19,12 +19,12 @@ ghost use Rattle.image.specs.Layout.{LayoutOf};
 ghost use Rattle.record_writer.specs.Promise.{InOutput};
 ghost use Rattle.expression.specs.Table.{anglesIn, ConstantsKept};
 ghost use Rattle.argument.specs.Frames.{scopeFrame};
-ghost use Rattle.gate.specs.Running.{RunContext, RanSteps, plainSteps};
-ghost use Rattle.linearize.specs.Tabled.{MainContext};
+ghost use Rattle.gate.specs.RunContext.{RunContext, RanSteps, plainSteps};
+ghost use Rattle.linearize.specs.MainContext.{MainContext};
 ghost use Rattle.linearize.specs.Linearizes.{refusedWith, Linearizes};
 
 // The inner statement of a conditional, and the conditional's end.
-fn visit_held(
+fn visit_inner_statement(
     image: &[u64],
     l: Layout,
     qubits: &[u64],
@@ -84,7 +84,7 @@ fn visit_conditional(
     let size = image::word(image, 9 + l.quantum + register);
     let first = bits[register as usize];
     match record_writer::write_conditional_start(out, at, first, size, image::word(image, place + 2)) {
-        Linearized::Done(next) => visit_held(
+        Linearized::Done(next) => visit_inner_statement(
             image,
             l,
             qubits,
@@ -237,7 +237,7 @@ fn visit_many_expressions(
 }
 
 // The main statements, with a table for the values of expressions: a small program should not pay for clearing the long one.
-fn visit_tabled(
+fn visit_with_kept_values(
     image: &[u64],
     l: Layout,
     qubits: &[u64],
@@ -257,7 +257,7 @@ fn visit_tabled(
 }
 
 // The levels that are opened at a depth: depths 0 and 1 open none.
-fn levels(depth: u64) -> u64
+fn levels_to_open(depth: u64) -> u64
     ensures { λ r. ⌜ r ≡ depth - 1 ⌝ }
 {
     if depth == 0 { 0 } else { depth - 1 }
@@ -279,7 +279,7 @@ fn visit_few_registers(
     image::first_of_each(image, 9, l.quantum, &mut qubits);
     let mut bits = [0u64; 64];
     image::first_of_each(image, 9 + l.quantum, l.classical, &mut bits);
-    visit_tabled(image, l, &qubits, &bits, left, out, trace, at)
+    visit_with_kept_values(image, l, &qubits, &bits, left, out, trace, at)
 }
 
 // The same with tables for as many registers as an image may have.
@@ -298,11 +298,11 @@ fn visit_many_registers(
     image::first_of_each(image, 9, l.quantum, &mut qubits);
     let mut bits = [0u64; 4096];
     image::first_of_each(image, 9 + l.quantum, l.classical, &mut bits);
-    visit_tabled(image, l, &qubits, &bits, left, out, trace, at)
+    visit_with_kept_values(image, l, &qubits, &bits, left, out, trace, at)
 }
 
 // The main statements, with tables of where registers start: a small program should not pay for clearing the long ones.
-fn visit_statements(
+fn visit_with_register_starts(
     image: &[u64],
     l: Layout,
     left: u64,
@@ -335,7 +335,7 @@ fn run_laid(
         return Linearized::Done(at);
     }
     match long_record::write_head(out, at, image, l) {
-        Linearized::Done(next) => visit_statements(image, l, levels(depth), out, trace, next),
+        Linearized::Done(next) => visit_with_register_starts(image, l, levels_to_open(depth), out, trace, next),
         Linearized::Refused(e) => Linearized::Refused(e),
     }
 }

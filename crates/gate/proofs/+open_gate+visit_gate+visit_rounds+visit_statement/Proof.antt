@@ -10,15 +10,15 @@ use Rattle.model.specs.Lists.{range}
 use Rattle.model.specs.Image.{word}
 use Rattle.model.specs.Steps.{visitGate, opening}
 use Rattle.argument.specs.Frames.{scopeFrame}
-use Rattle.gate.specs.Running.{nested}
+use Rattle.gate.specs.RunContext.{nested}
 use Rattle.statement.proofs.LoopLaws.{Looped, looped-start, looped-next, looped-length}
 use Rattle.unitary.proofs.GivenLaws.{named}
 use Rattle.statement.proofs.RoundLaws.{refuses}
 use Rattle.argument.proofs.CallLaws.{call-rounds-few}
-use Rattle.gate.proofs.RanLaws.{wrote-ran, ran-next, ran-stop, ran-done, ran-returned, ran-refused, ran-enter, ran-lengths, ran-steps, ran-from, ran-still, wrote-steps}
-use Rattle.gate.proofs.GateLaws.{known-gate, calls, named-listed, gate-given, gate-refused}
-use Rattle.gate.proofs.BodyLaws.{body-round, opaque-rounds, cut-steps, open-steps, bodyStatement, few-arguments}
-use Rattle.gate.proofs.CycleLaws.{kind-read, leaf-steps, call-frame, ready-on, ready-opened, ready-in-body, holds-body, facts-in-body, step-in-body}
+use Rattle.gate.proofs.RanStepsLaws.{wrote-ran, ran-next, ran-stop, ran-done, ran-returned, ran-refused, ran-enter, ran-lengths, ran-steps, ran-from, ran-still, wrote-steps}
+use Rattle.gate.proofs.CallStatementLaws.{known-gate, calls, named-listed, gate-given, gate-refused}
+use Rattle.gate.proofs.OpenGateLaws.{body-round, opaque-rounds, cut-steps, open-steps, bodyStatement, few-arguments}
+use Rattle.gate.proofs.RunContextLaws.{kind-read, leaf-steps, call-frame, ready-on, ready-opened, ready-in-body, holds-body, facts-in-body, step-in-body}
 use Prim.Native.Nat.{ℕ, _<_}
 use borrow.Fn.Kinds.{In}
 use borrow.Fn.PlainCycle.{Measures, is, falls, and}
@@ -45,11 +45,11 @@ use Rattle.gate.proofs.visit_statement.Reads as visit-statement
 use Rattle.gate.proofs.visit_statement.Kinds as visit-statement-kinds
 use Rattle.gate.proofs.+open_gate+visit_gate+visit_rounds+visit_statement.Lts-visit_statement as visit-statement-lts
 use Rattle.expression.proofs.values_in.Reads as values-in-reads
-use Rattle.gate.proofs.at_trace.Reads as at-trace-reads
+use Rattle.gate.proofs.with_trace_words.Reads as with-trace-words-reads
 use Rattle.gate.proofs.call_at.Reads as call-at-reads
-use Rattle.gate.proofs.mark_call.Reads as mark-call-reads
-use Rattle.gate.proofs.visit_leaf.Reads as visit-leaf-reads
-use Rattle.gate.proofs.write_cut.Reads as write-cut-reads
+use Rattle.gate.proofs.write_trace_pair.Reads as write-trace-pair-reads
+use Rattle.gate.proofs.visit_primitive.Reads as visit-primitive-reads
+use Rattle.gate.proofs.write_cut_gate.Reads as write-cut-gate-reads
 use Rattle.gate.proofs.+open_gate+visit_gate+visit_rounds+visit_statement.{statement}
 use Rattle.gate.proofs.+open_gate+visit_gate+visit_rounds+visit_statement.Tie.{close}
 
@@ -109,16 +109,16 @@ visit-statement-below t =
     visit-statement.Pre
 
 abbrev open-gate-callees : ℕ → open-gate-lts.Claims
-open-gate-callees t = (write-cut-reads.Asked, write-cut-reads.Learnt, statements-of-reads.Asked, statements-of-reads.Learnt, visit-statement-below t, visit-statement.Post)
+open-gate-callees t = (write-cut-gate-reads.Asked, write-cut-gate-reads.Learnt, statements-of-reads.Asked, statements-of-reads.Learnt, visit-statement-below t, visit-statement.Post)
 
 abbrev visit-gate-callees : ℕ → visit-gate-lts.Claims
 visit-gate-callees t = (call-at-reads.Asked, call-at-reads.Learnt, parameters-reads.Asked, parameters-reads.Learnt, visit-rounds-below t, visit-rounds.Post)
 
 abbrev visit-rounds-callees : ℕ → visit-rounds-lts.Claims
-visit-rounds-callees t = (values-in-reads.Asked, values-in-reads.Learnt, visit-opaque-reads.Asked, visit-opaque-reads.Learnt, rounds-of-reads.Asked, rounds-of-reads.Learnt, qubits-in-reads.Asked, qubits-in-reads.Learnt, at-trace-reads.Asked, at-trace-reads.Learnt, open-gate-below t, open-gate.Post, mark-call-reads.Asked, mark-call-reads.Learnt)
+visit-rounds-callees t = (values-in-reads.Asked, values-in-reads.Learnt, visit-opaque-reads.Asked, visit-opaque-reads.Learnt, rounds-of-reads.Asked, rounds-of-reads.Learnt, qubits-in-reads.Asked, qubits-in-reads.Learnt, with-trace-words-reads.Asked, with-trace-words-reads.Learnt, open-gate-below t, open-gate.Post, write-trace-pair-reads.Asked, write-trace-pair-reads.Learnt)
 
 abbrev visit-statement-callees : ℕ → visit-statement-lts.Claims
-visit-statement-callees t = (statement-at-reads.Asked, statement-at-reads.Learnt, word-reads.Asked, word-reads.Learnt, visit-gate-below t, visit-gate.Post, visit-leaf-reads.Asked, visit-leaf-reads.Learnt)
+visit-statement-callees t = (statement-at-reads.Asked, statement-at-reads.Learnt, word-reads.Asked, word-reads.Learnt, visit-gate-below t, visit-gate.Post, visit-primitive-reads.Asked, visit-primitive-reads.Learnt)
 
 abbrev open-gate-Inv-loop : open-gate-lts.InvT-loop
 open-gate-Inv-loop image l qubits bits table₀ g left out₀ trace₀ angles formals first n now₀ i₀ table out trace now i = Looped (bodyStatement image g left (anglesIn angles) formals first) n out₀ now₀ i out now × (trace ≡ trace₀) × ConstantsKept image table × (length table ≡ length table₀)
@@ -126,14 +126,14 @@ open-gate-Inv-loop image l qubits bits table₀ g left out₀ trace₀ angles fo
 abbrev open-gate-μ-loop : open-gate-lts.MeasureT-loop
 open-gate-μ-loop image l qubits bits table₀ g left out₀ trace₀ angles formals first n now₀ i₀ table out trace now i = n - i
 
-open-gate-write-cut-requires : (t : ℕ) → open-gate-lts.Need-write-cut-requires (open-gate-callees t) (open-gate-at t) open-gate.Post open-gate-Inv-loop open-gate-μ-loop
-open-gate-write-cut-requires t c κs = (c .before .before .before .before .before .before .before .before .before .before .pre .1 .0 .stands .laid, c .before .before .before .before .before .before .before .before .before .before .pre .1 .0 .stands .wide, c .before .before .before .before .before .before .before .before .before .before .pre .1 .1, few-arguments (c .before .before .before .before .before .before .before .before .before .before .pre .1 .0 .stands) (c .before .before .before .before .before .before .before .before .before .before .pre .1 .1), c .before .before .before .before .before .before .before .before .before .before .pre .1 .0 .opens)
+open-gate-write-cut-gate-requires : (t : ℕ) → open-gate-lts.Need-write-cut-gate-requires (open-gate-callees t) (open-gate-at t) open-gate.Post open-gate-Inv-loop open-gate-μ-loop
+open-gate-write-cut-gate-requires t c κs = (c .before .before .before .before .before .before .before .before .before .before .pre .1 .0 .stands .laid, c .before .before .before .before .before .before .before .before .before .before .pre .1 .0 .stands .wide, c .before .before .before .before .before .before .before .before .before .before .pre .1 .1, few-arguments (c .before .before .before .before .before .before .before .before .before .before .pre .1 .0 .stands) (c .before .before .before .before .before .before .before .before .before .before .pre .1 .1), c .before .before .before .before .before .before .before .before .before .before .pre .1 .0 .opens)
 
 open-gate-same-length : (t : ℕ) → open-gate-lts.Need-same-length (open-gate-callees t) (open-gate-at t) open-gate.Post open-gate-Inv-loop open-gate-μ-loop
-open-gate-same-length t c = c .before .before .write-cut .ensures .plays .same
+open-gate-same-length t c = c .before .before .write-cut-gate .ensures .plays .same
 
 open-gate-returns : (t : ℕ) → open-gate-lts.Need-returns (open-gate-callees t) (open-gate-at t) open-gate.Post open-gate-Inv-loop open-gate-μ-loop
-open-gate-returns t c = (wrote-ran _ (wrote-steps (cut-steps _ _ _ _ _ (c .before .before .before .before .if1 .taken)) (c .before .before .write-cut .ensures)), c .before .before .before .before .before .before .before .before .before .before .before .before .before .pre .1 .0 .fixed)
+open-gate-returns t c = (wrote-ran _ (wrote-steps (cut-steps _ _ _ _ _ (c .before .before .before .before .if1 .taken)) (c .before .before .write-cut-gate .ensures)), c .before .before .before .before .before .before .before .before .before .before .before .before .before .pre .1 .0 .fixed)
 
 open-gate-add-statements-of : (t : ℕ) → open-gate-lts.Need-add-statements-of (open-gate-callees t) (open-gate-at t) open-gate.Post open-gate-Inv-loop open-gate-μ-loop
 open-gate-add-statements-of t c = record { fits = omega (arith, c .before .before .before .before .before .before .before .before .before .pre .1 .1, c .before .before .before .before .before .before .before .before .before .pre .1 .0 .stands .laid .gates-is, c .before .before .before .before .before .before .before .before .before .pre .1 .0 .stands .laid .few-gates) }
@@ -258,32 +258,32 @@ visit-rounds-loop-holds t c = (looped-start _ _ (c .before .before .before .befo
 visit-rounds-qubits-in-requires : (t : ℕ) → visit-rounds-lts.Need-qubits-in-requires (visit-rounds-callees t) (visit-rounds-at t) visit-rounds.Post visit-rounds-Inv-loop visit-rounds-μ-loop
 visit-rounds-qubits-in-requires t c κs = (c .before .before .before .before .before .before .before .before .before .before .before .pre .1 .0 .stands, c .before .before .before .before .before .before .before .before .before .before .before .pre .1 .1 .arguments-fit, subst (λ (m : ℕ). c .before .loop .i < m) (c .before .before .rounds-of .ensures) (c .loop-test .taken))
 
-visit-rounds-add-at-trace : (t : ℕ) → visit-rounds-lts.Need-add-at-trace (visit-rounds-callees t) (visit-rounds-at t) visit-rounds.Post visit-rounds-Inv-loop visit-rounds-μ-loop
-visit-rounds-add-at-trace t c = record { fits = omega (arith, c .before .before .before .before .before .before .before .before .before .before .before .before .before .before .before .before .pre .1 .0 .deep) }
+visit-rounds-add-with-trace-words : (t : ℕ) → visit-rounds-lts.Need-add-with-trace-words (visit-rounds-callees t) (visit-rounds-at t) visit-rounds.Post visit-rounds-Inv-loop visit-rounds-μ-loop
+visit-rounds-add-with-trace-words t c = record { fits = omega (arith, c .before .before .before .before .before .before .before .before .before .before .before .before .before .before .before .before .pre .1 .0 .deep) }
 
-visit-rounds-at-trace-requires : (t : ℕ) → visit-rounds-lts.Need-at-trace-requires (visit-rounds-callees t) (visit-rounds-at t) visit-rounds.Post visit-rounds-Inv-loop visit-rounds-μ-loop
-visit-rounds-at-trace-requires t c κs = tt
+visit-rounds-with-trace-words-requires : (t : ℕ) → visit-rounds-lts.Need-with-trace-words-requires (visit-rounds-callees t) (visit-rounds-at t) visit-rounds.Post visit-rounds-Inv-loop visit-rounds-μ-loop
+visit-rounds-with-trace-words-requires t c κs = tt
 
 visit-rounds-open-gate-requires : (t : ℕ) → visit-rounds-lts.Need-open-gate-requires (visit-rounds-callees t) (visit-rounds-at t) visit-rounds.Post visit-rounds-Inv-loop visit-rounds-μ-loop
-visit-rounds-open-gate-requires t c κs = (omega (arith, c .before .before .before .before .before .before .before .before .before .before .before .before .before .before .before .before .before .pre .0, c .before .before .before .before .before .before .before .before .before .before .before .before .before .before .before .before .before .pre .1 .1 .downward), (ready-opened (c .before .before .before .before .before .before .before .before .before .before .before .before .before .before .before .before .before .pre .1 .0) (c .before .before .before .before .before .before .before .before .before .before .before .before .before .before .before .before .before .pre .1 .1) (c .before .before .before .before .before .before .before .before .before .before .before .before .before .before .before .before .before .pre .1 .0 .angles) (c .before .before .before .before .before .qubits-in .ensures) (c .before .before .before .before .before .before .before .before .rounds-of .ensures) (c .before .before .before .before .before .before .loop-test .taken) (c .before .before .before .before .before .before .before .loop .inv .0) (c .before .before .before .before .before .before .before .loop .inv .1) (c .at-trace .ensures) (c .before .before .before .before .before .before .before .loop .inv .2), c .before .before .before .before .before .before .before .before .before .before .before .before .before .before .before .before .before .pre .1 .1 .known))
+visit-rounds-open-gate-requires t c κs = (omega (arith, c .before .before .before .before .before .before .before .before .before .before .before .before .before .before .before .before .before .pre .0, c .before .before .before .before .before .before .before .before .before .before .before .before .before .before .before .before .before .pre .1 .1 .downward), (ready-opened (c .before .before .before .before .before .before .before .before .before .before .before .before .before .before .before .before .before .pre .1 .0) (c .before .before .before .before .before .before .before .before .before .before .before .before .before .before .before .before .before .pre .1 .1) (c .before .before .before .before .before .before .before .before .before .before .before .before .before .before .before .before .before .pre .1 .0 .angles) (c .before .before .before .before .before .qubits-in .ensures) (c .before .before .before .before .before .before .before .before .rounds-of .ensures) (c .before .before .before .before .before .before .loop-test .taken) (c .before .before .before .before .before .before .before .loop .inv .0) (c .before .before .before .before .before .before .before .loop .inv .1) (c .with-trace-words .ensures) (c .before .before .before .before .before .before .before .loop .inv .2), c .before .before .before .before .before .before .before .before .before .before .before .before .before .before .before .before .before .pre .1 .1 .known))
 
 visit-rounds-enum-known-next : (t : ℕ) → visit-rounds-lts.Need-enum-known-next (visit-rounds-callees t) (visit-rounds-at t) visit-rounds.Post visit-rounds-Inv-loop visit-rounds-μ-loop
 visit-rounds-enum-known-next t c = search needs
 
-visit-rounds-at-trace-requires-2 : (t : ℕ) → visit-rounds-lts.Need-at-trace-requires-2 (visit-rounds-callees t) (visit-rounds-at t) visit-rounds.Post visit-rounds-Inv-loop visit-rounds-μ-loop
-visit-rounds-at-trace-requires-2 t c κs = tt
+visit-rounds-with-trace-words-requires-2 : (t : ℕ) → visit-rounds-lts.Need-with-trace-words-requires-2 (visit-rounds-callees t) (visit-rounds-at t) visit-rounds.Post visit-rounds-Inv-loop visit-rounds-μ-loop
+visit-rounds-with-trace-words-requires-2 t c κs = tt
 
 visit-rounds-enum-known-e : (t : ℕ) → visit-rounds-lts.Need-enum-known-e (visit-rounds-callees t) (visit-rounds-at t) visit-rounds.Post visit-rounds-Inv-loop visit-rounds-μ-loop
 visit-rounds-enum-known-e t c = search needs
 
-visit-rounds-mark-call-requires : (t : ℕ) → visit-rounds-lts.Need-mark-call-requires (visit-rounds-callees t) (visit-rounds-at t) visit-rounds.Post visit-rounds-Inv-loop visit-rounds-μ-loop
-visit-rounds-mark-call-requires t c κs = omega (arith, ran-lengths (c .before .before .before .before .before .before .before .before .before .before .open-gate .ensures .0) .1, ap length (c .before .before .before .before .before .before .before .before .before .before .before .before .before .before .before .before .before .before .loop .inv .1), c .before .before .before .before .before .before .before .before .before .before .before .before .before .before .before .before .before .before .before .before .before .before .before .before .before .before .before .before .pre .1 .0 .room, c .before .before .before .before .before .before .before .before .before .before .before .before .before .before .before .before .before .before .before .before .before .before .before .before .before .before .before .before .pre .1 .0 .deep, c .before .before .before .before .before .before .before .before .before .before .before .before .before .before .before .before .before .before .before .before .before .before .before .before .before .before .before .before .pre .1 .1 .downward)
+visit-rounds-write-trace-pair-requires : (t : ℕ) → visit-rounds-lts.Need-write-trace-pair-requires (visit-rounds-callees t) (visit-rounds-at t) visit-rounds.Post visit-rounds-Inv-loop visit-rounds-μ-loop
+visit-rounds-write-trace-pair-requires t c κs = omega (arith, ran-lengths (c .before .before .before .before .before .before .before .before .before .before .open-gate .ensures .0) .1, ap length (c .before .before .before .before .before .before .before .before .before .before .before .before .before .before .before .before .before .before .loop .inv .1), c .before .before .before .before .before .before .before .before .before .before .before .before .before .before .before .before .before .before .before .before .before .before .before .before .before .before .before .before .pre .1 .0 .room, c .before .before .before .before .before .before .before .before .before .before .before .before .before .before .before .before .before .before .before .before .before .before .before .before .before .before .before .before .pre .1 .0 .deep, c .before .before .before .before .before .before .before .before .before .before .before .before .before .before .before .before .before .before .before .before .before .before .before .before .before .before .before .before .pre .1 .1 .downward)
 
 visit-rounds-same-length-2 : (t : ℕ) → visit-rounds-lts.Need-same-length-2 (visit-rounds-callees t) (visit-rounds-at t) visit-rounds.Post visit-rounds-Inv-loop visit-rounds-μ-loop
 visit-rounds-same-length-2 t c = omega (arith, c .before .before .before .before .before .before .before .before .before .before .before .before .table .given, c .before .before .before .before .before .before .before .before .before .before .before .before .before .before .before .before .before .before .before .before .before .loop .inv .3)
 
 visit-rounds-returns-2 : (t : ℕ) → visit-rounds-lts.Need-returns-2 (visit-rounds-callees t) (visit-rounds-at t) visit-rounds.Post visit-rounds-Inv-loop visit-rounds-μ-loop
-visit-rounds-returns-2 t c = (ran-from (c .before .before .before .before .before .before .before .before .before .before .before .before .before .before .before .before .before .before .before .before .before .loop .inv .1) (ran-stop _ _ (c .before .before .before .before .before .before .before .before .before .before .before .before .before .before .before .before .before .before .before .before .before .loop .inv .0) (c .before .before .before .before .before .before .before .before .before .before .before .before .before .before .before .before .before .before .before .before .loop-test .taken) (body-round (c .before .before .before .before .before .before .before .before .before .before .before .before .before .before .before .before .before .before .before .before .before .before .before .before .before .before .before .before .before .before .before .pre .1 .0 .stands) (c .before .before .before .before .before .before .before .before .before .before .before .before .before .before .before .before .before .before .before .before .before .before .before .before .before .before .before .before .before .before .before .pre .1 .1) (c .before .before .before .before .before .before .before .before .before .before .before .before .before .before .before .before .before .before .before .qubits-in .ensures) _ [] _ (c .before .before .before .before .before .before .before .before .before .before .before .before .before .before .before .before .before .before .before .before .before .before .before .if1 .left)) (ran-refused (c .before .before .before .before .before .before .before .before .before .before .before .before .before .open-gate .ensures .0) (c .before .before .before .before .before .before .before .before .before .before .before .before .before .before .at-trace .ensures) (sym (c .before .before .before .before .before .before .before .before .before .before .before .before .before .before .before .before .before .before .before .before .before .loop .inv .0 .level)) _ _ (c .before .before .before .before .before .e .given .1) (c .before .before .mark-call .ensures)) refl (c .before .before .before .before .before .before .before .before .before .before .before .before .before .before .before .before .before .before .before .before .before .before .rounds-of .ensures)), c .before .before .before .before .before .before .before .before .before .before .before .before .before .open-gate .ensures .1)
+visit-rounds-returns-2 t c = (ran-from (c .before .before .before .before .before .before .before .before .before .before .before .before .before .before .before .before .before .before .before .before .before .loop .inv .1) (ran-stop _ _ (c .before .before .before .before .before .before .before .before .before .before .before .before .before .before .before .before .before .before .before .before .before .loop .inv .0) (c .before .before .before .before .before .before .before .before .before .before .before .before .before .before .before .before .before .before .before .before .loop-test .taken) (body-round (c .before .before .before .before .before .before .before .before .before .before .before .before .before .before .before .before .before .before .before .before .before .before .before .before .before .before .before .before .before .before .before .pre .1 .0 .stands) (c .before .before .before .before .before .before .before .before .before .before .before .before .before .before .before .before .before .before .before .before .before .before .before .before .before .before .before .before .before .before .before .pre .1 .1) (c .before .before .before .before .before .before .before .before .before .before .before .before .before .before .before .before .before .before .before .qubits-in .ensures) _ [] _ (c .before .before .before .before .before .before .before .before .before .before .before .before .before .before .before .before .before .before .before .before .before .before .before .if1 .left)) (ran-refused (c .before .before .before .before .before .before .before .before .before .before .before .before .before .open-gate .ensures .0) (c .before .before .before .before .before .before .before .before .before .before .before .before .before .before .with-trace-words .ensures) (sym (c .before .before .before .before .before .before .before .before .before .before .before .before .before .before .before .before .before .before .before .before .before .loop .inv .0 .level)) _ _ (c .before .before .before .before .before .e .given .1) (c .before .before .write-trace-pair .ensures)) refl (c .before .before .before .before .before .before .before .before .before .before .before .before .before .before .before .before .before .before .before .before .before .before .rounds-of .ensures)), c .before .before .before .before .before .before .before .before .before .before .before .before .before .open-gate .ensures .1)
 
 visit-rounds-same-length-3 : (t : ℕ) → visit-rounds-lts.Need-same-length-3 (visit-rounds-callees t) (visit-rounds-at t) visit-rounds.Post visit-rounds-Inv-loop visit-rounds-μ-loop
 visit-rounds-same-length-3 t c = ran-lengths (visit-rounds-returns-2 t c .0) .0
@@ -298,7 +298,7 @@ visit-rounds-loop-less : (t : ℕ) → visit-rounds-lts.Need-loop-less (visit-ro
 visit-rounds-loop-less t c = omega (arith, c .before .before .before .before .before .before .before .before .before .before .before .before .before .before .before .before .before .loop-test .taken)
 
 visit-rounds-loop-again : (t : ℕ) → visit-rounds-lts.Need-loop-again (visit-rounds-callees t) (visit-rounds-at t) visit-rounds.Post visit-rounds-Inv-loop visit-rounds-μ-loop
-visit-rounds-loop-again t c = let w = ran-returned (c .before .before .before .before .before .before .before .before .before .before .open-gate .ensures .0) (c .before .before .before .before .before .before .before .before .before .before .before .at-trace .ensures) (sym (c .before .before .before .before .before .before .before .before .before .before .before .before .before .before .before .before .before .before .loop .inv .0 .level)) (c .before .before .before .before .before .before .before .before .before .before .before .before .before .before .before .before .before .before .before .before .before .before .before .before .before .before .before .before .args .scope ∷ c .before .before .before .before .before .before .before .before .before .before .before .before .before .before .before .before .before .before .before .before .before .before .before .before .before .before .before .before .args .call .place ∷ []) (c .before .before .next .given .1) (c .at-trace2 .ensures) in (looped-next _ _ (c .before .before .before .before .before .before .before .before .before .before .before .before .before .before .before .before .before .before .loop .inv .0) (c .before .before .before .before .before .before .before .before .before .before .before .before .before .before .before .before .before .loop-test .taken) (body-round (c .before .before .before .before .before .before .before .before .before .before .before .before .before .before .before .before .before .before .before .before .before .before .before .before .before .before .before .before .pre .1 .0 .stands) (c .before .before .before .before .before .before .before .before .before .before .before .before .before .before .before .before .before .before .before .before .before .before .before .before .before .before .before .before .pre .1 .1) (c .before .before .before .before .before .before .before .before .before .before .before .before .before .before .before .before .qubits-in .ensures) _ [] _ (c .before .before .before .before .before .before .before .before .before .before .before .before .before .before .before .before .before .before .before .before .if1 .left)) refl (w .0), w .1 ∙ c .before .before .before .before .before .before .before .before .before .before .before .before .before .before .before .before .before .before .loop .inv .1, c .before .before .before .before .before .before .before .before .before .before .open-gate .ensures .1, omega (arith, c .before .before .before .before .before .before .before .before .before .table .given, c .before .before .before .before .before .before .before .before .before .before .before .before .before .before .before .before .before .before .loop .inv .3))
+visit-rounds-loop-again t c = let w = ran-returned (c .before .before .before .before .before .before .before .before .before .before .open-gate .ensures .0) (c .before .before .before .before .before .before .before .before .before .before .before .with-trace-words .ensures) (sym (c .before .before .before .before .before .before .before .before .before .before .before .before .before .before .before .before .before .before .loop .inv .0 .level)) (c .before .before .before .before .before .before .before .before .before .before .before .before .before .before .before .before .before .before .before .before .before .before .before .before .before .before .before .before .args .scope ∷ c .before .before .before .before .before .before .before .before .before .before .before .before .before .before .before .before .before .before .before .before .before .before .before .before .before .before .before .before .args .call .place ∷ []) (c .before .before .next .given .1) (c .with-trace-words2 .ensures) in (looped-next _ _ (c .before .before .before .before .before .before .before .before .before .before .before .before .before .before .before .before .before .before .loop .inv .0) (c .before .before .before .before .before .before .before .before .before .before .before .before .before .before .before .before .before .loop-test .taken) (body-round (c .before .before .before .before .before .before .before .before .before .before .before .before .before .before .before .before .before .before .before .before .before .before .before .before .before .before .before .before .pre .1 .0 .stands) (c .before .before .before .before .before .before .before .before .before .before .before .before .before .before .before .before .before .before .before .before .before .before .before .before .before .before .before .before .pre .1 .1) (c .before .before .before .before .before .before .before .before .before .before .before .before .before .before .before .before .qubits-in .ensures) _ [] _ (c .before .before .before .before .before .before .before .before .before .before .before .before .before .before .before .before .before .before .before .before .if1 .left)) refl (w .0), w .1 ∙ c .before .before .before .before .before .before .before .before .before .before .before .before .before .before .before .before .before .before .loop .inv .1, c .before .before .before .before .before .before .before .before .before .before .open-gate .ensures .1, omega (arith, c .before .before .before .before .before .before .before .before .before .table .given, c .before .before .before .before .before .before .before .before .before .before .before .before .before .before .before .before .before .before .loop .inv .3))
 
 visit-rounds-same-length-5 : (t : ℕ) → visit-rounds-lts.Need-same-length-5 (visit-rounds-callees t) (visit-rounds-at t) visit-rounds.Post visit-rounds-Inv-loop visit-rounds-μ-loop
 visit-rounds-same-length-5 t c = c .before .loop .inv .3
@@ -333,17 +333,17 @@ visit-statement-same-length-3 t c = ran-lengths (c .before .before .before .befo
 visit-statement-returns : (t : ℕ) → visit-statement-lts.Need-returns (visit-statement-callees t) (visit-statement-at t) visit-statement.Post
 visit-statement-returns t c = c .before .before .before .before .before .before .visit-gate .ensures
 
-visit-statement-visit-leaf-requires : (t : ℕ) → visit-statement-lts.Need-visit-leaf-requires (visit-statement-callees t) (visit-statement-at t) visit-statement.Post
-visit-statement-visit-leaf-requires t c κs = (c .before .before .before .before .before .before .before .before .before .before .before .pre .1 .0 .stands, c .before .before .before .before .before .before .before .before .before .before .before .pre .1 .0 .fixed, c .before .before .before .before .before .before .before .before .before .before .before .pre .1 .0 .angles, c .before .before .before .before .before .before .before .before .before .before .before .pre .1 .1, c .before .before .before .before .before .before .before .before .before .before .before .pre .1 .2, (λ e. c .before .before .if1 .left (c .before .before .before .word .ensures ∙ ap (word (now (c .before .before .before .before .before .before .before .before .before .before .before .args .image))) (c .before .before .before .before .statement-at .ensures) ∙ e)), c .before .before .before .before .before .before .before .before .before .before .before .pre .1 .0 .opens)
+visit-statement-visit-primitive-requires : (t : ℕ) → visit-statement-lts.Need-visit-primitive-requires (visit-statement-callees t) (visit-statement-at t) visit-statement.Post
+visit-statement-visit-primitive-requires t c κs = (c .before .before .before .before .before .before .before .before .before .before .before .pre .1 .0 .stands, c .before .before .before .before .before .before .before .before .before .before .before .pre .1 .0 .fixed, c .before .before .before .before .before .before .before .before .before .before .before .pre .1 .0 .angles, c .before .before .before .before .before .before .before .before .before .before .before .pre .1 .1, c .before .before .before .before .before .before .before .before .before .before .before .pre .1 .2, (λ e. c .before .before .if1 .left (c .before .before .before .word .ensures ∙ ap (word (now (c .before .before .before .before .before .before .before .before .before .before .before .args .image))) (c .before .before .before .before .statement-at .ensures) ∙ e)), c .before .before .before .before .before .before .before .before .before .before .before .pre .1 .0 .opens)
 
 visit-statement-same-length-4 : (t : ℕ) → visit-statement-lts.Need-same-length-4 (visit-statement-callees t) (visit-statement-at t) visit-statement.Post
 visit-statement-same-length-4 t c = omega (arith, c .before .before .before .table2 .given)
 
 visit-statement-same-length-5 : (t : ℕ) → visit-statement-lts.Need-same-length-5 (visit-statement-callees t) (visit-statement-at t) visit-statement.Post
-visit-statement-same-length-5 t c = c .before .before .before .before .visit-leaf .ensures .0 .plays .same
+visit-statement-same-length-5 t c = c .before .before .before .before .visit-primitive .ensures .0 .plays .same
 
 visit-statement-returns-2 : (t : ℕ) → visit-statement-lts.Need-returns-2 (visit-statement-callees t) (visit-statement-at t) visit-statement.Post
-visit-statement-returns-2 t c = (wrote-ran _ (wrote-steps (leaf-steps _ _ _ _ (λ e. c .before .before .before .before .before .before .before .if1 .left (c .before .before .before .before .before .before .before .before .word .ensures ∙ ap (word (now (c .before .before .before .before .before .before .before .before .before .before .before .before .before .before .before .before .args .image))) (c .before .before .before .before .before .before .before .before .before .statement-at .ensures) ∙ e))) (c .before .before .before .before .visit-leaf .ensures .0)), c .before .before .before .before .visit-leaf .ensures .1)
+visit-statement-returns-2 t c = (wrote-ran _ (wrote-steps (leaf-steps _ _ _ _ (λ e. c .before .before .before .before .before .before .before .if1 .left (c .before .before .before .before .before .before .before .before .word .ensures ∙ ap (word (now (c .before .before .before .before .before .before .before .before .before .before .before .before .before .before .before .before .args .image))) (c .before .before .before .before .before .before .before .before .before .statement-at .ensures) ∙ e))) (c .before .before .before .before .visit-primitive .ensures .0)), c .before .before .before .before .visit-primitive .ensures .1)
 
 pub +open-gate+visit-gate+visit-rounds+visit-statement-spec : {M : Type 1} → statement M
 +open-gate+visit-gate+visit-rounds+visit-statement-spec =
@@ -352,7 +352,7 @@ pub +open-gate+visit-gate+visit-rounds+visit-statement-spec : {M : Type 1} → s
     open-gate.Post
     open-gate-Inv-loop
     open-gate-μ-loop
-    (open-gate-write-cut-requires t)
+    (open-gate-write-cut-gate-requires t)
     (open-gate-same-length t)
     (open-gate-returns t)
     (open-gate-add-statements-of t)
@@ -402,13 +402,13 @@ pub +open-gate+visit-gate+visit-rounds+visit-statement-spec : {M : Type 1} → s
     (visit-rounds-rounds-of-requires t)
     (visit-rounds-loop-holds t)
     (visit-rounds-qubits-in-requires t)
-    (visit-rounds-add-at-trace t)
-    (visit-rounds-at-trace-requires t)
+    (visit-rounds-add-with-trace-words t)
+    (visit-rounds-with-trace-words-requires t)
     (visit-rounds-open-gate-requires t)
     (visit-rounds-enum-known-next t)
-    (visit-rounds-at-trace-requires-2 t)
+    (visit-rounds-with-trace-words-requires-2 t)
     (visit-rounds-enum-known-e t)
-    (visit-rounds-mark-call-requires t)
+    (visit-rounds-write-trace-pair-requires t)
     (visit-rounds-same-length-2 t)
     (visit-rounds-same-length-3 t)
     (visit-rounds-same-length-4 t)
@@ -430,7 +430,7 @@ pub +open-gate+visit-gate+visit-rounds+visit-statement-spec : {M : Type 1} → s
     (visit-statement-same-length-2 t)
     (visit-statement-same-length-3 t)
     (visit-statement-returns t)
-    (visit-statement-visit-leaf-requires t)
+    (visit-statement-visit-primitive-requires t)
     (visit-statement-same-length-4 t)
     (visit-statement-same-length-5 t)
     (visit-statement-returns-2 t)

@@ -1,7 +1,7 @@
 use native.Mathlib.Omega.{arith}
 use denote.Ref.{now}
 use borrow.Author.Needs.{needs}
-use Rattle.gate.proofs.StatementLaws.{read-at, known-gate, near-statement, near-gate, call-is}
+use Rattle.gate.proofs.PrimitiveStatementLaws.{read-at, known-gate, near-statement, near-gate, call-is}
 use Rattle.gate.proofs.call_at.Statement.{statement}
 use Rattle.gate.proofs.call_at.Tie as tie
 

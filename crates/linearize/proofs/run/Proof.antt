@@ -1,7 +1,7 @@
 use native.Mathlib.Omega.{arith}
 use mathlib.Core.Path.{sym, ap, _∙_}
 use borrow.Author.Needs.{needs}
-use Rattle.linearize.proofs.OutcomeLaws.{short-trace, not-accepted, not-fine}
+use Rattle.linearize.proofs.LinearizesLaws.{short-trace, not-accepted, not-fine}
 use Rattle.image.specs.Answer.{answerFlaw}
 use Rattle.linearize.proofs.run.Statement.{statement}
 use Rattle.linearize.proofs.run.Tie as tie

@@ -1,9 +1,9 @@
 use mathlib.Core.Path.{ap, subst}
 use borrow.Author.Needs.{needs}
 use denote.Ref.{now}
-use Rattle.gate.proofs.RanLaws.{ran-lengths}
+use Rattle.gate.proofs.RanStepsLaws.{ran-lengths}
 use Rattle.model.proofs.Accepted.{contents-right}
-use Rattle.linearize.proofs.OutcomeLaws.{accepted-run}
+use Rattle.linearize.proofs.LinearizesLaws.{accepted-run}
 use Rattle.model.proofs.Accepted.{accepts}
 use Rattle.image.specs.Layout.{ReadAs}
 use Prim.Native.Nat.{zero-le}

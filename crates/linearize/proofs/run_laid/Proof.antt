@@ -1,7 +1,7 @@
 use mathlib.Core.Path.{refl, _∙_}
 use borrow.Author.Needs.{needs}
-use Rattle.gate.proofs.RanLaws.{wrote-ran, wrote-then, wrote-stops, ran-lengths, ran-steps}
-use Rattle.linearize.proofs.ProgramLaws.{no-steps, head-steps, wrote-nothing, open-after}
+use Rattle.gate.proofs.RanStepsLaws.{wrote-ran, wrote-then, wrote-stops, ran-lengths, ran-steps}
+use Rattle.linearize.proofs.MainContextLaws.{no-steps, head-steps, wrote-nothing, open-after}
 use Rattle.linearize.proofs.run_laid.Statement.{statement}
 use Rattle.linearize.proofs.run_laid.Tie as tie
 
@@ -14,17 +14,17 @@ write-head-requires c κs = search needs
 enum-known-next : tie.Need-enum-known-next
 enum-known-next c = search needs
 
-levels-requires : tie.Need-levels-requires
-levels-requires c κs = search needs
+levels-to-open-requires : tie.Need-levels-to-open-requires
+levels-to-open-requires c κs = search needs
 
-visit-statements-requires : tie.Need-visit-statements-requires
-visit-statements-requires c κs = let o = open-after (c .before .before .before .before .before .before .before .before .before .before .before .before .before .before .before .pre .2) (c .before .before .before .before .before .before .before .before .write-head .ensures) (c .before .before .before .before .next .given .1) in (c .before .before .before .before .before .before .before .before .before .before .before .before .before .before .before .pre .0, c .before .before .before .before .before .before .before .before .before .before .before .before .before .before .before .pre .1, o .0, c .before .before .before .before .before .before .before .before .before .before .before .before .before .before .before .pre .3, o .1 ∙ c .before .before .before .before .before .before .before .before .before .before .before .before .before .before .before .pre .4)
+visit-with-register-starts-requires : tie.Need-visit-with-register-starts-requires
+visit-with-register-starts-requires c κs = let o = open-after (c .before .before .before .before .before .before .before .before .before .before .before .before .before .before .before .pre .2) (c .before .before .before .before .before .before .before .before .write-head .ensures) (c .before .before .before .before .next .given .1) in (c .before .before .before .before .before .before .before .before .before .before .before .before .before .before .before .pre .0, c .before .before .before .before .before .before .before .before .before .before .before .before .before .before .before .pre .1, o .0, c .before .before .before .before .before .before .before .before .before .before .before .before .before .before .before .pre .3, o .1 ∙ c .before .before .before .before .before .before .before .before .before .before .before .before .before .before .before .pre .4)
 
 enum-known-e : tie.Need-enum-known-e
 enum-known-e c = search needs
 
 returns-2 : tie.Need-returns-2
-returns-2 c = ran-steps (head-steps _ _ (c .before .before .before .before .before .before .before .before .before .before .before .before .before .before .before .before .before .before .before .before .pre .0 .main-is) (c .before .before .before .before .before .before .before .before .before .before .before .before .before .before .before .if1 .left) (c .before .before .before .before .before .before .before .levels .ensures)) (wrote-then (c .before .before .before .before .before .before .before .before .before .before .before .before .before .write-head .ensures) (c .before .before .before .before .before .before .before .before .before .next .given .1) (c .before .before .before .before .visit-statements .ensures))
+returns-2 c = ran-steps (head-steps _ _ (c .before .before .before .before .before .before .before .before .before .before .before .before .before .before .before .before .before .before .before .before .pre .0 .main-is) (c .before .before .before .before .before .before .before .before .before .before .before .before .before .before .before .if1 .left) (c .before .before .before .before .before .before .before .levels-to-open .ensures)) (wrote-then (c .before .before .before .before .before .before .before .before .before .before .before .before .before .write-head .ensures) (c .before .before .before .before .before .before .before .before .before .next .given .1) (c .before .before .before .before .visit-with-register-starts .ensures))
 
 same-length-2 : tie.Need-same-length-2
 same-length-2 c = ran-lengths (returns-2 c) .1
@@ -45,8 +45,8 @@ run-laid-spec =
     returns
     write-head-requires
     enum-known-next
-    levels-requires
-    visit-statements-requires
+    levels-to-open-requires
+    visit-with-register-starts-requires
     enum-known-e
     same-length
     same-length-2

@@ -1,9 +1,9 @@
 use native.Mathlib.Omega.{arith}
 use mathlib.Core.Path.{refl}
 use borrow.Author.Needs.{needs}
-use Rattle.gate.proofs.RanLaws.{wrote-then, wrote-stops, ran-steps}
-use Rattle.gate.proofs.CycleLaws.{ready-wrote}
-use Rattle.linearize.proofs.ProgramLaws.{register-listed, register-tabled, held-listed, conditional-steps}
+use Rattle.gate.proofs.RanStepsLaws.{wrote-then, wrote-stops, ran-steps}
+use Rattle.gate.proofs.RunContextLaws.{ready-wrote}
+use Rattle.linearize.proofs.MainContextLaws.{register-listed, register-tabled, held-listed, conditional-steps}
 use Rattle.linearize.proofs.visit_conditional.Statement.{statement}
 use Rattle.linearize.proofs.visit_conditional.Tie as tie
 
@@ -49,8 +49,8 @@ add-word-5 c = record { fits = omega (arith, c .before .before .before .before .
 word-requires-4 : tie.Need-word-requires-4
 word-requires-4 c κs = search needs
 
-visit-held-requires : tie.Need-visit-held-requires
-visit-held-requires c κs = let h = held-listed _ _ (c .before .before .before .before .before .before .before .before .before .before .before .before .before .before .before .before .before .before .before .before .before .before .before .pre .0 .stands) (c .before .before .before .before .before .before .before .before .before .before .before .before .before .before .before .before .before .before .before .before .before .before .before .pre .3) (c .before .before .before .before .before .before .before .before .before .before .before .before .before .before .before .before .before .before .before .before .before .before .before .pre .2) (c .before .before .before .before .before .before .before .before .before .before .before .before .before .before .before .before .statement-at .ensures) refl refl (c .before .before .word4 .ensures) in (ready-wrote (c .before .before .before .before .before .before .before .before .before .before .before .before .before .before .before .before .before .before .before .before .before .before .before .pre .0) (c .before .before .before .before .before .before .before .before .before .write-conditional-start .ensures) (c .before .before .before .before .before .next .given .1), h .0, h .1)
+visit-inner-statement-requires : tie.Need-visit-inner-statement-requires
+visit-inner-statement-requires c κs = let h = held-listed _ _ (c .before .before .before .before .before .before .before .before .before .before .before .before .before .before .before .before .before .before .before .before .before .before .before .pre .0 .stands) (c .before .before .before .before .before .before .before .before .before .before .before .before .before .before .before .before .before .before .before .before .before .before .before .pre .3) (c .before .before .before .before .before .before .before .before .before .before .before .before .before .before .before .before .before .before .before .before .before .before .before .pre .2) (c .before .before .before .before .before .before .before .before .before .before .before .before .before .before .before .before .statement-at .ensures) refl refl (c .before .before .word4 .ensures) in (ready-wrote (c .before .before .before .before .before .before .before .before .before .before .before .before .before .before .before .before .before .before .before .before .before .before .before .pre .0) (c .before .before .before .before .before .before .before .before .before .write-conditional-start .ensures) (c .before .before .before .before .before .next .given .1), h .0, h .1)
 
 enum-known-e : tie.Need-enum-known-e
 enum-known-e c = search needs
@@ -65,7 +65,7 @@ same-length-3 : tie.Need-same-length-3
 same-length-3 c = search needs
 
 returns : tie.Need-returns
-returns c = (ran-steps (conditional-steps _ _ (c .before .before .before .before .before .before .before .before .before .before .before .before .before .before .before .before .before .before .before .before .before .before .before .before .before .before .before .before .before .before .pre .0 .stands) (c .before .before .before .before .before .before .before .before .before .before .before .before .before .before .before .before .before .before .before .before .before .before .before .before .before .before .before .before .before .before .pre .3) (c .before .before .before .before .before .before .before .before .before .before .before .before .before .before .before .before .before .before .before .before .before .before .before .before .before .before .before .before .before .before .pre .2) (c .before .before .before .before .before .before .before .before .before .before .before .before .before .before .before .before .before .before .before .before .before .before .before .statement-at .ensures) (c .before .before .before .before .before .before .before .before .before .before .before .before .before .before .before .before .before .before .before .before .before .before .word .ensures) (c .before .before .before .before .before .before .before .before .before .before .before .before .before .before .before .before .before .word3 .ensures) (c .before .before .before .before .before .before .before .before .before .word4 .ensures) _ _ refl (c .before .before .before .before .before .before .before .before .before .before .before .before .before .before .before .before .before .before .before .before .word2 .ensures) refl) (wrote-then (c .before .before .before .before .before .before .before .before .before .before .before .before .before .before .before .before .write-conditional-start .ensures) (c .before .before .before .before .before .before .before .before .before .before .before .before .next .given .1) (c .before .before .before .before .before .before .visit-held .ensures .0)), c .before .before .before .before .before .before .visit-held .ensures .1)
+returns c = (ran-steps (conditional-steps _ _ (c .before .before .before .before .before .before .before .before .before .before .before .before .before .before .before .before .before .before .before .before .before .before .before .before .before .before .before .before .before .before .pre .0 .stands) (c .before .before .before .before .before .before .before .before .before .before .before .before .before .before .before .before .before .before .before .before .before .before .before .before .before .before .before .before .before .before .pre .3) (c .before .before .before .before .before .before .before .before .before .before .before .before .before .before .before .before .before .before .before .before .before .before .before .before .before .before .before .before .before .before .pre .2) (c .before .before .before .before .before .before .before .before .before .before .before .before .before .before .before .before .before .before .before .before .before .before .before .statement-at .ensures) (c .before .before .before .before .before .before .before .before .before .before .before .before .before .before .before .before .before .before .before .before .before .before .word .ensures) (c .before .before .before .before .before .before .before .before .before .before .before .before .before .before .before .before .before .word3 .ensures) (c .before .before .before .before .before .before .before .before .before .word4 .ensures) _ _ refl (c .before .before .before .before .before .before .before .before .before .before .before .before .before .before .before .before .before .before .before .before .word2 .ensures) refl) (wrote-then (c .before .before .before .before .before .before .before .before .before .before .before .before .before .before .before .before .write-conditional-start .ensures) (c .before .before .before .before .before .before .before .before .before .before .before .before .next .given .1) (c .before .before .before .before .before .before .visit-inner-statement .ensures .0)), c .before .before .before .before .before .before .visit-inner-statement .ensures .1)
 
 same-length-4 : tie.Need-same-length-4
 same-length-4 c = search needs
@@ -91,7 +91,7 @@ visit-conditional-spec =
     enum-known-next
     add-word-5
     word-requires-4
-    visit-held-requires
+    visit-inner-statement-requires
     enum-known-e
     same-length
     same-length-2

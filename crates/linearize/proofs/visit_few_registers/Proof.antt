@@ -1,6 +1,6 @@
 use native.Mathlib.Omega.{arith}
 use borrow.Author.Needs.{needs}
-use Rattle.linearize.proofs.ProgramLaws.{quantum-fits, classical-fits, tabled}
+use Rattle.linearize.proofs.MainContextLaws.{quantum-fits, classical-fits, tabled}
 use Rattle.linearize.proofs.visit_few_registers.Statement.{statement}
 use Rattle.linearize.proofs.visit_few_registers.Tie as tie
 
@@ -25,14 +25,14 @@ first-of-each-requires-2 c κs =
     let q = classical-fits (s .pre .0) (s .pre .1) in
     (q .0, s .pre .6, q .2)
 
-slice-aggregate-visit-tabled : tie.Need-slice-aggregate-visit-tabled
-slice-aggregate-visit-tabled c = search needs
+slice-aggregate-visit-with-kept-values : tie.Need-slice-aggregate-visit-with-kept-values
+slice-aggregate-visit-with-kept-values c = search needs
 
-slice-aggregate-visit-tabled-2 : tie.Need-slice-aggregate-visit-tabled-2
-slice-aggregate-visit-tabled-2 c = search needs
+slice-aggregate-visit-with-kept-values-2 : tie.Need-slice-aggregate-visit-with-kept-values-2
+slice-aggregate-visit-with-kept-values-2 c = search needs
 
-visit-tabled-requires : tie.Need-visit-tabled-requires
-visit-tabled-requires c κs =
+visit-with-kept-values-requires : tie.Need-visit-with-kept-values-requires
+visit-with-kept-values-requires c κs =
     let b = c .before .before .before .before .before in
     let q = b .before .before .before .before in
     let s = q .before .before .before .before .before in
@@ -56,9 +56,9 @@ visit-few-registers-spec =
     add-first-of-each
     slice-aggregate-first-of-each-2
     first-of-each-requires-2
-    slice-aggregate-visit-tabled
-    slice-aggregate-visit-tabled-2
-    visit-tabled-requires
+    slice-aggregate-visit-with-kept-values
+    slice-aggregate-visit-with-kept-values-2
+    visit-with-kept-values-requires
     same-length
     same-length-2
     returns)

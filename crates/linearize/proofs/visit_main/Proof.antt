@@ -1,10 +1,10 @@
 use mathlib.Core.Path.{ap, _∙_}
 use borrow.Author.Needs.{needs}
 use denote.Ref.{now}
-use Rattle.gate.proofs.RanLaws.{ran-steps}
-use Rattle.gate.proofs.CycleLaws.{kind-read}
-use Rattle.gate.proofs.BodyLaws.{statement-steps}
-use Rattle.linearize.proofs.ProgramLaws.{plain-in-main}
+use Rattle.gate.proofs.RanStepsLaws.{ran-steps}
+use Rattle.gate.proofs.RunContextLaws.{kind-read}
+use Rattle.gate.proofs.OpenGateLaws.{statement-steps}
+use Rattle.linearize.proofs.MainContextLaws.{plain-in-main}
 use Rattle.model.specs.Image.{word}
 use Rattle.linearize.proofs.visit_main.Statement.{statement}
 use Rattle.linearize.proofs.visit_main.Tie as tie

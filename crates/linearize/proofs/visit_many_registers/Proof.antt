@@ -1,6 +1,6 @@
 use native.Mathlib.Omega.{arith}
 use borrow.Author.Needs.{needs}
-use Rattle.linearize.proofs.ProgramLaws.{quantum-fits, classical-fits, tabled}
+use Rattle.linearize.proofs.MainContextLaws.{quantum-fits, classical-fits, tabled}
 use Rattle.linearize.proofs.visit_many_registers.Statement.{statement}
 use Rattle.linearize.proofs.visit_many_registers.Tie as tie
 
@@ -24,14 +24,14 @@ first-of-each-requires-2 c κs =
     let s = c .before .before .before .before .before .before .before .before in
     classical-fits (s .pre .0) (s .pre .1)
 
-slice-aggregate-visit-tabled : tie.Need-slice-aggregate-visit-tabled
-slice-aggregate-visit-tabled c = search needs
+slice-aggregate-visit-with-kept-values : tie.Need-slice-aggregate-visit-with-kept-values
+slice-aggregate-visit-with-kept-values c = search needs
 
-slice-aggregate-visit-tabled-2 : tie.Need-slice-aggregate-visit-tabled-2
-slice-aggregate-visit-tabled-2 c = search needs
+slice-aggregate-visit-with-kept-values-2 : tie.Need-slice-aggregate-visit-with-kept-values-2
+slice-aggregate-visit-with-kept-values-2 c = search needs
 
-visit-tabled-requires : tie.Need-visit-tabled-requires
-visit-tabled-requires c κs =
+visit-with-kept-values-requires : tie.Need-visit-with-kept-values-requires
+visit-with-kept-values-requires c κs =
     let b = c .before .before .before .before .before in
     let q = b .before .before .before .before in
     let s = q .before .before .before .before .before in
@@ -55,9 +55,9 @@ visit-many-registers-spec =
     add-first-of-each
     slice-aggregate-first-of-each-2
     first-of-each-requires-2
-    slice-aggregate-visit-tabled
-    slice-aggregate-visit-tabled-2
-    visit-tabled-requires
+    slice-aggregate-visit-with-kept-values
+    slice-aggregate-visit-with-kept-values-2
+    visit-with-kept-values-requires
     same-length
     same-length-2
     returns)

@@ -5,9 +5,9 @@ use borrow.Author.Needs.{needs}
 use denote.Ref.{now}
 use lib.ListN.{length}
 use Rattle.statement.proofs.LoopLaws.{Looped, looped-start, looped-length}
-use Rattle.gate.proofs.RanLaws.{ran-next, ran-stop, ran-done, ran-lengths, ran-steps, ran-from, ran-still}
-use Rattle.gate.proofs.CycleLaws.{ready-on}
-use Rattle.linearize.proofs.ProgramLaws.{main-ready, main-steps, main-facts}
+use Rattle.gate.proofs.RanStepsLaws.{ran-next, ran-stop, ran-done, ran-lengths, ran-steps, ran-from, ran-still}
+use Rattle.gate.proofs.RunContextLaws.{ready-on}
+use Rattle.linearize.proofs.MainContextLaws.{main-ready, main-steps, main-facts}
 use Rattle.model.specs.Steps.{visitStatement, opening}
 use Rattle.argument.specs.Frames.{scopeFrame}
 use Rattle.expression.specs.Table.{anglesIn, ConstantsKept}

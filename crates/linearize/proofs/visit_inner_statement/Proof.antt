@@ -1,8 +1,8 @@
 use borrow.Author.Needs.{needs}
-use Rattle.gate.proofs.RanLaws.{ran-then, ran-stops}
-use Rattle.gate.proofs.CycleLaws.{ran-open}
-use Rattle.linearize.proofs.visit_held.Statement.{statement}
-use Rattle.linearize.proofs.visit_held.Tie as tie
+use Rattle.gate.proofs.RanStepsLaws.{ran-then, ran-stops}
+use Rattle.gate.proofs.RunContextLaws.{ran-open}
+use Rattle.linearize.proofs.visit_inner_statement.Statement.{statement}
+use Rattle.linearize.proofs.visit_inner_statement.Tie as tie
 
 visit-statement-requires : tie.Need-visit-statement-requires
 visit-statement-requires c κs = search needs
@@ -40,8 +40,8 @@ same-length-6 c = search needs
 returns-2 : tie.Need-returns-2
 returns-2 c = (ran-stops _ (c .before .before .before .before .before .before .before .before .before .visit-statement .ensures .0) (c .before .e .given .1), c .before .before .before .before .before .before .before .before .before .visit-statement .ensures .1)
 
-pub visit-held-spec : {M : Type 1} → statement M
-visit-held-spec =
+pub visit-inner-statement-spec : {M : Type 1} → statement M
+visit-inner-statement-spec =
     tie.close
     (tie.spec
     visit-statement-requires

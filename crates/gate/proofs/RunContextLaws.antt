@@ -20,11 +20,11 @@ use Rattle.gate.specs.declared.Call.{Call}
 use Rattle.record_writer.specs.declared.Linearized.{Linearized}
 use Rattle.record_writer.specs.Promise.{InOutput, WroteSteps, SoundAngles}
 use Rattle.argument.specs.Frames.{scopeFrame, RoundQubits}
-use Rattle.gate.specs.Running.{RunContext, RanSteps, plainSteps, CallStatement, callSteps}
+use Rattle.gate.specs.RunContext.{RunContext, RanSteps, plainSteps, CallStatement, callSteps}
 use Rattle.record_writer.specs.declared.Linearized.the-variants as linearized
 use Rattle.statement.proofs.LoopLaws.{Looped, wrote-open}
-use Rattle.gate.proofs.RanLaws.{ran-wrote}
-use Rattle.gate.proofs.BodyLaws.{opened-stands, body-facts, statement-steps, bodyStatement}
+use Rattle.gate.proofs.RanStepsLaws.{ran-wrote}
+use Rattle.gate.proofs.OpenGateLaws.{opened-stands, body-facts, statement-steps, bodyStatement}
 
 pub kind-read : (image : List ℕ) (s : ℕ) {p k n : ℕ} → p ≡ statementAt image s → k ≡ word image p → k ≡ n → word image (statementAt image s) ≡ n
 kind-read image s e f h = ap (word image) (sym e) ∙ sym f ∙ h

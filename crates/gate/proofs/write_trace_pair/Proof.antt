@@ -1,8 +1,8 @@
 use mathlib.Core.Path.{refl}
 use native.Mathlib.Numerals.{add-one}
 use borrow.Author.Needs.{needs}
-use Rattle.gate.proofs.mark_call.Statement.{statement}
-use Rattle.gate.proofs.mark_call.Tie as tie
+use Rattle.gate.proofs.write_trace_pair.Statement.{statement}
+use Rattle.gate.proofs.write_trace_pair.Tie as tie
 
 mul-trace : tie.Need-mul-trace
 mul-trace c = search needs
@@ -25,8 +25,8 @@ same-length c = search needs
 returns : tie.Need-returns
 returns c = rw (add-one (c .args .at)) refl
 
-pub mark-call-spec : {M : Type 1} → statement M
-mark-call-spec =
+pub write-trace-pair-spec : {M : Type 1} → statement M
+write-trace-pair-spec =
     tie.close
     (tie.spec
     mul-trace

@@ -18,9 +18,9 @@ use Rattle.image.proofs.KindLaws.{gate-is, words-are}
 use Rattle.gate.specs.declared.Call.{Call}
 use Rattle.argument.specs.Frames.{scopeFrame, ScopeContext}
 use Rattle.unitary.specs.Named.{namedAt, ListedExpressions}
-use Rattle.gate.specs.Running.{nested, plainSteps, callOf, CallStatement, callSteps}
+use Rattle.gate.specs.RunContext.{nested, plainSteps, callOf, CallStatement, callSteps}
 use Rattle.unitary.proofs.GivenLaws.{listed-values}
-use Rattle.gate.proofs.StatementLaws.{few-variables}
+use Rattle.gate.proofs.PrimitiveStatementLaws.{few-variables}
 
 -- the words of consecutive parameters
 parameters-from : (image : List ℕ) (p k n : ℕ) → map (λ i. word image (parameterAt image p + i)) (range k n) ≡ map (parameter image) (range (p + k) n)

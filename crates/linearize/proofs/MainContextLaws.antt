@@ -27,8 +27,8 @@ use Rattle.expression.specs.Table.{ConstantsKept}
 use Rattle.expression.proofs.AngleLaws.{zeros-sound}
 use Rattle.record_writer.specs.declared.Position.{Position}
 use Rattle.record_writer.specs.Promise.{InOutput, WroteSteps}
-use Rattle.gate.specs.Running.{RunContext, plainSteps}
-use Rattle.linearize.specs.Tabled.{MainContext}
+use Rattle.gate.specs.RunContext.{RunContext, plainSteps}
+use Rattle.linearize.specs.MainContext.{MainContext}
 use Rattle.argument.proofs.ArgumentLaws.{few-classical, count-sum}
 
 -- ---- a main statement by its kind

@@ -2,9 +2,9 @@ use denote.Ref.{now}
 use Rattle.expression.specs.Table.{anglesIn}
 use native.Mathlib.Omega.{arith}
 use borrow.Author.Needs.{needs}
-use Rattle.gate.proofs.StatementLaws.{near-statement, u-needs, cx-needs, barrier-needs, measure-needs, reset-needs, u-leaf, cx-leaf, barrier-leaf, measure-leaf, reset-leaf}
-use Rattle.gate.proofs.visit_leaf.Statement.{statement}
-use Rattle.gate.proofs.visit_leaf.Tie as tie
+use Rattle.gate.proofs.PrimitiveStatementLaws.{near-statement, u-needs, cx-needs, barrier-needs, measure-needs, reset-needs, u-leaf, cx-leaf, barrier-leaf, measure-leaf, reset-leaf}
+use Rattle.gate.proofs.visit_primitive.Statement.{statement}
+use Rattle.gate.proofs.visit_primitive.Tie as tie
 
 statement-at-requires : tie.Need-statement-at-requires
 statement-at-requires c κs = (c .before .before .before .before .before .pre .0 .laid, omega (arith, c .before .before .before .before .before .pre .3, c .before .before .before .before .before .pre .0 .laid .all-is, c .before .before .before .before .before .pre .0 .laid .whole, c .before .before .before .before .before .pre .0 .laid .short))
@@ -91,8 +91,8 @@ returns-5 c = (
   c .before .before .before .before .before .before .before .before .before .before .before .before .before .before .pre .1,
 )
 
-pub visit-leaf-spec : {M : Type 1} → statement M
-visit-leaf-spec =
+pub visit-primitive-spec : {M : Type 1} → statement M
+visit-primitive-spec =
     tie.close
     (tie.spec
     statement-at-requires

@@ -21,7 +21,7 @@ use Rattle.record_writer.specs.declared.LinearizeError.{LinearizeError}
 use Rattle.record_writer.specs.declared.Linearized.{Linearized}
 use Rattle.record_writer.specs.declared.Linearized.the-variants as linearized
 use Rattle.record_writer.specs.Promise.{refusalAnswer, runAnswerOf, WroteSteps}
-use Rattle.gate.specs.Running.{RanSteps}
+use Rattle.gate.specs.RunContext.{RanSteps}
 use Rattle.statement.proofs.LoopLaws.{not-done, Looped, looped-next, looped-done}
 
 -- ---- without calls

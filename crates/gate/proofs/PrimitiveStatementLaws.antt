@@ -29,7 +29,7 @@ use Rattle.gate.specs.declared.Call.{Call}
 use Rattle.record_writer.specs.Promise.{SoundAngles, WroteSteps}
 use Rattle.argument.specs.Frames.{scopeFrame, ScopeContext}
 use Rattle.unitary.specs.Named.{namedAt, ListedExpressions}
-use Rattle.gate.specs.Running.{plainSteps, callOf}
+use Rattle.gate.specs.RunContext.{plainSteps, callOf}
 
 -- ---- kinds
 

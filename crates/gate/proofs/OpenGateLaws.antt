@@ -20,7 +20,7 @@ use Rattle.model.proofs.TraceLaws.{under, opening-under}
 use Rattle.image.specs.declared.Layout.{Layout}
 use Rattle.gate.specs.declared.Call.{Call}
 use Rattle.argument.specs.Frames.{scopeFrame, formalsOf, ScopeContext, RoundQubits}
-use Rattle.gate.specs.Running.{plainSteps, CallStatement, callSteps}
+use Rattle.gate.specs.RunContext.{plainSteps, CallStatement, callSteps}
 
 -- ---- a round of a call
 

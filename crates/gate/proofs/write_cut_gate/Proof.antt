@@ -1,9 +1,9 @@
 use native.Mathlib.Omega.{arith}
 use denote.Ref.{now}
 use borrow.Author.Needs.{needs}
-use Rattle.gate.proofs.StatementLaws.{read-at, near-gate, cut-is, sound-zeros}
-use Rattle.gate.proofs.write_cut.Statement.{statement}
-use Rattle.gate.proofs.write_cut.Tie as tie
+use Rattle.gate.proofs.PrimitiveStatementLaws.{read-at, near-gate, cut-is, sound-zeros}
+use Rattle.gate.proofs.write_cut_gate.Statement.{statement}
+use Rattle.gate.proofs.write_cut_gate.Tie as tie
 
 gate-at-requires : tie.Need-gate-at-requires
 gate-at-requires c κs = (c .before .before .pre .0, omega (arith, c .before .before .pre .2, c .before .before .pre .0 .gates-is, c .before .before .pre .0 .few-gates))
@@ -26,8 +26,8 @@ same-length c = c .before .before .write-opaque .ensures .plays .same
 returns : tie.Need-returns
 returns c = cut-is _ _ (read-at (now (c .before .before .before .before .before .before .before .before .before .args .image)) 1 (c .before .before .before .before .before .before .gate-at .ensures) (c .before .before .before .word .ensures)) (c .before .before .write-opaque .ensures)
 
-pub write-cut-spec : {M : Type 1} → statement M
-write-cut-spec =
+pub write-cut-gate-spec : {M : Type 1} → statement M
+write-cut-gate-spec =
     tie.close
     (tie.spec
     gate-at-requires

@@ -31,7 +31,7 @@ use Rattle.record_writer.specs.declared.LinearizeErrorKind.the-variants as kind
 use Rattle.record_writer.specs.declared.Linearized.{Linearized}
 use Rattle.record_writer.specs.declared.Linearized.the-variants as linearized
 use Rattle.record_writer.specs.Promise.{refusalAnswer, runAnswerOf, positionOf}
-use Rattle.gate.specs.Running.{RanSteps}
+use Rattle.gate.specs.RunContext.{RanSteps}
 use Rattle.linearize.specs.Linearizes as promise
 use Rattle.linearize.specs.Linearizes.{refusedWith, Linearizes}
 
