@@ -3,15 +3,16 @@ use Prim.Native.Nat.{ℕ, zero, suc, _+_, _*_, _<_}
 use native.Mathlib.Omega.{arith}
 use mathlib.Core.Path.{_≡_, refl, sym, ap, _∙_}
 use mathlib.Core.Bool.{Bool, true, false}
-use mathlib.Core.List.{List}
+use mathlib.Core.List.{List, [], _∷_}
 use lib.Dec.{eqb}
 use borrow.Author.Tests.{eqb-true, eqb-false}
-use lib.ListN.{length, getD, set, length-set, length-map, replicate}
+use lib.ListN.{length, getD, set, length-set, length-map, replicate, take}
 use lib.Seq.{getD-set-same, getD-set-other, ext-getD}
 use Rattle.value.specs.declared.Value.{Value}
 use Rattle.value.specs.Value.{Sound}
 use Rattle.model.specs.Lists.{range}
 use Rattle.model.specs.Evaluate.{zeroValue}
+use Rattle.model.specs.Steps.{have}
 use Rattle.model.proofs.ListLaws.{entry-of-map}
 use Rattle.model.proofs.Lengths.{length-range}
 use Rattle.model.proofs.AnglesSound.{zero-sound}
@@ -68,3 +69,11 @@ front-put words values i x l h front q = (length-set values i x ∙ l, λ j m. g
     go j m false b =
         let n = eqb-false j i b in
         getD-set-other values i j x zeroValue n ∙ front j (omega arith)
+
+-- the first three angles that some words hold, as they were read
+pub three-angles : (words : List ℕ) {x y z : Value} → x ≡ valueAt words 0 → y ≡ valueAt words 6 → z ≡ valueAt words 12 → have (take 3 (anglesIn words)) ≡ have (x ∷ y ∷ z ∷ [])
+unfolding anglesIn range
+three-angles words e f g = sym (rw (e, f, g) refl)
+
+pub angle-sound : (words : List ℕ) (i : ℕ) {x : Value} → i < 16 → SoundAngles (anglesIn words) → x ≡ valueAt words (6 * i) → Sound x
+angle-sound words i h s e = rw (e ∙ sym (angle-at words i zeroValue h)) (s .each i h)

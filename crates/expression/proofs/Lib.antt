@@ -3,3 +3,4 @@ pub mod AngleLaws
 pub mod EntryLaws
 pub mod ParameterLaws
 pub mod TableLaws
+pub mod NamedExpressionLaws

@@ -3,3 +3,4 @@ pub mod RoundLaws
 pub mod OverlapLaws
 pub mod OpaqueLaws
 pub mod MarkLaws
+pub mod WithValuesLaws

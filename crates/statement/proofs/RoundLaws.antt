@@ -6,7 +6,7 @@ use mathlib.Core.List.{List, [], _∷_}
 use lib.ListN.{length}
 use Rattle.value.specs.declared.Value.{Value}
 use Rattle.model.specs.Records.{Record, encode, kind as kindOf, fields}
-use Rattle.model.specs.Steps.{Step, write, refuse, Refusal, Frame, qubitIn, bitIn, writeReset, writeMeasure, writeCX}
+use Rattle.model.specs.Steps.{Step, write, refuse, Refusal, Frame, qubitIn, bitIn, writeReset, writeMeasure, writeCX, writeU}
 use Rattle.model.specs.Image.{argumentAt}
 use Rattle.model.specs.Run.{Answer, refused, play}
 use Rattle.model.specs.Playing.{Plays}
@@ -36,6 +36,10 @@ module _ (image : List ℕ) (scope : ℕ) (angles : List Value) (formals : List 
   pub cx-round : (a b i : ℕ) {p q : ℕ} → p ≡ qubitIn image frame i a → q ≡ qubitIn image frame i b → apartCX image a b p q ≡ writeCX image frame a b i
   unfolding writeCX apartCX
   cx-round a b i e f = ap₂ (apartCX image a b) e f
+
+  pub u-round : (theta phi lambda : Value) (a i : ℕ) {q : ℕ} → q ≡ qubitIn image frame i a → _≡_ {A = List Step} (write [] (Record.U theta phi lambda q) ∷ []) (writeU image frame a (theta ∷ phi ∷ lambda ∷ []) i)
+  unfolding writeU
+  u-round theta phi lambda a i e = ap (λ (q : ℕ). write [] (Record.U theta phi lambda q) ∷ []) e
 
 -- an answer by what is promised of it
 pub wrote-told : {ss : List Step} {out out′ : List ℕ} {at : Position} {r s : Linearized} → r ≡ s → WroteSteps ss out at s out′ → WroteSteps ss out at r out′
