@@ -1,4 +1,4 @@
--- A call: what the check accepted of it, its frame in a round, and its steps.
+-- What the check accepted of a call, and its steps where its parameters have values and where one is refused.
 use Prim.Native.Nat.{ℕ, zero, suc, _+_, _≤_, _<_}
 use native.Mathlib.Nat.{add-zero}
 use native.Mathlib.Omega.{arith}
@@ -17,9 +17,12 @@ use Rattle.image.specs.declared.Layout.{Layout}
 use Rattle.image.proofs.KindLaws.{gate-is, words-are}
 use Rattle.gate.specs.declared.Call.{Call}
 use Rattle.argument.specs.Frames.{scopeFrame, ScopeContext}
-use Rattle.unitary.specs.Named.{namedAt, ListedExpressions}
-use Rattle.gate.specs.RunContext.{nested, plainSteps, callOf, CallStatement, callSteps}
-use Rattle.unitary.proofs.GivenLaws.{listed-values}
+use Rattle.expression.specs.NamedExpressions.{namedAt, ListedExpressions}
+use Rattle.gate.specs.RunContext.{nested}
+use Rattle.gate.specs.PlainStatement.{PlainStatement, IsCall}
+use Rattle.gate.specs.RanSteps.{plainSteps}
+use Rattle.gate.specs.CallStatement.{callOf, CallStatement, callSteps}
+use Rattle.expression.proofs.NamedExpressionLaws.{listed-values}
 use Rattle.gate.proofs.PrimitiveStatementLaws.{few-variables}
 
 -- the words of consecutive parameters
@@ -36,13 +39,13 @@ named-is image p n = parameters-from image p 0 n ∙ ap (λ (m : ℕ). map (para
 
 -- ---- what the check says
 
-module _ {image : List ℕ} {l : Layout} {qs bs : List ℕ} {scope : ℕ} {formals : List ℕ} (st : ScopeContext image l qs bs scope formals) where
+module _ {image : List ℕ} {l : Layout} {qubit-starts bit-starts : List ℕ} {scope : ℕ} {qubits : List ℕ} (st : ScopeContext image l qubit-starts bit-starts scope qubits) where
   below : (g : ℕ) → g < gates image → (scope : ℕ) → T (downward image scope g) → g < nested scope
   unfolding downward
   below g h zero d = omega (arith, st .accepted .fewGates)
   below g h (suc k) d = ltb→lt g k d
 
-  module _ (s : ℕ) (is3 : word image (statementAt image s) ≡ 3) where
+  module _ (s : ℕ) (is3 : IsCall image s) where
     abbrev at : ℕ
     at = statementAt image s
 
@@ -52,21 +55,22 @@ module _ {image : List ℕ} {l : Layout} {qs bs : List ℕ} {scope : ℕ} {forma
     pub is-call : statement image s ≡ Gate gate (word image (at + 2)) (word image (at + 3))
     is-call = words-are image s at _ _ _ _ _ refl refl refl refl refl refl ∙ gate-is _ _ _ _ (word image (at + 4)) is3
 
-    module _ (f : PlainFacts image scope (statement image s)) where
+    module _ (f : PlainStatement image l scope s) where
       abbrev call-facts : PlainFacts image scope (Gate gate (word image (at + 2)) (word image (at + 3)))
-      call-facts = subst (PlainFacts image scope) is-call f
+      call-facts = subst (PlainFacts image scope) is-call (f .facts)
 
       pub known-gate : (gate < l .gates) × (word image (at + 2) ≤ 8192)
       known-gate = omega (arith, call-facts .0, call-facts .1, st .laid .gates-is, st .laid .whole, st .laid .short)
 
       module _ {call : Call} (e : call ≡ callOf image s) where
-        pub calls : CallStatement image l scope s call
+        pub calls : CallStatement image l scope call
         calls =
-            subst (CallStatement image l scope s) (sym e) (record {
-              told = refl;
-              known = known-gate .0;
+            subst (CallStatement image l scope) (sym e) (record {
+              read = refl;
+              listed = f .listed;
+              gate-listed = known-gate .0;
               downward = below gate (call-facts .0) scope (call-facts .3);
-              few = few-parameters (st .accepted) gate (call-facts .0);
+              few-parameters = few-parameters (st .accepted) gate (call-facts .0);
               arguments-fit = record {
                 few = few-arguments (st .accepted) gate (call-facts .0);
                 listed = omega (arith, call-facts .2, st .laid .arguments-is);
@@ -75,9 +79,9 @@ module _ {image : List ℕ} {l : Layout} {qs bs : List ℕ} {scope : ℕ} {forma
               };
             })
 
-        pub named-listed : ListedExpressions image (variables image scope) (call .named) (call .parameters)
+        pub named-listed : ListedExpressions image (variables image scope) (call .expressions) (call .parameters)
         named-listed =
-            subst (λ (c : Call). ListedExpressions image (variables image scope) (c .named) (c .parameters)) (sym e) (record {
+            subst (λ (c : Call). ListedExpressions image (variables image scope) (c .expressions) (c .parameters)) (sym e) (record {
               few = (few-parameters (st .accepted) gate (call-facts .0), few-variables image (st .accepted) scope _ (st .ready));
               near = omega (arith, call-facts .1, st .laid .whole, st .laid .short);
               each = subst (λ (es : List ℕ). T (all (expressionOk image (variables image scope) 32) es)) (sym (named-is image (word image (at + 2)) (gateParameters image gate)))
@@ -86,19 +90,19 @@ module _ {image : List ℕ} {l : Layout} {qs bs : List ℕ} {scope : ℕ} {forma
 
     -- ---- its steps
 
-    module _ {call : Call} (e : call ≡ callOf image s) (left : ℕ) (angles : List Value) where
+    module _ {call : Call} (e : call ≡ callOf image s) (levels-left : ℕ) (angles : List Value) where
       abbrev frame : Frame
-      frame = scopeFrame image scope angles formals
+      frame = scopeFrame image scope angles qubits
 
-      gate-steps : plainSteps image left frame s ≡ withValues image frame (namedAt image (call .named) (call .parameters)) (callSteps image left frame s call)
+      gate-steps : plainSteps image levels-left frame s ≡ withValues image frame (namedAt image (call .expressions) (call .parameters)) (callSteps image levels-left frame call)
       unfolding visitPlain
       gate-steps = rw (is-call, e, named-is image (word image (at + 2)) (gateParameters image gate)) refl
 
-      module _ (li : ListedExpressions image (variables image scope) (call .named) (call .parameters)) where
-        pub gate-given : {xs : List Value} → parameterValues image angles (namedAt image (call .named) (call .parameters)) ≡ have xs → plainSteps image left frame s ≡ callSteps image left frame s call xs
+      module _ (li : ListedExpressions image (variables image scope) (call .expressions) (call .parameters)) where
+        pub gate-given : {xs : List Value} → parameterValues image angles (namedAt image (call .expressions) (call .parameters)) ≡ have xs → plainSteps image levels-left frame s ≡ callSteps image levels-left frame call xs
         unfolding withValues given
         gate-given h = gate-steps ∙ rw (listed-values image (variables image scope) angles li ∙ h) refl
 
-        pub gate-refused : {x : Refusal} → parameterValues image angles (namedAt image (call .named) (call .parameters)) ≡ lack x → plainSteps image left frame s ≡ refuse [] x ∷ []
+        pub gate-refused : {x : Refusal} → parameterValues image angles (namedAt image (call .expressions) (call .parameters)) ≡ lack x → plainSteps image levels-left frame s ≡ refuse [] x ∷ []
         unfolding withValues given
         gate-refused h = gate-steps ∙ rw (listed-values image (variables image scope) angles li ∙ h) refl

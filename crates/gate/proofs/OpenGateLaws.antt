@@ -1,4 +1,4 @@
--- A body: the frame that a call opens it with, and its statements in turn.
+-- The steps of an opened gate: the frame that a call opens it with, and the statements of its body in turn.
 use Prim.Native.Nat.{ℕ, zero, suc, _+_, _-_, _≤_, _<_}
 use native.Mathlib.Nat.{add-zero}
 use native.Mathlib.Omega.{arith}
@@ -20,30 +20,28 @@ use Rattle.model.proofs.TraceLaws.{under, opening-under}
 use Rattle.image.specs.declared.Layout.{Layout}
 use Rattle.gate.specs.declared.Call.{Call}
 use Rattle.argument.specs.Frames.{scopeFrame, formalsOf, ScopeContext, RoundQubits}
-use Rattle.gate.specs.RunContext.{plainSteps, CallStatement, callSteps}
+use Rattle.gate.specs.RanSteps.{plainSteps}
+use Rattle.gate.specs.CallStatement.{CallStatement, callSteps}
 
 -- ---- a round of a call
 
-module _ {image : List ℕ} {l : Layout} {qs bs : List ℕ} {scope : ℕ} {formals : List ℕ} (st : ScopeContext image l qs bs scope formals) {s : ℕ} {call : Call} (c : CallStatement image l scope s call) where
+module _ {image : List ℕ} {l : Layout} {qubit-starts bit-starts : List ℕ} {scope : ℕ} {qubits : List ℕ} (st : ScopeContext image l qubit-starts bit-starts scope qubits) {call : Call} (c : CallStatement image l scope call) where
   -- what it says of its gate
   arguments-are : call .arguments ≡ gateArguments image (call .gate)
-  arguments-are = ap (λ (x : Call). x .arguments) (c .told) ∙ sym (ap (λ (x : Call). gateArguments image (x .gate)) (c .told))
+  arguments-are = ap (λ (x : Call). x .arguments) (c .read) ∙ sym (ap (λ (x : Call). gateArguments image (x .gate)) (c .read))
 
   parameters-are : call .parameters ≡ gateParameters image (call .gate)
-  parameters-are = ap (λ (x : Call). x .parameters) (c .told) ∙ sym (ap (λ (x : Call). gateParameters image (x .gate)) (c .told))
+  parameters-are = ap (λ (x : Call). x .parameters) (c .read) ∙ sym (ap (λ (x : Call). gateParameters image (x .gate)) (c .read))
 
   body-is : call .body ≡ gateBody image (call .gate)
-  body-is = ap (λ (x : Call). x .body) (c .told) ∙ sym (ap (λ (x : Call). gateBody image (x .gate)) (c .told))
-
-  place-is : call .place ≡ statementAt image s
-  place-is = ap (λ (x : Call). x .place) (c .told)
+  body-is = ap (λ (x : Call). x .body) (c .read) ∙ sym (ap (λ (x : Call). gateBody image (x .gate)) (c .read))
 
   -- the frame that it opens a body with
-  module _ {i : ℕ} {q : List ℕ} (k : RoundQubits image scope formals (call .argument) (call .arguments) i q) where
-    new-qubits : take (gateArguments image (call .gate)) q ≡ map (qubitIn image (scopeFrame image scope [] formals) i) (range (call .argument) (call .arguments))
+  module _ {i : ℕ} {q : List ℕ} (k : RoundQubits image scope qubits (call .argument) (call .arguments) i q) where
+    new-qubits : take (gateArguments image (call .gate)) q ≡ map (qubitIn image (scopeFrame image scope [] qubits) i) (range (call .argument) (call .arguments))
     new-qubits = ap (λ (n : ℕ). take n q) (sym arguments-are) ∙ k .front
 
-    pub opened-stands : i < rounds image scope (range (call .argument) (call .arguments)) → ScopeContext image l qs bs (suc (call .gate)) q
+    pub opened-stands : i < rounds image scope (range (call .argument) (call .arguments)) → ScopeContext image l qubit-starts bit-starts (suc (call .gate)) q
     unfolding formalsOf
     opened-stands h =
         record {
@@ -53,29 +51,29 @@ module _ {image : List ℕ} {l : Layout} {qs bs : List ℕ} {scope : ℕ} {forma
           classical = st .classical;
           wide = k .full;
           ready = (
-            omega (arith, c .known, st .laid .gates-is),
+            omega (arith, c .gate-listed, st .laid .gates-is),
             omega arith,
             length-take (gateArguments image (call .gate)) q ∙ omega (arith, arguments-are, c .arguments-fit .few, k .full),
             subst (Declared image) (sym new-qubits)
-                (all-below image (st .accepted) (scopeFrame image scope [] formals) (st .ready) i (range (call .argument) (call .arguments)) (all-All _ _ (c .arguments-fit .each)) (c .arguments-fit .match) h),
+                (all-below image (st .accepted) (scopeFrame image scope [] qubits) (st .ready) i (range (call .argument) (call .arguments)) (all-All _ _ (c .arguments-fit .each)) (c .arguments-fit .match) h),
           );
         }
 
     -- the round's steps: those of the opened gate under the call's pair of words
-    pub body-round : (left : ℕ) (angles new : List Value) → ¬ (call .body ≡ 0)
-        → map (under (scope ∷ call .place ∷ [])) (openGate image (opening image left) (scopeFrame image (suc (call .gate)) new q) (call .gate))
-        ≡ visitGate image (opening image left) (scopeFrame image scope angles formals) s (call .gate) (range (call .argument) (call .arguments)) (take (call .parameters) new) i
+    pub body-round : (levels-left : ℕ) (angles new : List Value) → ¬ (call .body ≡ 0)
+        → map (under (scope ∷ statementAt image (call .statement) ∷ [])) (openGate image (opening image levels-left) (scopeFrame image (suc (call .gate)) new q) (call .gate))
+        ≡ visitGate image (opening image levels-left) (scopeFrame image scope angles qubits) (call .statement) (call .gate) (range (call .argument) (call .arguments)) (take (call .parameters) new) i
     unfolding visitGate pushFrame formalsOf variables qubitIn
-    body-round left angles new h =
-        sym (opening-under (scope ∷ call .place ∷ []) image left (scopeFrame image (suc (call .gate)) new q) (call .gate))
-        ∙ rw (ne-eqb (gateBody image (call .gate)) 0 (λ e. h (body-is ∙ e)), new-qubits, parameters-are, place-is) refl
+    body-round levels-left angles new h =
+        sym (opening-under (scope ∷ statementAt image (call .statement) ∷ []) image levels-left (scopeFrame image (suc (call .gate)) new q) (call .gate))
+        ∙ rw (ne-eqb (gateBody image (call .gate)) 0 (λ e. h (body-is ∙ e)), new-qubits, parameters-are) refl
 
   -- an opaque gate's rounds
-  pub opaque-rounds : (left : ℕ) (angles : List Value) (xs : List Value) → call .body ≡ 0
-      → inRounds (rounds image scope (range (call .argument) (call .arguments))) (writeOpaque image (scopeFrame image scope [] formals) (call .gate) (range (call .argument) (call .arguments)) xs)
-      ≡ callSteps image left (scopeFrame image scope angles formals) s call xs
+  pub opaque-rounds : (levels-left : ℕ) (angles : List Value) (xs : List Value) → call .body ≡ 0
+      → inRounds (rounds image scope (range (call .argument) (call .arguments))) (writeOpaque image (scopeFrame image scope [] qubits) (call .gate) (range (call .argument) (call .arguments)) xs)
+      ≡ callSteps image levels-left (scopeFrame image scope angles qubits) call xs
   unfolding visitGate writeOpaque qubitIn
-  opaque-rounds left angles xs h =
+  opaque-rounds levels-left angles xs h =
       ap (inRounds (rounds image scope (range (call .argument) (call .arguments)))) (fun-ext λ i. rw (eq-eqb (gateBody image (call .gate)) 0 (sym body-is ∙ h)) refl)
 
 -- ---- statements in turn
@@ -93,21 +91,21 @@ unfolding inRounds
 from-first g a n = ap (λ (m : ℕ). flatMap g (range m n)) (sym (add-zero a)) ∙ from-later g a 0 n
 
 -- a plain statement does what it does, whatever an if would
-plain-any : (image : List ℕ) (scope : ℕ) (c d : ℕ → ℕ → ℕ → List Step) (left : ℕ) (frame : Frame) (s : ℕ) (x : Statement) → PlainFacts image scope x
-    → visitPlain image c (opening image left) frame s x ≡ visitPlain image d (opening image left) frame s x
+plain-any : (image : List ℕ) (scope : ℕ) (c d : ℕ → ℕ → ℕ → List Step) (levels-left : ℕ) (frame : Frame) (s : ℕ) (x : Statement) → PlainFacts image scope x
+    → visitPlain image c (opening image levels-left) frame s x ≡ visitPlain image d (opening image levels-left) frame s x
 unfolding visitPlain
-plain-any image scope c d left frame s (U p q r t) f = refl
-plain-any image scope c d left frame s (CX a b) f = refl
-plain-any image scope c d left frame s (Gate g p a) f = refl
-plain-any image scope c d left frame s (Barrier a n) f = refl
-plain-any image scope c d left frame s (Measure q b) f = refl
-plain-any image scope c d left frame s (Reset q) f = refl
-plain-any image scope c d left frame s (Conditional r v t) f = absurd f
-plain-any image scope c d left frame s Unknown f = absurd f
+plain-any image scope c d levels-left frame s (U p q r t) f = refl
+plain-any image scope c d levels-left frame s (CX a b) f = refl
+plain-any image scope c d levels-left frame s (Gate g p a) f = refl
+plain-any image scope c d levels-left frame s (Barrier a n) f = refl
+plain-any image scope c d levels-left frame s (Measure q b) f = refl
+plain-any image scope c d levels-left frame s (Reset q) f = refl
+plain-any image scope c d levels-left frame s (Conditional r v t) f = absurd f
+plain-any image scope c d levels-left frame s Unknown f = absurd f
 
-pub statement-steps : (image : List ℕ) (scope left : ℕ) (frame : Frame) (s : ℕ) → PlainFacts image scope (statement image s) → plainSteps image left frame s ≡ visitStatement image (opening image left) frame s
+pub statement-steps : (image : List ℕ) (scope levels-left : ℕ) (frame : Frame) (s : ℕ) → PlainFacts image scope (statement image s) → plainSteps image levels-left frame s ≡ visitStatement image (opening image levels-left) frame s
 unfolding visitStatement
-statement-steps image scope left frame s f = plain-any image scope _ _ left frame s (statement image s) f
+statement-steps image scope levels-left frame s f = plain-any image scope _ _ levels-left frame s (statement image s) f
 
 module _ (image : List ℕ) (acc : Accepted image) where
   no-if-in-bodies : (g : ℕ) (x : Statement) → Facts image (suc g) x → PlainFacts image (suc g) x
@@ -123,24 +121,24 @@ module _ (image : List ℕ) (acc : Accepted image) where
   pub body-facts : (g first count i : ℕ) → g < gates image → scopeStatements image (suc g) ≡ range first count → i < count → PlainFacts image (suc g) (statement image (first + i))
   body-facts g first count i h run k = no-if-in-bodies g (statement image (first + i)) (run-facts image acc (suc g) first count i h run k)
 
-module _ (image : List ℕ) (g left : ℕ) (angles : List Value) (q : List ℕ) where
+module _ (image : List ℕ) (g levels-left : ℕ) (angles : List Value) (q : List ℕ) where
   abbrev opened : Frame
   opened = scopeFrame image (suc g) angles q
 
-  pub cut-steps : left ≡ 0 → _≡_ {A = List Step} (write [] (Record.Opaque g [] (take (gateArguments image g) q)) ∷ []) (openGate image (opening image left) opened g)
+  pub cut-steps : levels-left ≡ 0 → _≡_ {A = List Step} (write [] (Record.Opaque g [] (take (gateArguments image g) q)) ∷ []) (openGate image (opening image levels-left) opened g)
   unfolding openGate opening formalsOf
   cut-steps e = rw e refl
 
   abbrev pub bodyStatement : ℕ → ℕ → List Step
-  bodyStatement first i = visitStatement image (opening image (left - 1)) opened (first + i)
+  bodyStatement first i = visitStatement image (opening image (levels-left - 1)) opened (first + i)
 
-  pub open-steps : (first n : ℕ) → ¬ (left ≡ 0) → scopeStatements image (suc g) ≡ range first n → enter [] g ∷ inRounds n (bodyStatement first) ≡ openGate image (opening image left) opened g
+  pub open-steps : (first n : ℕ) → ¬ (levels-left ≡ 0) → scopeStatements image (suc g) ≡ range first n → enter [] g ∷ inRounds n (bodyStatement first) ≡ openGate image (opening image levels-left) opened g
   unfolding openGate opening visitBody
   open-steps first n h run =
-      let e : suc (left - 1) ≡ left = omega arith in
-      ap (λ (l : List Step). enter [] g ∷ l) (sym (from-first (visitStatement image (opening image (left - 1)) opened) first n))
+      let e : suc (levels-left - 1) ≡ levels-left = omega arith in
+      ap (λ (l : List Step). enter [] g ∷ l) (sym (from-first (visitStatement image (opening image (levels-left - 1)) opened) first n))
       ∙ rw (← run) refl ∙ ap (λ (k : ℕ). openGate image (opening image k) opened g) e
 
 -- a gate has at most 16 arguments
-pub few-arguments : {image : List ℕ} {l : Layout} {qs bs : List ℕ} {g : ℕ} {formals : List ℕ} → ScopeContext image l qs bs (suc g) formals → g < l .gates → gateArguments image g ≤ 16
+pub few-arguments : {image : List ℕ} {l : Layout} {qubit-starts bit-starts : List ℕ} {g : ℕ} {qubits : List ℕ} → ScopeContext image l qubit-starts bit-starts (suc g) qubits → g < l .gates → gateArguments image g ≤ 16
 few-arguments {image} {g = g} st h = accepted.few-arguments (st .accepted) g (omega (arith, h, st .laid .gates-is))

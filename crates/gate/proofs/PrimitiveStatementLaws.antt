@@ -1,4 +1,4 @@
--- What a statement, a call and a gate are by their words, and what a statement does that opens no gate.
+-- What a statement, a call and a gate are by their words, what the check accepted of a statement that opens no gate, and that what was written is what the definition says of it.
 use Prim.Native.Nat.{ℕ, zero, suc, _+_, _≤_, _<_}
 use native.Mathlib.Omega.{arith}
 use mathlib.Core.Path.{_≡_, refl, sym, ap, subst, _∙_}
@@ -28,8 +28,10 @@ use Rattle.record_writer.specs.declared.Linearized.{Linearized}
 use Rattle.gate.specs.declared.Call.{Call}
 use Rattle.record_writer.specs.Promise.{SoundAngles, WroteSteps}
 use Rattle.argument.specs.Frames.{scopeFrame, ScopeContext}
-use Rattle.unitary.specs.Named.{namedAt, ListedExpressions}
-use Rattle.gate.specs.RunContext.{plainSteps, callOf}
+use Rattle.expression.specs.NamedExpressions.{namedAt, ListedExpressions}
+use Rattle.gate.specs.PlainStatement.{PlainStatement, IsCall}
+use Rattle.gate.specs.RanSteps.{plainSteps}
+use Rattle.gate.specs.CallStatement.{callOf}
 
 -- ---- kinds
 
@@ -60,16 +62,16 @@ module _ {image : List ℕ} {l : Layout} (laid : LayoutOf image l) where
   near-gate g h e = omega (arith, laid .gates-is, laid .whole, laid .short)
 
 pub call-is : (image : List ℕ) (s : ℕ) {p g at i n k a m b : ℕ} → p ≡ statementAt image s → g ≡ word image (p + 1) → at ≡ gateAt image g → i ≡ word image (p + 2) → n ≡ parameterAt image i → k ≡ word image at → a ≡ word image (p + 3)
-    → m ≡ word image (at + 1) → b ≡ word image (at + 2) → _≡_ {A = Call} (record { place = p; gate = g; named = n; parameters = k; argument = a; arguments = m; body = b }) (callOf image s)
+    → m ≡ word image (at + 1) → b ≡ word image (at + 2) → _≡_ {A = Call} (record { statement = s; gate = g; expressions = n; parameters = k; argument = a; arguments = m; body = b }) (callOf image s)
 call-is image s ep eg eat ei en ek ea em eb =
     let g = read-at image 1 ep eg in
     let at = eat ∙ ap (gateAt image) g in
-    let named = en ∙ ap (parameterAt image) (read-at image 2 ep ei) in
+    let expressions = en ∙ ap (parameterAt image) (read-at image 2 ep ei) in
     let parameters = ek ∙ ap (word image) at in
     let argument = read-at image 3 ep ea in
     let arguments = read-at image 1 at em in
     let body = read-at image 2 at eb in
-    λ x. record { place = ep x; gate = g x; named = named x; parameters = parameters x; argument = argument x; arguments = arguments x; body = body x }
+    λ x. record { statement = s; gate = g x; expressions = expressions x; parameters = parameters x; argument = argument x; arguments = arguments x; body = body x }
 
 -- a gate that is not opened, with the number of its qubits
 pub cut-is : (g : ℕ) (qubits : List ℕ) {m n : ℕ} {out out′ : List ℕ} {at : Position} {r : Linearized} → m ≡ n → WroteSteps (write [] (Record.Opaque g [] (take m qubits)) ∷ []) out at r out′ → WroteSteps (write [] (Record.Opaque g [] (take n qubits)) ∷ []) out at r out′
@@ -78,10 +80,10 @@ cut-is g qubits {m} {n} {out} {out′} {at} {r} e w = subst (λ (k : ℕ). Wrote
 -- ---- angles of a U
 
 -- a body has at most 16 variables
-pub few-variables : (image : List ℕ) (acc : Accepted image) (scope : ℕ) (qs : List ℕ) → FrameOk image scope [] qs → variables image scope ≤ 16
+pub few-variables : (image : List ℕ) (acc : Accepted image) (scope : ℕ) (qubit-starts : List ℕ) → FrameOk image scope [] qubit-starts → variables image scope ≤ 16
 unfolding variables
-few-variables image acc zero qs f = omega arith
-few-variables image acc (suc g) qs f = few-parameters acc g (f .0)
+few-variables image acc zero qubit-starts f = omega arith
+few-variables image acc (suc g) qubit-starts f = few-parameters acc g (f .0)
 
 three : (image : List ℕ) (p : ℕ) → namedAt image (p + 1) 3 ≡ word image (p + 1) ∷ word image (p + 2) ∷ word image (p + 3) ∷ []
 unfolding range
@@ -93,10 +95,10 @@ three image p =
 
 -- ---- a statement that opens no gate, by its first words
 
-module _ {image : List ℕ} {l : Layout} {qs bs : List ℕ} {scope : ℕ} {formals : List ℕ} (st : ScopeContext image l qs bs scope formals) (s : ℕ) {p k a b : ℕ}
-    (ep : p ≡ statementAt image s) (ek : k ≡ word image p) (ea : a ≡ word image (p + 1)) (eb : b ≡ word image (p + 2)) (f : PlainFacts image scope (statement image s)) where
+module _ {image : List ℕ} {l : Layout} {qubit-starts bit-starts : List ℕ} {scope : ℕ} {qubits : List ℕ} (st : ScopeContext image l qubit-starts bit-starts scope qubits) (s : ℕ) {p k a b : ℕ}
+    (ep : p ≡ statementAt image s) (ek : k ≡ word image p) (ea : a ≡ word image (p + 1)) (eb : b ≡ word image (p + 2)) (f : PlainStatement image l scope s) where
   known : {x : Statement} → statement image s ≡ x → PlainFacts image scope x
-  known e = subst (PlainFacts image scope) e f
+  known e = subst (PlainFacts image scope) e (f .facts)
 
   listed : {x n : ℕ} → x < n → l .arguments ≡ n → x < l .arguments
   listed h e = omega arith
@@ -113,19 +115,19 @@ module _ {image : List ℕ} {l : Layout} {qs bs : List ℕ} {scope : ℕ} {forma
   measure-statement : k ≡ 5 → statement image s ≡ Measure a b
   measure-statement e = words-are image s p k a b _ _ ep ek ea eb refl refl ∙ measure-is k a b _ _ e
 
-  reset-statement : ¬ (k ≡ 1) → ¬ (k ≡ 2) → ¬ (word image (statementAt image s) ≡ 3) → ¬ (k ≡ 4) → ¬ (k ≡ 5) → statement image s ≡ Reset a
+  reset-statement : ¬ (k ≡ 1) → ¬ (k ≡ 2) → ¬ IsCall image s → ¬ (k ≡ 4) → ¬ (k ≡ 5) → statement image s ≡ Reset a
   reset-statement n1 n2 n3 n4 n5 =
       let w = words-are image s p k a b _ _ ep ek ea eb refl refl in
       w ∙ reset-is k a b _ _ (only-reset image scope k a b _ _ n1 n2 (λ e. n3 (sym (ek ∙ ap (word image) ep) ∙ e)) n4 n5 (known w))
 
   -- what its acceptance says
 
-  pub u-needs : {q : ℕ} → s < l .all → k ≡ 1 → q ≡ word image (p + 4) → ListedExpressions image (variables image scope) (p + 1) 3 × (q < l .arguments) × T (argumentOk image scope q)
-  u-needs h e eq =
+  pub u-needs : {q : ℕ} → k ≡ 1 → q ≡ word image (p + 4) → ListedExpressions image (variables image scope) (p + 1) 3 × (q < l .arguments) × T (argumentOk image scope q)
+  u-needs e eq =
       let g = known (u-statement e eq) in (
         record {
           few = (omega arith, few-variables image (st .accepted) scope _ (st .ready));
-          near = omega (arith, near-statement (st .laid) s h ep);
+          near = omega (arith, near-statement (st .laid) s (f .listed) ep);
           each = subst (λ (es : List ℕ). T (all (expressionOk image (variables image scope) 32) es)) (sym (three image p)) (g .4);
         },
         listed (g .3) (st .laid .arguments-is),
@@ -141,37 +143,37 @@ module _ {image : List ℕ} {l : Layout} {qs bs : List ℕ} {scope : ℕ} {forma
   pub measure-needs : k ≡ 5 → (a < l .arguments) × (b < l .arguments) × T (argumentOk image scope a) × T (classicalArgumentOk image b) × T (matching (argumentSize image scope a ∷ classicalArgumentSize image b ∷ []))
   measure-needs e = let g = known (measure-statement e) in (listed (g .1) (st .laid .arguments-is), listed (g .2) (st .laid .arguments-is), g .3, g .4, g .5)
 
-  pub reset-needs : ¬ (k ≡ 1) → ¬ (k ≡ 2) → ¬ (word image (statementAt image s) ≡ 3) → ¬ (k ≡ 4) → ¬ (k ≡ 5) → (a < l .arguments) × T (argumentOk image scope a)
+  pub reset-needs : ¬ (k ≡ 1) → ¬ (k ≡ 2) → ¬ IsCall image s → ¬ (k ≡ 4) → ¬ (k ≡ 5) → (a < l .arguments) × T (argumentOk image scope a)
   reset-needs n1 n2 n3 n4 n5 = let g = known (reset-statement n1 n2 n3 n4 n5) in (listed (g .1) (st .laid .arguments-is), g .2)
 
   -- what it does. The frame's angles show in a U alone.
 
   module _ (angles : List Value) {out out′ : List ℕ} {at : Position} {r : Linearized} where
-    pub u-leaf : {q : ℕ} → k ≡ 1 → q ≡ word image (p + 4)
-        → WroteSteps (withValues image (scopeFrame image scope angles formals) (namedAt image (p + 1) 3) (λ xs. inRounds (rounds image scope (q ∷ [])) (writeU image (scopeFrame image scope angles formals) q xs))) out at r out′
-        → WroteSteps (plainSteps image 0 (scopeFrame image scope angles formals) s) out at r out′
+    pub u-wrote : {q : ℕ} → k ≡ 1 → q ≡ word image (p + 4)
+        → WroteSteps (withValues image (scopeFrame image scope angles qubits) (namedAt image (p + 1) 3) (λ xs. inRounds (rounds image scope (q ∷ [])) (writeU image (scopeFrame image scope angles qubits) q xs))) out at r out′
+        → WroteSteps (plainSteps image 0 (scopeFrame image scope angles qubits) s) out at r out′
     unfolding visitPlain
-    u-leaf e eq w = rw (u-statement e eq) (rw (three image p) at w)
+    u-wrote e eq w = rw (u-statement e eq) (rw (three image p) at w)
 
-    pub cx-leaf : k ≡ 2 → WroteSteps (inRounds (rounds image scope (a ∷ b ∷ [])) (writeCX image (scopeFrame image scope [] formals) a b)) out at r out′
-        → WroteSteps (plainSteps image 0 (scopeFrame image scope angles formals) s) out at r out′
+    pub cx-wrote : k ≡ 2 → WroteSteps (inRounds (rounds image scope (a ∷ b ∷ [])) (writeCX image (scopeFrame image scope [] qubits) a b)) out at r out′
+        → WroteSteps (plainSteps image 0 (scopeFrame image scope angles qubits) s) out at r out′
     unfolding visitPlain writeCX qubitIn
-    cx-leaf e w = rw (cx-statement e) w
+    cx-wrote e w = rw (cx-statement e) w
 
-    pub barrier-leaf : k ≡ 4 → WroteSteps (write [] (Record.Barrier (rising (flatMap (argumentQubits image (scopeFrame image scope [] formals)) (range a b)))) ∷ []) out at r out′
-        → WroteSteps (plainSteps image 0 (scopeFrame image scope angles formals) s) out at r out′
+    pub barrier-wrote : k ≡ 4 → WroteSteps (write [] (Record.Barrier (rising (flatMap (argumentQubits image (scopeFrame image scope [] qubits)) (range a b)))) ∷ []) out at r out′
+        → WroteSteps (plainSteps image 0 (scopeFrame image scope angles qubits) s) out at r out′
     unfolding visitPlain argumentQubits qubitIn
-    barrier-leaf e w = rw (barrier-statement e) w
+    barrier-wrote e w = rw (barrier-statement e) w
 
-    pub measure-leaf : k ≡ 5 → WroteSteps (inRounds (largest (argumentSize image scope a ∷ classicalArgumentSize image b ∷ [])) (writeMeasure image (scopeFrame image scope [] formals) a b)) out at r out′
-        → WroteSteps (plainSteps image 0 (scopeFrame image scope angles formals) s) out at r out′
+    pub measure-wrote : k ≡ 5 → WroteSteps (inRounds (largest (argumentSize image scope a ∷ classicalArgumentSize image b ∷ [])) (writeMeasure image (scopeFrame image scope [] qubits) a b)) out at r out′
+        → WroteSteps (plainSteps image 0 (scopeFrame image scope angles qubits) s) out at r out′
     unfolding visitPlain writeMeasure qubitIn
-    measure-leaf e w = rw (measure-statement e) w
+    measure-wrote e w = rw (measure-statement e) w
 
-    pub reset-leaf : ¬ (k ≡ 1) → ¬ (k ≡ 2) → ¬ (word image (statementAt image s) ≡ 3) → ¬ (k ≡ 4) → ¬ (k ≡ 5) → WroteSteps (inRounds (rounds image scope (a ∷ [])) (writeReset image (scopeFrame image scope [] formals) a)) out at r out′
-        → WroteSteps (plainSteps image 0 (scopeFrame image scope angles formals) s) out at r out′
+    pub reset-wrote : ¬ (k ≡ 1) → ¬ (k ≡ 2) → ¬ IsCall image s → ¬ (k ≡ 4) → ¬ (k ≡ 5) → WroteSteps (inRounds (rounds image scope (a ∷ [])) (writeReset image (scopeFrame image scope [] qubits) a)) out at r out′
+        → WroteSteps (plainSteps image 0 (scopeFrame image scope angles qubits) s) out at r out′
     unfolding visitPlain writeReset qubitIn
-    reset-leaf n1 n2 n3 n4 n5 w = rw (reset-statement n1 n2 n3 n4 n5) w
+    reset-wrote n1 n2 n3 n4 n5 w = rw (reset-statement n1 n2 n3 n4 n5) w
 
 -- sixteen angles of 0
 pub sound-zeros : {x : Value} → Sound x → SoundAngles (x ∷ x ∷ x ∷ x ∷ x ∷ x ∷ x ∷ x ∷ x ∷ x ∷ x ∷ x ∷ x ∷ x ∷ x ∷ x ∷ [])

@@ -1,4 +1,4 @@
--- Steps that were run: leaves, loops, and calls with their pairs of trace words.
+-- Steps that were run: those that open no gate, loops, calls with their pairs of trace words, and one thing after another.
 use Prim.Native.Nat.{ℕ, suc, _+_, _-_, _≤_, _<_}
 use native.Mathlib.Nat.{add-zero}
 use native.Mathlib.Omega.{arith}
@@ -21,7 +21,7 @@ use Rattle.record_writer.specs.declared.LinearizeError.{LinearizeError}
 use Rattle.record_writer.specs.declared.Linearized.{Linearized}
 use Rattle.record_writer.specs.declared.Linearized.the-variants as linearized
 use Rattle.record_writer.specs.Promise.{refusalAnswer, runAnswerOf, WroteSteps}
-use Rattle.gate.specs.RunContext.{RanSteps}
+use Rattle.gate.specs.RanSteps.{RanSteps}
 use Rattle.statement.proofs.LoopLaws.{not-done, Looped, looped-next, looped-done}
 
 -- ---- without calls
@@ -55,14 +55,14 @@ ran-wrote {ss} {out} {out′} {trace} {trace′} {at} {p} w e =
 
 -- ---- loops
 
-module _ (g : ℕ → List Step) (n : ℕ) {out : List ℕ} {at : Position} {i : ℕ} {out′ : List ℕ} {now : Position} (l : Looped g n out at i out′ now) where
-  pub ran-next : {ss : List Step} {out″ trace trace′ : List ℕ} {r : Linearized} {p : Position} → i < n → ss ≡ g i → RanSteps ss out′ now trace r out″ trace′ → r ≡ linearized.Done p → Looped g n out at (i + 1) out″ p × (trace′ ≡ trace)
+module _ (g : ℕ → List Step) (n : ℕ) {out : List ℕ} {at : Position} {i : ℕ} {out′ : List ℕ} {position : Position} (l : Looped g n out at i out′ position) where
+  pub ran-next : {ss : List Step} {out″ trace trace′ : List ℕ} {r : Linearized} {p : Position} → i < n → ss ≡ g i → RanSteps ss out′ position trace r out″ trace′ → r ≡ linearized.Done p → Looped g n out at (i + 1) out″ p × (trace′ ≡ trace)
   ran-next h f w e = let v = ran-wrote w e in (looped-next g n l h f refl (v .0), v .1)
 
-  pub ran-stop : {ss : List Step} {out″ trace trace′ : List ℕ} {r : Linearized} {e : LinearizeError} {m : ℕ} → i < n → ss ≡ g i → RanSteps ss out′ now trace r out″ trace′ → r ≡ linearized.Refused e → n ≡ m
+  pub ran-stop : {ss : List Step} {out″ trace trace′ : List ℕ} {r : Linearized} {e : LinearizeError} {m : ℕ} → i < n → ss ≡ g i → RanSteps ss out′ position trace r out″ trace′ → r ≡ linearized.Refused e → n ≡ m
       → RanSteps (inRounds m g) out at trace (linearized.Refused e) out″ trace′
   ran-stop {out″ = out″} {trace} {trace′} {e = x} h f w e d =
-      let v : RanSteps (g i) out′ now trace (linearized.Refused x) out″ trace′ = rw (f, e) at w in
+      let v : RanSteps (g i) out′ position trace (linearized.Refused x) out″ trace′ = rw (f, e) at w in
       rw (← d) (record {
         calls = v .calls;
         plays = going-stopped (l .going) (flatMap g (range (i + 1) (n - (i + 1)))) (rounds-next g i n h) (v .plays) (not-done (x .kind) (v .calls));
@@ -70,7 +70,7 @@ module _ (g : ℕ → List Step) (n : ℕ) {out : List ℕ} {at : Position} {i :
         level = v .level ∙ ap (λ (k : ℕ). k + length (traceOf (refusalAnswer (x .kind) (v .calls)))) (l .level);
       })
 
-  pub ran-done : {trace : List ℕ} {m : ℕ} → n ≤ i → n ≡ m → RanSteps (inRounds m g) out at trace (linearized.Done now) out′ trace
+  pub ran-done : {trace : List ℕ} {m : ℕ} → n ≤ i → n ≡ m → RanSteps (inRounds m g) out at trace (linearized.Done position) out′ trace
   ran-done {trace} h d = wrote-ran trace (looped-done g n l h d)
 
 -- ---- calls
@@ -134,17 +134,17 @@ module _ (u : List ℕ) where
   deeper-trace kind.ShortTrace t h = absurd h
 
 -- a call that comes back, and one that is refused: its pair of words stands in front
-module _ {ss : List Step} {out out′ trace trace′ : List ℕ} {now deep : Position} {r : Linearized} {k : ℕ}
-    (w : RanSteps ss out deep trace r out′ trace′) (d : deep ≡ record { records = now .records; words = now .words; trace = k + 2 }) (level : k ≡ now .trace) where
-  pub ran-returned : (u : List ℕ) {p next : Position} → r ≡ linearized.Done p → next ≡ record { records = p .records; words = p .words; trace = k } → WroteSteps (map (under u) ss) out now (linearized.Done next) out′ × (trace′ ≡ trace)
+module _ {ss : List Step} {out out′ trace trace′ : List ℕ} {position opened-at : Position} {r : Linearized} {k : ℕ}
+    (w : RanSteps ss out opened-at trace r out′ trace′) (d : opened-at ≡ record { records = position .records; words = position .words; trace = k + 2 }) (level : k ≡ position .trace) where
+  pub ran-returned : (u : List ℕ) {p next : Position} → r ≡ linearized.Done p → next ≡ record { records = p .records; words = p .words; trace = k } → WroteSteps (map (under u) ss) out position (linearized.Done next) out′ × (trace′ ≡ trace)
   unfolding underAnswer
   ran-returned u e f =
       let v = ran-wrote w e in
       (record { plays = rw f (plays-under u (rw d at (v .0 .plays))); level = ap (λ (x : Position). x .trace) f ∙ level }, v .1)
 
-  pub ran-refused : (a b : ℕ) {x : LinearizeError} {trace″ : List ℕ} → r ≡ linearized.Refused x → trace″ ≡ sets trace′ k (a ∷ b ∷ []) → RanSteps (map (under (a ∷ b ∷ [])) ss) out now trace (linearized.Refused x) out′ trace″
-  ran-refused a b {x} {trace″} e f =
-      let here : Position = record { records = now .records; words = now .words; trace = k + 2 } in
+  pub ran-refused : (a b : ℕ) {place : ℕ} {x : LinearizeError} {trace″ : List ℕ} → r ≡ linearized.Refused x → place ≡ b → trace″ ≡ sets trace′ k (a ∷ place ∷ []) → RanSteps (map (under (a ∷ b ∷ [])) ss) out position trace (linearized.Refused x) out′ trace″
+  ran-refused a b {place} {x} {trace″} e g f =
+      let here : Position = record { records = position .records; words = position .words; trace = k + 2 } in
       let v : RanSteps ss out here trace (linearized.Refused x) out′ trace′ = rw (d, e) at w in
       let t = traceOf (refusalAnswer (x .kind) (v .calls)) in
       let inner : Inner (refusalAnswer (x .kind) (v .calls)) = subst Inner (sym (v .plays .answers)) (play-inner _ ss) in
@@ -152,7 +152,7 @@ module _ {ss : List Step} {out out′ trace trace′ : List ℕ} {now deep : Pos
       record {
         calls = a ∷ b ∷ v .calls;
         plays = rw (deeper-answer (a ∷ b ∷ []) (x .kind) (v .calls)) (plays-under (a ∷ b ∷ []) (v .plays));
-        tracing = f ∙ ap (λ (l : List ℕ). sets l k (a ∷ b ∷ [])) (v .tracing) ∙ pair-before trace k a b t ∙ rw (longer, ← level) refl;
+        tracing = f ∙ ap (λ (p : ℕ). sets trace′ k (a ∷ p ∷ [])) g ∙ ap (λ (l : List ℕ). sets l k (a ∷ b ∷ [])) (v .tracing) ∙ pair-before trace k a b t ∙ rw (longer, ← level) refl;
         level = v .level ∙ rw (longer, ← level) (omega arith);
       }
 
@@ -164,7 +164,7 @@ ran-enter t g w = record { calls = w .calls; plays = plays-enter t g (w .plays);
 pub ran-lengths : {ss : List Step} {out out′ trace trace′ : List ℕ} {at : Position} {r : Linearized} → RanSteps ss out at trace r out′ trace′ → (length out′ ≡ length out) × (length trace′ ≡ length trace)
 ran-lengths {trace = trace} {at = at} {r} w = (w .plays .same, ap length (w .tracing) ∙ length-sets trace (at .trace) (traceOf (runAnswerOf r (w .calls))))
 
--- the same steps, and the same trace, under other names
+-- steps and traces may be replaced by equal ones
 module _ {ss : List Step} {out out′ trace trace′ : List ℕ} {at : Position} {r : Linearized} where
   pub ran-steps : {others : List Step} → ss ≡ others → RanSteps ss out at trace r out′ trace′ → RanSteps others out at trace r out′ trace′
   ran-steps e w = rw (← e) w

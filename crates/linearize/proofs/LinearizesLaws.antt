@@ -1,4 +1,4 @@
--- From the steps that were run to the whole promise.
+-- From the steps that were run, or the refusal before the first record, to the whole promise of a run.
 use Prim.Native.Nat.{ℕ, _+_, _≤_, _<_}
 use native.Mathlib.Nat.{zero-add}
 use native.Mathlib.Omega.{arith}
@@ -31,7 +31,7 @@ use Rattle.record_writer.specs.declared.LinearizeErrorKind.the-variants as kind
 use Rattle.record_writer.specs.declared.Linearized.{Linearized}
 use Rattle.record_writer.specs.declared.Linearized.the-variants as linearized
 use Rattle.record_writer.specs.Promise.{refusalAnswer, runAnswerOf, positionOf}
-use Rattle.gate.specs.RunContext.{RanSteps}
+use Rattle.gate.specs.RanSteps.{RanSteps}
 use Rattle.linearize.specs.Linearizes as promise
 use Rattle.linearize.specs.Linearizes.{refusedWith, Linearizes}
 
@@ -55,21 +55,21 @@ module _ (image : List ℕ) (depth : ℕ) (out trace : List ℕ) {r : Linearized
       }
 
 -- a refusal's trace is the words that stand in front of the trace
-told-trace : (k : LinearizeErrorKind) (calls : List ℕ) → refusalAnswer k (traceOf (refusalAnswer k calls)) ≡ refusalAnswer k calls
+refusal-trace : (k : LinearizeErrorKind) (calls : List ℕ) → refusalAnswer k (traceOf (refusalAnswer k calls)) ≡ refusalAnswer k calls
 unfolding traceOf
-told-trace (kind.DivideByZero p) c = refl
-told-trace (kind.ApproximateFail p f) c = refl
-told-trace (kind.NumericalOverflow p) c = refl
-told-trace (kind.OverlappingRegs p q) c = refl
-told-trace (kind.FunctionOfFloats p) c = refl
-told-trace kind.OutputFull c = refl
-told-trace (kind.Rejected v) c = refl
-told-trace kind.ShortTrace c = refl
+refusal-trace (kind.DivideByZero p) c = refl
+refusal-trace (kind.ApproximateFail p f) c = refl
+refusal-trace (kind.NumericalOverflow p) c = refl
+refusal-trace (kind.OverlappingRegs p q) c = refl
+refusal-trace (kind.FunctionOfFloats p) c = refl
+refusal-trace kind.OutputFull c = refl
+refusal-trace (kind.Rejected v) c = refl
+refusal-trace kind.ShortTrace c = refl
 
-told : (r : Linearized) (calls : List ℕ) → runAnswerOf r (traceOf (runAnswerOf r calls)) ≡ runAnswerOf r calls
+answer-trace : (r : Linearized) (calls : List ℕ) → runAnswerOf r (traceOf (runAnswerOf r calls)) ≡ runAnswerOf r calls
 unfolding traceOf
-told (linearized.Done p) c = refl
-told (linearized.Refused e) c = told-trace (e .kind) c
+answer-trace (linearized.Done p) c = refl
+answer-trace (linearized.Refused e) c = refusal-trace (e .kind) c
 
 module _ (image : List ℕ) (depth : ℕ) (out trace : List ℕ) where
   -- an accepted image plays its steps
@@ -91,7 +91,7 @@ module _ (image : List ℕ) (depth : ℕ) (out trace : List ℕ) where
       let left : trace′ ≡ laidOver t trace = v .tracing ∙ sets-eq t trace 0 short ∙ ap (λ (n : ℕ). t ++ drop n trace) (zero-add (length t)) in
       let count : positionOf r .trace ≡ length t = v .level ∙ zero-add (length t) in
       let front : take (positionOf r .trace) trace′ ≡ t = ap₂ take count left ∙ take-append-seam t (drop (length t) trace) in
-      let answer : runAnswerOf r (take (positionOf r .trace) trace′) ≡ x .answer = ap (runAnswerOf r) front ∙ told r (v .calls) ∙ answers in
+      let answer : runAnswerOf r (take (positionOf r .trace) trace′) ≡ x .answer = ap (runAnswerOf r) front ∙ answer-trace r (v .calls) ∙ answers in
       linearizes image depth out trace λ i. record {
         answer = answer i;
         records = (p .1 ∙ ap (λ (y : Played). length (y .written)) (sym same)) i;

@@ -1,4 +1,4 @@
--- Main: conditionals, the statements in turn, and the head before them.
+-- What is known where the main statements are run, and their steps: conditionals, the statements in turn, and the head before them.
 use Prim.Native.Nat.{ℕ, _+_, _-_, _≤_, _<_, zero-le}
 use native.Mathlib.Nat.{zero-add}
 use native.Mathlib.Omega.{arith}
@@ -27,45 +27,51 @@ use Rattle.expression.specs.Table.{ConstantsKept}
 use Rattle.expression.proofs.AngleLaws.{zeros-sound}
 use Rattle.record_writer.specs.declared.Position.{Position}
 use Rattle.record_writer.specs.Promise.{InOutput, WroteSteps}
-use Rattle.gate.specs.RunContext.{RunContext, plainSteps}
-use Rattle.linearize.specs.MainContext.{MainContext}
+use Rattle.gate.specs.RunContext.{RunContext}
+use Rattle.gate.specs.PlainStatement.{PlainStatement}
+use Rattle.gate.specs.RanSteps.{plainSteps}
+use Rattle.linearize.specs.MainContext.{StartContext, MainContext}
+use Rattle.linearize.specs.MainStatement.{MainStatement, IsConditional}
 use Rattle.argument.proofs.ArgumentLaws.{few-classical, count-sum}
 
 -- ---- a main statement by its kind
 
 module _ (image : List ℕ) (s : ℕ) where
-  is-if : word image (statementAt image s) ≡ 7 → statement image s ≡ Conditional (word image (statementAt image s + 1)) (word image (statementAt image s + 2)) (word image (statementAt image s + 3))
+  is-if : IsConditional image s → statement image s ≡ Conditional (word image (statementAt image s + 1)) (word image (statementAt image s + 2)) (word image (statementAt image s + 3))
   is-if e = if-at image 0 s (statementAt image s) (word image (statementAt image s)) refl refl (word image (statementAt image s + 3)) e refl
 
-  pub if-facts : word image (statementAt image s) ≡ 7 → Facts image 0 (statement image s) → Facts image 0 (Conditional (word image (statementAt image s + 1)) (word image (statementAt image s + 2)) (word image (statementAt image s + 3)))
+  pub if-facts : IsConditional image s → Facts image 0 (statement image s) → Facts image 0 (Conditional (word image (statementAt image s + 1)) (word image (statementAt image s + 2)) (word image (statementAt image s + 3)))
   if-facts e f = subst (Facts image 0) (is-if e) f
 
-  pub plain-in-main : ¬ (word image (statementAt image s) ≡ 7) → Facts image 0 (statement image s) → PlainFacts image 0 (statement image s)
-  plain-in-main h f = plain-facts-at image 0 s (statementAt image s) (word image (statementAt image s)) refl refl h f
+  pub plain-in-main : {l : Layout} → ¬ IsConditional image s → MainStatement image l s → PlainStatement image l 0 s
+  plain-in-main h m = record { listed = m .listed; facts = plain-facts-at image 0 s (statementAt image s) (word image (statementAt image s)) refl refl h (m .facts) }
 
-  -- a conditional's steps: its start, what it holds, its end
-  module _ {l : Layout} {qs bs formals : List ℕ} (st : ScopeContext image l qs bs 0 formals) (e : word image (statementAt image s) ≡ 7) (f : Facts image 0 (statement image s))
+  -- a conditional's steps: its start, its inner statement, its end
+  module _ {l : Layout} {qubit-starts bit-starts qubits : List ℕ} (st : ScopeContext image l qubit-starts bit-starts 0 qubits) (e : IsConditional image s) (m : MainStatement image l s)
       {p r t v : ℕ} (ep : p ≡ statementAt image s) (er : r ≡ word image (p + 1)) (ev : v ≡ word image (p + 2)) (et : t ≡ word image (p + 3)) where
     register-is : r ≡ word image (statementAt image s + 1)
     register-is = er ∙ ap (λ (n : ℕ). word image (n + 1)) ep
 
     pub register-listed : r < 4096
-    register-listed = omega (arith, if-facts e f .1, few-classical st, register-is)
+    register-listed = omega (arith, if-facts e (m .facts) .1, few-classical st, register-is)
 
-    pub register-tabled : r < length bs
-    register-tabled = omega (arith, if-facts e f .1, st .classical .fits, register-is)
+    pub register-in-table : r < length bit-starts
+    register-in-table = omega (arith, if-facts e (m .facts) .1, st .classical .fits, register-is)
 
-    pub held-listed : (t < l .all) × PlainFacts image 0 (statement image t)
-    held-listed =
+    pub inner-listed : PlainStatement image l 0 t
+    inner-listed =
         let h : t ≡ word image (statementAt image s + 3) = et ∙ ap (λ (n : ℕ). word image (n + 3)) ep in
-        (omega (arith, if-facts e f .3, h, st .laid .all-is), subst (λ (n : ℕ). PlainFacts image 0 (statement image n)) (sym h) (if-facts e f .5))
+        record {
+          listed = omega (arith, if-facts e (m .facts) .3, h, st .laid .all-is);
+          facts = subst (λ (n : ℕ). PlainFacts image 0 (statement image n)) (sym h) (if-facts e (m .facts) .5);
+        }
 
-    pub conditional-steps : (left : ℕ) (angles : List Value) {first size : ℕ} → first ≡ getD bs r 0 → {q : ℕ} → size ≡ word image (9 + q + r) → q ≡ l .quantum
-        → (write [] (Record.ConditionalStart first size v) ∷ []) ++ (plainSteps image left (scopeFrame image 0 angles formals) t ++ write [] Record.ConditionalEnd ∷ [])
-        ≡ visitStatement image (opening image left) (scopeFrame image 0 angles formals) s
+    pub conditional-steps : (levels-left : ℕ) (angles : List Value) {first size : ℕ} → first ≡ getD bit-starts r 0 → {q : ℕ} → size ≡ word image (9 + q + r) → q ≡ l .quantum
+        → (write [] (Record.ConditionalStart first size v) ∷ []) ++ (plainSteps image levels-left (scopeFrame image 0 angles qubits) t ++ write [] Record.ConditionalEnd ∷ [])
+        ≡ visitStatement image (opening image levels-left) (scopeFrame image 0 angles qubits) s
     unfolding visitStatement visitPlain visitConditional firstBit
-    conditional-steps left angles {first} {size} ef {q} ez eq =
-        let a : first ≡ firstBit image (word image (statementAt image s + 1)) = ef ∙ ap (λ (n : ℕ). getD bs n 0) register-is ∙ st .classical .each _ (if-facts e f .1) in
+    conditional-steps levels-left angles {first} {size} ef {q} ez eq =
+        let a : first ≡ firstBit image (word image (statementAt image s + 1)) = ef ∙ ap (λ (n : ℕ). getD bit-starts n 0) register-is ∙ st .classical .each _ (if-facts e (m .facts) .1) in
         let b : size ≡ classicalSize image (word image (statementAt image s + 1)) = ez ∙ ap₂ (λ (m n : ℕ). word image (9 + m + n)) (eq ∙ st .laid .quantum-is) register-is in
         let c : v ≡ word image (statementAt image s + 2) = ev ∙ ap (λ (n : ℕ). word image (n + 2)) ep in
         let d : t ≡ word image (statementAt image s + 3) = et ∙ ap (λ (n : ℕ). word image (n + 3)) ep in
@@ -73,14 +79,32 @@ module _ (image : List ℕ) (s : ℕ) where
 
 -- ---- the statements of main
 
-module _ {image : List ℕ} {l : Layout} {qs bs : List ℕ} (tb : MainContext image l qs bs) where
-  pub main-stands : {formals : List ℕ} → length formals ≡ 16 → ScopeContext image l qs bs 0 formals
-  main-stands h = record { laid = tb .laid; accepted = tb .accepted; quantum = tb .quantum; classical = tb .classical; wide = h; ready = refl }
+module _ {image : List ℕ} {l : Layout} {qubit-starts bit-starts out trace : List ℕ} {at : Position} (m : MainContext image l qubit-starts bit-starts out trace at) where
+  main-in-scope : {qubits : List ℕ} → length qubits ≡ 16 → ScopeContext image l qubit-starts bit-starts 0 qubits
+  main-in-scope h = record { laid = m .start .laid; accepted = m .start .accepted; quantum = m .quantum; classical = m .classical; wide = h; ready = refl }
 
-pub main-steps : (image : List ℕ) (left : ℕ) (angles : List Value) (formals : List ℕ) {n : ℕ} → n ≡ mainStatements image
-    → inRounds n (visitStatement image (opening image left) (scopeFrame image 0 angles formals)) ≡ visitBody image (opening image left) mainFrame
+  -- where main's statements are run
+  pub main-context : {kept-values qubits : List ℕ} → ConstantsKept image kept-values → length qubits ≡ 16 → RunContext image l qubit-starts bit-starts kept-values 0 (replicate 96 0) qubits out trace at
+  main-context f h =
+      record {
+        context = record { in-scope = main-in-scope h; constants = f; sound-angles = zeros-sound 96; in-output = m .start .in-output };
+        trace-length = m .start .trace-length;
+        trace-room = omega (arith, m .start .no-calls);
+      }
+
+  pub main-statement : {s : ℕ} → s < l .main → MainStatement image l s
+  unfolding scopeStatements
+  main-statement {s} h =
+      let laid = m .start .laid in
+      record {
+        listed = omega (arith, h, laid .main-is, laid .all-is);
+        facts = subst (λ (n : ℕ). Facts image 0 (statement image n)) (zero-add s) (run-facts image (m .start .accepted) 0 0 (mainStatements image) s zero-le refl (omega (arith, h, laid .main-is)));
+      }
+
+pub main-steps : (image : List ℕ) (levels-left : ℕ) (angles : List Value) (qubits : List ℕ) {n : ℕ} → n ≡ mainStatements image
+    → inRounds n (visitStatement image (opening image levels-left) (scopeFrame image 0 angles qubits)) ≡ visitBody image (opening image levels-left) mainFrame
 unfolding visitBody scopeStatements inRounds variables formalsOf
-main-steps image left angles formals e = rw e refl
+main-steps image levels-left angles qubits e = rw e refl
 
 -- ---- the program
 
@@ -88,24 +112,20 @@ pub no-steps : (image : List ℕ) (depth : ℕ) {n : ℕ} → n ≡ mainStatemen
 unfolding steps
 no-steps image depth e h = sym (rw (eq-eqb (mainStatements image) 0 (sym e ∙ h)) refl)
 
-pub head-steps : (image : List ℕ) (depth : ℕ) {n left : ℕ} → n ≡ mainStatements image → ¬ (n ≡ 0) → left ≡ depth - 1
-    → (write [] (headRecord image) ∷ []) ++ visitBody image (opening image left) mainFrame ≡ steps image depth
+pub head-steps : (image : List ℕ) (depth : ℕ) {n levels-left : ℕ} → n ≡ mainStatements image → ¬ (n ≡ 0) → levels-left ≡ depth - 1
+    → (write [] (headRecord image) ∷ []) ++ visitBody image (opening image levels-left) mainFrame ≡ steps image depth
 unfolding steps
 head-steps image depth e h d = sym (rw (ne-eqb (mainStatements image) 0 (λ z. h (e ∙ z)), ← d) refl)
 
--- where main's statements are run
-pub main-ready : {image : List ℕ} {l : Layout} {qs bs table formals out trace : List ℕ} {at : Position} → MainContext image l qs bs → ConstantsKept image table → length formals ≡ 16 → InOutput out at → 256 ≤ length trace → at .trace ≡ 0
-    → RunContext image l qs bs table 0 (replicate 96 0) formals out trace at
-main-ready t f h o r z = record { stands = main-stands t h; fixed = f; angles = zeros-sound 96; opens = o; room = r; deep = omega arith }
-
-pub main-facts : {image : List ℕ} {l : Layout} {qs bs : List ℕ} {s : ℕ} → MainContext image l qs bs → s < l .main → Facts image 0 (statement image s)
-unfolding scopeStatements
-main-facts {image} {s = s} t h =
-    subst (λ (n : ℕ). Facts image 0 (statement image n)) (zero-add s) (run-facts image (t .accepted) 0 0 (mainStatements image) s zero-le refl (omega (arith, h, t .laid .main-is)))
-
 -- ---- the tables of where registers start
 
-module _ {image : List ℕ} {l : Layout} (laid : LayoutOf image l) (acc : Accepted image) where
+module _ {image : List ℕ} {l : Layout} {out trace : List ℕ} {at : Position} (start : StartContext image l out trace at) where
+  abbrev laid : LayoutOf image l
+  laid = start .laid
+
+  abbrev acc : Accepted image
+  acc = start .accepted
+
   pub quantum-fits : (l .quantum ≤ 4096) × (sum (map (λ i. word image (9 + i)) (range 0 (l .quantum))) ≤ 4096)
   unfolding firstQubit
   quantum-fits =
@@ -116,15 +136,16 @@ module _ {image : List ℕ} {l : Layout} (laid : LayoutOf image l) (acc : Accept
   classical-fits =
       rw (laid .quantum-is, laid .classical-is) (omega (arith, laid .whole, laid .short), omega (arith, count-sum (classicalSize image) 0 (classicalRegisters image) (λ r p q. acc .csizes r (omega arith)), acc .fewBits), acc .fewBits)
 
-  pub tabled : {qs bs : List ℕ} → RegisterStarts (λ i. word image (9 + i)) (l .quantum) qs → RegisterStarts (λ i. word image (9 + l .quantum + i)) (l .classical) bs → MainContext image l qs bs
-  tabled {qs} {bs} q b = record { laid = laid; accepted = acc; quantum = rw (laid .quantum-is) at q; classical = rw (laid .quantum-is, laid .classical-is) at b }
+  pub with-starts : {qubit-starts bit-starts : List ℕ} → RegisterStarts (λ i. word image (9 + i)) (l .quantum) qubit-starts → RegisterStarts (λ i. word image (9 + l .quantum + i)) (l .classical) bit-starts → MainContext image l qubit-starts bit-starts out trace at
+  with-starts q b = record { start = start; quantum = rw (laid .quantum-is) at q; classical = rw (laid .quantum-is, laid .classical-is) at b }
 
--- nothing to do
+-- no step is written
 pub wrote-nothing : {out : List ℕ} {at : Position} → InOutput out at → WroteSteps [] out at (linearized.Done at) out
 unfolding play
 wrote-nothing o = record { plays = plays-stop [] (o .inside) refl; level = refl }
 
-pub open-after : {ss : List Step} {out out′ : List ℕ} {at p : Position} {r : Linearized} → InOutput out at → WroteSteps ss out at r out′ → r ≡ linearized.Done p → InOutput out′ p × (p .trace ≡ at .trace)
-open-after {ss} {out} {out′} {at} {p} o w e =
+-- the head is written
+pub start-wrote : {image : List ℕ} {l : Layout} {ss : List Step} {out out′ trace : List ℕ} {at p : Position} {r : Linearized} → StartContext image l out trace at → WroteSteps ss out at r out′ → r ≡ linearized.Done p → StartContext image l out′ trace p
+start-wrote {ss = ss} {out} {out′} {at = at} {p} start w e =
     let v : WroteSteps ss out at (linearized.Done p) out′ = rw e at w in
-    (wrote-open o v, v .level)
+    record { laid = start .laid; accepted = start .accepted; in-output = wrote-open (start .in-output) v; trace-length = start .trace-length; no-calls = v .level ∙ start .no-calls }

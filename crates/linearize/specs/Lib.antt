@@ -1,2 +1,3 @@
 pub mod MainContext
+pub mod MainStatement
 pub mod Linearizes

@@ -7,51 +7,54 @@ use record_writer::LinearizeErrorKind;
 use record_writer::Linearized;
 use record_writer::Position;
 ghost use mathlib.Core.Path.{_≡_};
-ghost use mathlib.Core.List.{[], _∷_, _++_};
-ghost use Prim.Native.Nat.{_-_, _≤_, _<_};
+ghost use Prim.Native.Nat.{_-_, _≤_};
 ghost use lib.ListN.{length};
-ghost use Rattle.model.specs.Image.{word, statement, statementAt};
 ghost use Rattle.model.specs.Check.{fine, check};
-ghost use Rattle.model.specs.Records.{Record};
-ghost use Rattle.model.specs.Steps.{write, visitStatement, visitBody, opening, mainFrame, steps};
-ghost use Rattle.model.specs.Accepted.{Accepted, PlainFacts, Facts};
-ghost use Rattle.image.specs.Layout.{LayoutOf};
-ghost use Rattle.record_writer.specs.Promise.{InOutput};
-ghost use Rattle.expression.specs.Table.{anglesIn, ConstantsKept};
-ghost use Rattle.argument.specs.Frames.{scopeFrame};
-ghost use Rattle.gate.specs.RunContext.{RunContext, RanSteps, plainSteps};
-ghost use Rattle.linearize.specs.MainContext.{MainContext};
+ghost use Rattle.model.specs.Steps.{steps};
+ghost use Rattle.expression.specs.Table.{ConstantsKept};
+ghost use Rattle.gate.specs.RunContext.{RunContext};
+ghost use Rattle.gate.specs.PlainStatement.{PlainStatement};
+ghost use Rattle.gate.specs.RanSteps.{RanSteps};
+ghost use Rattle.linearize.specs.MainContext.{StartContext, MainContext};
+ghost use Rattle.linearize.specs.MainStatement.{MainStatement, IsConditional, mainStatementSteps, innerSteps, mainSteps};
 ghost use Rattle.linearize.specs.Linearizes.{refusedWith, Linearizes};
 
 // The inner statement of a conditional, and the conditional's end.
 fn visit_inner_statement(
     image: &[u64],
     l: Layout,
-    qubits: &[u64],
-    bits: &[u64],
-    table: &mut [u64],
-    variables: &[u64; 96],
-    formals: &[u64; 16],
-    t: u64,
-    left: u64,
+    qubit_starts: &[u64],
+    bit_starts: &[u64],
+    kept_values: &mut [u64],
+    angles: &[u64; 96],
+    qubits: &[u64; 16],
+    inner: u64,
+    levels_left: u64,
     out: &mut [u64],
     trace: &mut [u64],
     at: Position,
 ) -> Linearized
-    requires { ⌜ RunContext (now image) l (now qubits) (now bits) (now table) 0 (now variables) (now formals) (now out) (now trace) at × (t < l .all) × PlainFacts (now image) 0 (statement (now image) t) ⌝ }
-    ensures { λ r. ⌜ RanSteps (plainSteps (now (image .entry)) left (scopeFrame (now (image .entry)) 0 (anglesIn (now (variables .entry))) (now (formals .entry))) t ++ write [] Record.ConditionalEnd ∷ []) (now (out .entry)) at (now (trace .entry)) r (now (out .exit)) (now (trace .exit)) × ConstantsKept (now (image .entry)) (now (table .exit)) ⌝ }
+    requires { ⌜
+        RunContext (now image) l (now «qubit_starts») (now «bit_starts») (now «kept_values») 0 (now angles) (now qubits) (now out) (now trace) at
+        × PlainStatement (now image) l 0 inner
+        ⌝ }
+    ensures { λ r. ⌜
+        RanSteps (innerSteps (now (image .entry)) «levels_left» (now (angles .entry)) (now (qubits .entry)) inner)
+        (now (out .entry)) at (now (trace .entry)) r (now (out .exit)) (now (trace .exit))
+        × ConstantsKept (now (image .entry)) (now («kept_values» .exit))
+        ⌝ }
 {
     match gate::visit_statement(
         image,
         l,
-        qubits,
-        bits,
-        table,
+        qubit_starts,
+        bit_starts,
+        kept_values,
         0,
-        variables,
-        formals,
-        t,
-        left,
+        angles,
+        qubits,
+        inner,
+        levels_left,
         out,
         trace,
         at,
@@ -61,39 +64,53 @@ fn visit_inner_statement(
     }
 }
 
-// A conditional: its start, and what it holds.
+// A conditional: its start, its inner statement, its end.
 fn visit_conditional(
     image: &[u64],
     l: Layout,
-    qubits: &[u64],
-    bits: &[u64],
-    table: &mut [u64],
-    variables: &[u64; 96],
-    formals: &[u64; 16],
+    qubit_starts: &[u64],
+    bit_starts: &[u64],
+    kept_values: &mut [u64],
+    angles: &[u64; 96],
+    qubits: &[u64; 16],
     s: u64,
-    left: u64,
+    levels_left: u64,
     out: &mut [u64],
     trace: &mut [u64],
     at: Position,
 ) -> Linearized
-    requires { ⌜ RunContext (now image) l (now qubits) (now bits) (now table) 0 (now variables) (now formals) (now out) (now trace) at × (s < l .all) × Facts (now image) 0 (statement (now image) s) × (word (now image) (statementAt (now image) s) ≡ 7) ⌝ }
-    ensures { λ r. ⌜ RanSteps (visitStatement (now (image .entry)) (opening (now (image .entry)) left) (scopeFrame (now (image .entry)) 0 (anglesIn (now (variables .entry))) (now (formals .entry))) s) (now (out .entry)) at (now (trace .entry)) r (now (out .exit)) (now (trace .exit)) × ConstantsKept (now (image .entry)) (now (table .exit)) ⌝ }
+    requires { ⌜
+        RunContext (now image) l (now «qubit_starts») (now «bit_starts») (now «kept_values») 0 (now angles) (now qubits) (now out) (now trace) at
+        × MainStatement (now image) l s
+        × IsConditional (now image) s
+        ⌝ }
+    ensures { λ r. ⌜
+        RanSteps (mainStatementSteps (now (image .entry)) «levels_left» (now (angles .entry)) (now (qubits .entry)) s)
+        (now (out .entry)) at (now (trace .entry)) r (now (out .exit)) (now (trace .exit))
+        × ConstantsKept (now (image .entry)) (now («kept_values» .exit))
+        ⌝ }
 {
     let place = image::statement_at(image, l, s);
     let register = image::word(image, place + 1);
     let size = image::word(image, 9 + l.quantum + register);
-    let first = bits[register as usize];
-    match record_writer::write_conditional_start(out, at, first, size, image::word(image, place + 2)) {
+    let first = bit_starts[register as usize];
+    match record_writer::write_conditional_start(
+        out,
+        at,
+        first,
+        size,
+        image::word(image, place + 2),
+    ) {
         Linearized::Done(next) => visit_inner_statement(
             image,
             l,
+            qubit_starts,
+            bit_starts,
+            kept_values,
+            angles,
             qubits,
-            bits,
-            table,
-            variables,
-            formals,
             image::word(image, place + 3),
-            left,
+            levels_left,
             out,
             trace,
             next,
@@ -102,35 +119,42 @@ fn visit_conditional(
     }
 }
 
-// A main statement.
+// A main statement, which may be a conditional.
 fn visit_main(
     image: &[u64],
     l: Layout,
-    qubits: &[u64],
-    bits: &[u64],
-    table: &mut [u64],
-    variables: &[u64; 96],
-    formals: &[u64; 16],
+    qubit_starts: &[u64],
+    bit_starts: &[u64],
+    kept_values: &mut [u64],
+    angles: &[u64; 96],
+    qubits: &[u64; 16],
     s: u64,
-    left: u64,
+    levels_left: u64,
     out: &mut [u64],
     trace: &mut [u64],
     at: Position,
 ) -> Linearized
-    requires { ⌜ RunContext (now image) l (now qubits) (now bits) (now table) 0 (now variables) (now formals) (now out) (now trace) at × (s < l .all) × Facts (now image) 0 (statement (now image) s) ⌝ }
-    ensures { λ r. ⌜ RanSteps (visitStatement (now (image .entry)) (opening (now (image .entry)) left) (scopeFrame (now (image .entry)) 0 (anglesIn (now (variables .entry))) (now (formals .entry))) s) (now (out .entry)) at (now (trace .entry)) r (now (out .exit)) (now (trace .exit)) × ConstantsKept (now (image .entry)) (now (table .exit)) ⌝ }
+    requires { ⌜
+        RunContext (now image) l (now «qubit_starts») (now «bit_starts») (now «kept_values») 0 (now angles) (now qubits) (now out) (now trace) at
+        × MainStatement (now image) l s
+        ⌝ }
+    ensures { λ r. ⌜
+        RanSteps (mainStatementSteps (now (image .entry)) «levels_left» (now (angles .entry)) (now (qubits .entry)) s)
+        (now (out .entry)) at (now (trace .entry)) r (now (out .exit)) (now (trace .exit))
+        × ConstantsKept (now (image .entry)) (now («kept_values» .exit))
+        ⌝ }
 {
     if image::word(image, image::statement_at(image, l, s)) == 7 {
         return visit_conditional(
             image,
             l,
+            qubit_starts,
+            bit_starts,
+            kept_values,
+            angles,
             qubits,
-            bits,
-            table,
-            variables,
-            formals,
             s,
-            left,
+            levels_left,
             out,
             trace,
             at,
@@ -139,14 +163,14 @@ fn visit_main(
     gate::visit_statement(
         image,
         l,
-        qubits,
-        bits,
-        table,
+        qubit_starts,
+        bit_starts,
+        kept_values,
         0,
-        variables,
-        formals,
+        angles,
+        qubits,
         s,
-        left,
+        levels_left,
         out,
         trace,
         at,
@@ -157,39 +181,45 @@ fn visit_main(
 fn visit_program(
     image: &[u64],
     l: Layout,
-    qubits: &[u64],
-    bits: &[u64],
-    table: &mut [u64],
-    left: u64,
+    qubit_starts: &[u64],
+    bit_starts: &[u64],
+    kept_values: &mut [u64],
+    levels_left: u64,
     out: &mut [u64],
     trace: &mut [u64],
     at: Position,
 ) -> Linearized
-    requires { ⌜ MainContext (now image) l (now qubits) (now bits) × ConstantsKept (now image) (now table) × InOutput (now out) at × (256 ≤ length (now trace)) × (at .trace ≡ 0) ⌝ }
-    ensures { λ r. ⌜ RanSteps (visitBody (now (image .entry)) (opening (now (image .entry)) left) mainFrame) (now (out .entry)) at (now (trace .entry)) r (now (out .exit)) (now (trace .exit)) ⌝ }
+    requires { ⌜
+        MainContext (now image) l (now «qubit_starts») (now «bit_starts») (now out) (now trace) at
+        × ConstantsKept (now image) (now «kept_values»)
+        ⌝ }
+    ensures { λ r. ⌜
+        RanSteps (mainSteps (now (image .entry)) «levels_left»)
+        (now (out .entry)) at (now (trace .entry)) r (now (out .exit)) (now (trace .exit))
+        ⌝ }
 {
-    let variables = [0u64; 96];
-    let formals = [0u64; 16];
+    let angles = [0u64; 96];
+    let qubits = [0u64; 16];
     let n = l.main;
-    let mut now = at;
+    let mut position = at;
     let mut s = 0u64;
     while s < n {
         match visit_main(
             image,
             l,
-            qubits,
-            bits,
-            table,
-            &variables,
-            &formals,
+            qubit_starts,
+            bit_starts,
+            kept_values,
+            &angles,
+            &qubits,
             s,
-            left,
+            levels_left,
             out,
             trace,
-            now,
+            position,
         ) {
             Linearized::Done(next) => {
-                now = next;
+                position = next;
             }
             Linearized::Refused(e) => {
                 return Linearized::Refused(e);
@@ -197,63 +227,110 @@ fn visit_program(
         }
         s += 1;
     }
-    Linearized::Done(now)
+    Linearized::Done(position)
 }
 
-// The main statements, with a table for the values of at most 128 expressions.
+// The main statements, where room for the values of 128 expressions is enough.
 fn visit_few_expressions(
     image: &[u64],
     l: Layout,
-    qubits: &[u64],
-    bits: &[u64],
-    left: u64,
+    qubit_starts: &[u64],
+    bit_starts: &[u64],
+    levels_left: u64,
     out: &mut [u64],
     trace: &mut [u64],
     at: Position,
 ) -> Linearized
-    requires { ⌜ MainContext (now image) l (now qubits) (now bits) × InOutput (now out) at × (256 ≤ length (now trace)) × (at .trace ≡ 0) × (l .expressions ≤ 128) ⌝ }
-    ensures { λ r. ⌜ RanSteps (visitBody (now (image .entry)) (opening (now (image .entry)) left) mainFrame) (now (out .entry)) at (now (trace .entry)) r (now (out .exit)) (now (trace .exit)) ⌝ }
+    requires { ⌜ MainContext (now image) l (now «qubit_starts») (now «bit_starts») (now out) (now trace) at × (l .expressions ≤ 128) ⌝ }
+    ensures { λ r. ⌜
+        RanSteps (mainSteps (now (image .entry)) «levels_left»)
+        (now (out .entry)) at (now (trace .entry)) r (now (out .exit)) (now (trace .exit))
+        ⌝ }
 {
-    let mut table = [0u64; 896];
-    visit_program(image, l, qubits, bits, &mut table, left, out, trace, at)
+    let mut kept_values = [0u64; 896];
+    visit_program(
+        image,
+        l,
+        qubit_starts,
+        bit_starts,
+        &mut kept_values,
+        levels_left,
+        out,
+        trace,
+        at,
+    )
 }
 
-// The same with a table for as many expressions as an image may have.
+// The main statements, with room for the values of as many expressions as an image may have.
 fn visit_many_expressions(
     image: &[u64],
     l: Layout,
-    qubits: &[u64],
-    bits: &[u64],
-    left: u64,
+    qubit_starts: &[u64],
+    bit_starts: &[u64],
+    levels_left: u64,
     out: &mut [u64],
     trace: &mut [u64],
     at: Position,
 ) -> Linearized
-    requires { ⌜ MainContext (now image) l (now qubits) (now bits) × InOutput (now out) at × (256 ≤ length (now trace)) × (at .trace ≡ 0) ⌝ }
-    ensures { λ r. ⌜ RanSteps (visitBody (now (image .entry)) (opening (now (image .entry)) left) mainFrame) (now (out .entry)) at (now (trace .entry)) r (now (out .exit)) (now (trace .exit)) ⌝ }
+    requires { ⌜ MainContext (now image) l (now «qubit_starts») (now «bit_starts») (now out) (now trace) at ⌝ }
+    ensures { λ r. ⌜
+        RanSteps (mainSteps (now (image .entry)) «levels_left»)
+        (now (out .entry)) at (now (trace .entry)) r (now (out .exit)) (now (trace .exit))
+        ⌝ }
 {
-    let mut table = [0u64; 19096];
-    visit_program(image, l, qubits, bits, &mut table, left, out, trace, at)
+    let mut kept_values = [0u64; 19096];
+    visit_program(
+        image,
+        l,
+        qubit_starts,
+        bit_starts,
+        &mut kept_values,
+        levels_left,
+        out,
+        trace,
+        at,
+    )
 }
 
-// The main statements, with a table for the values of expressions: a small program should not pay for clearing the long one.
+// The main statements, with room for the values of expressions: a small program should not pay for clearing the room of a large one.
 fn visit_with_kept_values(
     image: &[u64],
     l: Layout,
-    qubits: &[u64],
-    bits: &[u64],
-    left: u64,
+    qubit_starts: &[u64],
+    bit_starts: &[u64],
+    levels_left: u64,
     out: &mut [u64],
     trace: &mut [u64],
     at: Position,
 ) -> Linearized
-    requires { ⌜ MainContext (now image) l (now qubits) (now bits) × InOutput (now out) at × (256 ≤ length (now trace)) × (at .trace ≡ 0) ⌝ }
-    ensures { λ r. ⌜ RanSteps (visitBody (now (image .entry)) (opening (now (image .entry)) left) mainFrame) (now (out .entry)) at (now (trace .entry)) r (now (out .exit)) (now (trace .exit)) ⌝ }
+    requires { ⌜ MainContext (now image) l (now «qubit_starts») (now «bit_starts») (now out) (now trace) at ⌝ }
+    ensures { λ r. ⌜
+        RanSteps (mainSteps (now (image .entry)) «levels_left»)
+        (now (out .entry)) at (now (trace .entry)) r (now (out .exit)) (now (trace .exit))
+        ⌝ }
 {
     if l.expressions <= 128 {
-        return visit_few_expressions(image, l, qubits, bits, left, out, trace, at);
+        return visit_few_expressions(
+            image,
+            l,
+            qubit_starts,
+            bit_starts,
+            levels_left,
+            out,
+            trace,
+            at,
+        );
     }
-    visit_many_expressions(image, l, qubits, bits, left, out, trace, at)
+    visit_many_expressions(
+        image,
+        l,
+        qubit_starts,
+        bit_starts,
+        levels_left,
+        out,
+        trace,
+        at,
+    )
 }
 
 // The levels that are opened at a depth: depths 0 and 1 open none.
@@ -263,64 +340,91 @@ fn levels_to_open(depth: u64) -> u64
     if depth == 0 { 0 } else { depth - 1 }
 }
 
-// Where each of a few registers starts, then the main statements.
+// The main statements, where tables of the starts of 64 registers are enough.
 fn visit_few_registers(
     image: &[u64],
     l: Layout,
-    left: u64,
+    levels_left: u64,
     out: &mut [u64],
     trace: &mut [u64],
     at: Position,
 ) -> Linearized
-    requires { ⌜ LayoutOf (now image) l × Accepted (now image) × InOutput (now out) at × (256 ≤ length (now trace)) × (at .trace ≡ 0) × (l .quantum ≤ 64) × (l .classical ≤ 64) ⌝ }
-    ensures { λ r. ⌜ RanSteps (visitBody (now (image .entry)) (opening (now (image .entry)) left) mainFrame) (now (out .entry)) at (now (trace .entry)) r (now (out .exit)) (now (trace .exit)) ⌝ }
+    requires { ⌜ StartContext (now image) l (now out) (now trace) at × (l .quantum ≤ 64) × (l .classical ≤ 64) ⌝ }
+    ensures { λ r. ⌜
+        RanSteps (mainSteps (now (image .entry)) «levels_left»)
+        (now (out .entry)) at (now (trace .entry)) r (now (out .exit)) (now (trace .exit))
+        ⌝ }
 {
-    let mut qubits = [0u64; 64];
-    image::first_of_each(image, 9, l.quantum, &mut qubits);
-    let mut bits = [0u64; 64];
-    image::first_of_each(image, 9 + l.quantum, l.classical, &mut bits);
-    visit_with_kept_values(image, l, &qubits, &bits, left, out, trace, at)
+    let mut qubit_starts = [0u64; 64];
+    image::first_of_each(image, 9, l.quantum, &mut qubit_starts);
+    let mut bit_starts = [0u64; 64];
+    image::first_of_each(image, 9 + l.quantum, l.classical, &mut bit_starts);
+    visit_with_kept_values(
+        image,
+        l,
+        &qubit_starts,
+        &bit_starts,
+        levels_left,
+        out,
+        trace,
+        at,
+    )
 }
 
-// The same with tables for as many registers as an image may have.
+// The main statements, with tables of the starts of as many registers as an image may have.
 fn visit_many_registers(
     image: &[u64],
     l: Layout,
-    left: u64,
+    levels_left: u64,
     out: &mut [u64],
     trace: &mut [u64],
     at: Position,
 ) -> Linearized
-    requires { ⌜ LayoutOf (now image) l × Accepted (now image) × InOutput (now out) at × (256 ≤ length (now trace)) × (at .trace ≡ 0) ⌝ }
-    ensures { λ r. ⌜ RanSteps (visitBody (now (image .entry)) (opening (now (image .entry)) left) mainFrame) (now (out .entry)) at (now (trace .entry)) r (now (out .exit)) (now (trace .exit)) ⌝ }
+    requires { ⌜ StartContext (now image) l (now out) (now trace) at ⌝ }
+    ensures { λ r. ⌜
+        RanSteps (mainSteps (now (image .entry)) «levels_left»)
+        (now (out .entry)) at (now (trace .entry)) r (now (out .exit)) (now (trace .exit))
+        ⌝ }
 {
-    let mut qubits = [0u64; 4096];
-    image::first_of_each(image, 9, l.quantum, &mut qubits);
-    let mut bits = [0u64; 4096];
-    image::first_of_each(image, 9 + l.quantum, l.classical, &mut bits);
-    visit_with_kept_values(image, l, &qubits, &bits, left, out, trace, at)
+    let mut qubit_starts = [0u64; 4096];
+    image::first_of_each(image, 9, l.quantum, &mut qubit_starts);
+    let mut bit_starts = [0u64; 4096];
+    image::first_of_each(image, 9 + l.quantum, l.classical, &mut bit_starts);
+    visit_with_kept_values(
+        image,
+        l,
+        &qubit_starts,
+        &bit_starts,
+        levels_left,
+        out,
+        trace,
+        at,
+    )
 }
 
-// The main statements, with tables of where registers start: a small program should not pay for clearing the long ones.
+// The main statements, with tables of where registers start: a small program should not pay for clearing the tables of a large one.
 fn visit_with_register_starts(
     image: &[u64],
     l: Layout,
-    left: u64,
+    levels_left: u64,
     out: &mut [u64],
     trace: &mut [u64],
     at: Position,
 ) -> Linearized
-    requires { ⌜ LayoutOf (now image) l × Accepted (now image) × InOutput (now out) at × (256 ≤ length (now trace)) × (at .trace ≡ 0) ⌝ }
-    ensures { λ r. ⌜ RanSteps (visitBody (now (image .entry)) (opening (now (image .entry)) left) mainFrame) (now (out .entry)) at (now (trace .entry)) r (now (out .exit)) (now (trace .exit)) ⌝ }
+    requires { ⌜ StartContext (now image) l (now out) (now trace) at ⌝ }
+    ensures { λ r. ⌜
+        RanSteps (mainSteps (now (image .entry)) «levels_left»)
+        (now (out .entry)) at (now (trace .entry)) r (now (out .exit)) (now (trace .exit))
+        ⌝ }
 {
     if image::larger(l.quantum, l.classical) <= 64 {
-        return visit_few_registers(image, l, left, out, trace, at);
+        return visit_few_registers(image, l, levels_left, out, trace, at);
     }
-    visit_many_registers(image, l, left, out, trace, at)
+    visit_many_registers(image, l, levels_left, out, trace, at)
 }
 
 // The run of an accepted image: the head comes with the first main statement.
-fn run_laid(
+fn run_program(
     image: &[u64],
     l: Layout,
     depth: u64,
@@ -328,19 +432,29 @@ fn run_laid(
     trace: &mut [u64],
     at: Position,
 ) -> Linearized
-    requires { ⌜ LayoutOf (now image) l × Accepted (now image) × InOutput (now out) at × (256 ≤ length (now trace)) × (at .trace ≡ 0) ⌝ }
-    ensures { λ r. ⌜ RanSteps (steps (now (image .entry)) depth) (now (out .entry)) at (now (trace .entry)) r (now (out .exit)) (now (trace .exit)) ⌝ }
+    requires { ⌜ StartContext (now image) l (now out) (now trace) at ⌝ }
+    ensures { λ r. ⌜
+        RanSteps (steps (now (image .entry)) depth)
+        (now (out .entry)) at (now (trace .entry)) r (now (out .exit)) (now (trace .exit))
+        ⌝ }
 {
     if l.main == 0 {
         return Linearized::Done(at);
     }
     match long_record::write_head(out, at, image, l) {
-        Linearized::Done(next) => visit_with_register_starts(image, l, levels_to_open(depth), out, trace, next),
+        Linearized::Done(next) => visit_with_register_starts(
+            image,
+            l,
+            levels_to_open(depth),
+            out,
+            trace,
+            next,
+        ),
         Linearized::Refused(e) => Linearized::Refused(e),
     }
 }
 
-// Nothing is written yet.
+// The position where nothing is written yet.
 fn start() -> Position
     ensures { λ r. ⌜ r ≡ record { records = 0; words = 0; trace = 0 } ⌝ }
 {
@@ -363,7 +477,7 @@ fn run_accepted(image: &[u64], depth: u64, out: &mut [u64], trace: &mut [u64]) -
     ensures { λ r. ⌜ Linearizes (now (image .entry)) depth (now (out .entry)) (now (trace .entry)) r (now (out .exit)) (now (trace .exit)) ⌝ }
 {
     match image::read_contents(image) {
-        Contents::Right(l) => run_laid(image, l, depth, out, trace, start()),
+        Contents::Right(l) => run_program(image, l, depth, out, trace, start()),
         Contents::Wrong => refused(LinearizeErrorKind::ShortTrace),
     }
 }
@@ -375,9 +489,9 @@ pub fn run(image: &[u64], depth: u64, out: &mut [u64], trace: &mut [u64]) -> Lin
     if trace.len() < 256 {
         return refused(LinearizeErrorKind::ShortTrace);
     }
-    let verdict = image_check::check(image);
-    match verdict {
+    let answer = image_check::check(image);
+    match answer {
         CheckAnswer::Accepted => run_accepted(image, depth, out, trace),
-        _ => refused(LinearizeErrorKind::Rejected(verdict)),
+        _ => refused(LinearizeErrorKind::Rejected(answer)),
     }
 }

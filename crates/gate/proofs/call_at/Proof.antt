@@ -1,3 +1,4 @@
+-- The words that are read of a call and of its gate are those that the definition says.
 use native.Mathlib.Omega.{arith}
 use denote.Ref.{now}
 use borrow.Author.Needs.{needs}

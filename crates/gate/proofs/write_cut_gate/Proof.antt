@@ -1,3 +1,4 @@
+-- A gate that is not opened is written with its qubits and no angle.
 use native.Mathlib.Omega.{arith}
 use denote.Ref.{now}
 use borrow.Author.Needs.{needs}

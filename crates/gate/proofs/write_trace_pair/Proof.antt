@@ -1,3 +1,4 @@
+-- The two words stand in the trace, the scope before the place.
 use mathlib.Core.Path.{refl}
 use native.Mathlib.Numerals.{add-one}
 use borrow.Author.Needs.{needs}

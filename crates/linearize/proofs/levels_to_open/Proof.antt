@@ -1,3 +1,4 @@
+-- The levels to open are one less than the depth, and none at depth 0.
 use borrow.Author.Needs.{needs}
 use Rattle.linearize.proofs.levels_to_open.Statement.{statement}
 use Rattle.linearize.proofs.levels_to_open.Tie as tie

@@ -1,3 +1,4 @@
+-- A run keeps the whole promise: where the trace is too short, where the check finds a flaw, and where the image is accepted.
 use native.Mathlib.Omega.{arith}
 use mathlib.Core.Path.{sym, ap, _∙_}
 use borrow.Author.Needs.{needs}

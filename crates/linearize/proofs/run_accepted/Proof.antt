@@ -1,3 +1,4 @@
+-- The run of an accepted image keeps the whole promise.
 use mathlib.Core.Path.{ap, subst}
 use borrow.Author.Needs.{needs}
 use denote.Ref.{now}
@@ -19,8 +20,16 @@ enum-known-l c = search needs
 start-requires : tie.Need-start-requires
 start-requires c κs = search needs
 
-run-laid-requires : tie.Need-run-laid-requires
-run-laid-requires c κs = (subst (ReadAs (now (c .before .before .before .before .before .before .before .before .before .before .args .image))) (c .before .before .before .before .l .given .1) (c .before .before .before .before .before .before .read-contents .ensures) .1, accepts _ (c .before .before .before .before .before .before .before .before .before .before .pre .0), rw (c .start .ensures) (record { inside = zero-le; fewer = zero-le }), c .before .before .before .before .before .before .before .before .before .before .pre .1, ap (λ p. p .trace) (c .start .ensures))
+run-program-requires : tie.Need-run-program-requires
+run-program-requires c κs =
+    let pre = c .before .before .before .before .before .before .before .before .before .before .pre in
+    record {
+      laid = subst (ReadAs (now (c .before .before .before .before .before .before .before .before .before .before .args .image))) (c .before .before .before .before .l .given .1) (c .before .before .before .before .before .before .read-contents .ensures) .1;
+      accepted = accepts _ (pre .0);
+      in-output = rw (c .start .ensures) (record { inside = zero-le; fewer = zero-le });
+      trace-length = pre .1;
+      no-calls = ap (λ p. p .trace) (c .start .ensures);
+    }
 
 enum-told : tie.Need-enum-told
 enum-told c = search needs
@@ -29,13 +38,13 @@ refused-requires : tie.Need-refused-requires
 refused-requires c κs = search needs
 
 same-length : tie.Need-same-length
-same-length c = ran-lengths (c .before .before .before .before .run-laid .ensures) .0
+same-length c = ran-lengths (c .before .before .before .before .run-program .ensures) .0
 
 same-length-2 : tie.Need-same-length-2
-same-length-2 c = ran-lengths (c .before .before .before .before .run-laid .ensures) .1
+same-length-2 c = ran-lengths (c .before .before .before .before .run-program .ensures) .1
 
 returns : tie.Need-returns
-returns c = accepted-run _ _ _ _ (c .before .before .before .before .before .before .before .before .before .before .before .before .before .before .before .pre .0) (c .before .before .before .before .before .before .before .before .before .before .before .before .before .before .before .pre .1) (c .before .before .before .before .before .start .ensures) (c .before .before .before .before .run-laid .ensures)
+returns c = accepted-run _ _ _ _ (c .before .before .before .before .before .before .before .before .before .before .before .before .before .before .before .pre .0) (c .before .before .before .before .before .before .before .before .before .before .before .before .before .before .before .pre .1) (c .before .before .before .before .before .start .ensures) (c .before .before .before .before .run-program .ensures)
 
 returns-2 : tie.Need-returns-2
 returns-2 c = absurd (contents-right (now (c .before .before .before .before .before .before .before .args .image)) (c .before .before .before .before .before .before .before .pre .0) (subst (ReadAs (now (c .before .before .before .before .before .before .before .args .image))) (c .before .enum-told .given .1) (c .before .before .before .read-contents .ensures)))
@@ -47,7 +56,7 @@ run-accepted-spec =
     read-contents-requires
     enum-known-l
     start-requires
-    run-laid-requires
+    run-program-requires
     enum-told
     refused-requires
     same-length

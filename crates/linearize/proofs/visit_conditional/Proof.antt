@@ -1,9 +1,10 @@
+-- A conditional is written with its start, its inner statement and its end.
 use native.Mathlib.Omega.{arith}
 use mathlib.Core.Path.{refl}
 use borrow.Author.Needs.{needs}
 use Rattle.gate.proofs.RanStepsLaws.{wrote-then, wrote-stops, ran-steps}
-use Rattle.gate.proofs.RunContextLaws.{ready-wrote}
-use Rattle.linearize.proofs.MainContextLaws.{register-listed, register-tabled, held-listed, conditional-steps}
+use Rattle.gate.proofs.RunContextLaws.{context-wrote}
+use Rattle.linearize.proofs.MainContextLaws.{register-listed, register-in-table, inner-listed, conditional-steps}
 use Rattle.linearize.proofs.visit_conditional.Statement.{statement}
 use Rattle.linearize.proofs.visit_conditional.Tie as tie
 
@@ -20,16 +21,16 @@ add-word-2 : tie.Need-add-word-2
 add-word-2 c = search needs
 
 add-word-3 : tie.Need-add-word-3
-add-word-3 c = record { fits = omega (arith, c .before .before .before .before .before .before .before .before .before .pre .0 .stands .laid .quantum-is, c .before .before .before .before .before .before .before .before .before .pre .0 .stands .laid .whole, c .before .before .before .before .before .before .before .before .before .pre .0 .stands .laid .short, register-listed _ _ (c .before .before .before .before .before .before .before .before .before .pre .0 .stands) (c .before .before .before .before .before .before .before .before .before .pre .3) (c .before .before .before .before .before .before .before .before .before .pre .2) (c .before .before .statement-at .ensures) (c .before .word .ensures) refl refl) }
+add-word-3 c = record { fits = omega (arith, c .before .before .before .before .before .before .before .before .before .pre .0 .context .in-scope .laid .quantum-is, c .before .before .before .before .before .before .before .before .before .pre .0 .context .in-scope .laid .whole, c .before .before .before .before .before .before .before .before .before .pre .0 .context .in-scope .laid .short, register-listed _ _ (c .before .before .before .before .before .before .before .before .before .pre .0 .context .in-scope) (c .before .before .before .before .before .before .before .before .before .pre .2) (c .before .before .before .before .before .before .before .before .before .pre .1) (c .before .before .statement-at .ensures) (c .before .word .ensures) refl refl) }
 
 word-requires-2 : tie.Need-word-requires-2
 word-requires-2 c κs = search needs
 
 mul-first : tie.Need-mul-first
-mul-first c = record { fits = omega (arith, register-listed _ _ (c .before .before .before .before .before .before .before .before .before .before .pre .0 .stands) (c .before .before .before .before .before .before .before .before .before .before .pre .3) (c .before .before .before .before .before .before .before .before .before .before .pre .2) (c .before .before .before .statement-at .ensures) (c .before .before .word .ensures) refl refl) }
+mul-first c = record { fits = omega (arith, register-listed _ _ (c .before .before .before .before .before .before .before .before .before .before .pre .0 .context .in-scope) (c .before .before .before .before .before .before .before .before .before .before .pre .2) (c .before .before .before .before .before .before .before .before .before .before .pre .1) (c .before .before .before .statement-at .ensures) (c .before .before .word .ensures) refl refl) }
 
 shared-slice-read-first : tie.Need-shared-slice-read-first
-shared-slice-read-first c = register-tabled _ _ (c .before .before .before .before .before .before .before .before .before .before .before .pre .0 .stands) (c .before .before .before .before .before .before .before .before .before .before .before .pre .3) (c .before .before .before .before .before .before .before .before .before .before .before .pre .2) (c .before .before .before .before .statement-at .ensures) (c .before .before .before .word .ensures) refl refl
+shared-slice-read-first c = register-in-table _ _ (c .before .before .before .before .before .before .before .before .before .before .before .pre .0 .context .in-scope) (c .before .before .before .before .before .before .before .before .before .before .before .pre .2) (c .before .before .before .before .before .before .before .before .before .before .before .pre .1) (c .before .before .before .before .statement-at .ensures) (c .before .before .before .word .ensures) refl refl
 
 add-word-4 : tie.Need-add-word-4
 add-word-4 c = search needs
@@ -44,13 +45,13 @@ enum-known-next : tie.Need-enum-known-next
 enum-known-next c = search needs
 
 add-word-5 : tie.Need-add-word-5
-add-word-5 c = record { fits = omega (arith, c .before .before .before .before .before .before .before .before .before .before .before .before .before .statement-at .ensures, c .before .before .before .before .before .before .before .before .before .before .before .before .before .before .before .before .before .before .before .before .pre .1, c .before .before .before .before .before .before .before .before .before .before .before .before .before .before .before .before .before .before .before .before .pre .0 .stands .laid .all-is, c .before .before .before .before .before .before .before .before .before .before .before .before .before .before .before .before .before .before .before .before .pre .0 .stands .laid .whole, c .before .before .before .before .before .before .before .before .before .before .before .before .before .before .before .before .before .before .before .before .pre .0 .stands .laid .short) }
+add-word-5 c = record { fits = omega (arith, c .before .before .before .before .before .before .before .before .before .before .before .before .before .statement-at .ensures, c .before .before .before .before .before .before .before .before .before .before .before .before .before .before .before .before .before .before .before .before .pre .1 .listed, c .before .before .before .before .before .before .before .before .before .before .before .before .before .before .before .before .before .before .before .before .pre .0 .context .in-scope .laid .all-is, c .before .before .before .before .before .before .before .before .before .before .before .before .before .before .before .before .before .before .before .before .pre .0 .context .in-scope .laid .whole, c .before .before .before .before .before .before .before .before .before .before .before .before .before .before .before .before .before .before .before .before .pre .0 .context .in-scope .laid .short) }
 
 word-requires-4 : tie.Need-word-requires-4
 word-requires-4 c κs = search needs
 
 visit-inner-statement-requires : tie.Need-visit-inner-statement-requires
-visit-inner-statement-requires c κs = let h = held-listed _ _ (c .before .before .before .before .before .before .before .before .before .before .before .before .before .before .before .before .before .before .before .before .before .before .before .pre .0 .stands) (c .before .before .before .before .before .before .before .before .before .before .before .before .before .before .before .before .before .before .before .before .before .before .before .pre .3) (c .before .before .before .before .before .before .before .before .before .before .before .before .before .before .before .before .before .before .before .before .before .before .before .pre .2) (c .before .before .before .before .before .before .before .before .before .before .before .before .before .before .before .before .statement-at .ensures) refl refl (c .before .before .word4 .ensures) in (ready-wrote (c .before .before .before .before .before .before .before .before .before .before .before .before .before .before .before .before .before .before .before .before .before .before .before .pre .0) (c .before .before .before .before .before .before .before .before .before .write-conditional-start .ensures) (c .before .before .before .before .before .next .given .1), h .0, h .1)
+visit-inner-statement-requires c κs = let h = inner-listed _ _ (c .before .before .before .before .before .before .before .before .before .before .before .before .before .before .before .before .before .before .before .before .before .before .before .pre .0 .context .in-scope) (c .before .before .before .before .before .before .before .before .before .before .before .before .before .before .before .before .before .before .before .before .before .before .before .pre .2) (c .before .before .before .before .before .before .before .before .before .before .before .before .before .before .before .before .before .before .before .before .before .before .before .pre .1) (c .before .before .before .before .before .before .before .before .before .before .before .before .before .before .before .before .statement-at .ensures) refl refl (c .before .before .word4 .ensures) in (context-wrote (c .before .before .before .before .before .before .before .before .before .before .before .before .before .before .before .before .before .before .before .before .before .before .before .pre .0) (c .before .before .before .before .before .before .before .before .before .write-conditional-start .ensures) (c .before .before .before .before .before .next .given .1), h)
 
 enum-known-e : tie.Need-enum-known-e
 enum-known-e c = search needs
@@ -65,13 +66,13 @@ same-length-3 : tie.Need-same-length-3
 same-length-3 c = search needs
 
 returns : tie.Need-returns
-returns c = (ran-steps (conditional-steps _ _ (c .before .before .before .before .before .before .before .before .before .before .before .before .before .before .before .before .before .before .before .before .before .before .before .before .before .before .before .before .before .before .pre .0 .stands) (c .before .before .before .before .before .before .before .before .before .before .before .before .before .before .before .before .before .before .before .before .before .before .before .before .before .before .before .before .before .before .pre .3) (c .before .before .before .before .before .before .before .before .before .before .before .before .before .before .before .before .before .before .before .before .before .before .before .before .before .before .before .before .before .before .pre .2) (c .before .before .before .before .before .before .before .before .before .before .before .before .before .before .before .before .before .before .before .before .before .before .before .statement-at .ensures) (c .before .before .before .before .before .before .before .before .before .before .before .before .before .before .before .before .before .before .before .before .before .before .word .ensures) (c .before .before .before .before .before .before .before .before .before .before .before .before .before .before .before .before .before .word3 .ensures) (c .before .before .before .before .before .before .before .before .before .word4 .ensures) _ _ refl (c .before .before .before .before .before .before .before .before .before .before .before .before .before .before .before .before .before .before .before .before .word2 .ensures) refl) (wrote-then (c .before .before .before .before .before .before .before .before .before .before .before .before .before .before .before .before .write-conditional-start .ensures) (c .before .before .before .before .before .before .before .before .before .before .before .before .next .given .1) (c .before .before .before .before .before .before .visit-inner-statement .ensures .0)), c .before .before .before .before .before .before .visit-inner-statement .ensures .1)
+returns c = (ran-steps (conditional-steps _ _ (c .before .before .before .before .before .before .before .before .before .before .before .before .before .before .before .before .before .before .before .before .before .before .before .before .before .before .before .before .before .before .pre .0 .context .in-scope) (c .before .before .before .before .before .before .before .before .before .before .before .before .before .before .before .before .before .before .before .before .before .before .before .before .before .before .before .before .before .before .pre .2) (c .before .before .before .before .before .before .before .before .before .before .before .before .before .before .before .before .before .before .before .before .before .before .before .before .before .before .before .before .before .before .pre .1) (c .before .before .before .before .before .before .before .before .before .before .before .before .before .before .before .before .before .before .before .before .before .before .before .statement-at .ensures) (c .before .before .before .before .before .before .before .before .before .before .before .before .before .before .before .before .before .before .before .before .before .before .word .ensures) (c .before .before .before .before .before .before .before .before .before .before .before .before .before .before .before .before .before .word3 .ensures) (c .before .before .before .before .before .before .before .before .before .word4 .ensures) _ _ refl (c .before .before .before .before .before .before .before .before .before .before .before .before .before .before .before .before .before .before .before .before .word2 .ensures) refl) (wrote-then (c .before .before .before .before .before .before .before .before .before .before .before .before .before .before .before .before .write-conditional-start .ensures) (c .before .before .before .before .before .before .before .before .before .before .before .before .next .given .1) (c .before .before .before .before .before .before .visit-inner-statement .ensures .0)), c .before .before .before .before .before .before .visit-inner-statement .ensures .1)
 
 same-length-4 : tie.Need-same-length-4
 same-length-4 c = search needs
 
 returns-2 : tie.Need-returns-2
-returns-2 c = (ran-steps (conditional-steps _ _ (c .before .before .before .before .before .before .before .before .before .before .before .before .before .before .before .before .before .before .before .pre .0 .stands) (c .before .before .before .before .before .before .before .before .before .before .before .before .before .before .before .before .before .before .before .pre .3) (c .before .before .before .before .before .before .before .before .before .before .before .before .before .before .before .before .before .before .before .pre .2) (c .before .before .before .before .before .before .before .before .before .before .before .before .statement-at .ensures) (c .before .before .before .before .before .before .before .before .before .before .before .word .ensures) (c .before .before .before .before .before .before .word3 .ensures) refl _ _ refl (c .before .before .before .before .before .before .before .before .before .word2 .ensures) refl) (wrote-stops _ _ (c .before .before .before .before .before .write-conditional-start .ensures) (c .before .e .given .1)), c .before .before .before .before .before .before .before .before .before .before .before .before .before .before .before .before .before .before .before .pre .0 .fixed)
+returns-2 c = (ran-steps (conditional-steps _ _ (c .before .before .before .before .before .before .before .before .before .before .before .before .before .before .before .before .before .before .before .pre .0 .context .in-scope) (c .before .before .before .before .before .before .before .before .before .before .before .before .before .before .before .before .before .before .before .pre .2) (c .before .before .before .before .before .before .before .before .before .before .before .before .before .before .before .before .before .before .before .pre .1) (c .before .before .before .before .before .before .before .before .before .before .before .before .statement-at .ensures) (c .before .before .before .before .before .before .before .before .before .before .before .word .ensures) (c .before .before .before .before .before .before .word3 .ensures) refl _ _ refl (c .before .before .before .before .before .before .before .before .before .word2 .ensures) refl) (wrote-stops _ _ (c .before .before .before .before .before .write-conditional-start .ensures) (c .before .e .given .1)), c .before .before .before .before .before .before .before .before .before .before .before .before .before .before .before .before .before .before .before .pre .0 .context .constants)
 
 pub visit-conditional-spec : {M : Type 1} → statement M
 visit-conditional-spec =

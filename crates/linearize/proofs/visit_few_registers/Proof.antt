@@ -1,6 +1,7 @@
+-- The tables have room for the starts of 64 registers, and say where each starts.
 use native.Mathlib.Omega.{arith}
 use borrow.Author.Needs.{needs}
-use Rattle.linearize.proofs.MainContextLaws.{quantum-fits, classical-fits, tabled}
+use Rattle.linearize.proofs.MainContextLaws.{quantum-fits, classical-fits, with-starts}
 use Rattle.linearize.proofs.visit_few_registers.Statement.{statement}
 use Rattle.linearize.proofs.visit_few_registers.Tie as tie
 
@@ -10,8 +11,8 @@ slice-aggregate-first-of-each c = search needs
 first-of-each-requires : tie.Need-first-of-each-requires
 first-of-each-requires c κs =
     let s = c .before .before .before .before in
-    let q = quantum-fits (s .pre .0) (s .pre .1) in
-    (omega arith, s .pre .5, q .1)
+    let q = quantum-fits (s .pre .0) in
+    (omega arith, s .pre .1, q .1)
 
 add-first-of-each : tie.Need-add-first-of-each
 add-first-of-each c = search needs
@@ -22,8 +23,8 @@ slice-aggregate-first-of-each-2 c = search needs
 first-of-each-requires-2 : tie.Need-first-of-each-requires-2
 first-of-each-requires-2 c κs =
     let s = c .before .before .before .before .before .before .before .before in
-    let q = classical-fits (s .pre .0) (s .pre .1) in
-    (q .0, s .pre .6, q .2)
+    let q = classical-fits (s .pre .0) in
+    (q .0, s .pre .2, q .2)
 
 slice-aggregate-visit-with-kept-values : tie.Need-slice-aggregate-visit-with-kept-values
 slice-aggregate-visit-with-kept-values c = search needs
@@ -36,7 +37,7 @@ visit-with-kept-values-requires c κs =
     let b = c .before .before .before .before .before in
     let q = b .before .before .before .before in
     let s = q .before .before .before .before .before in
-    (tabled (s .pre .0) (s .pre .1) (q .first-of-each .ensures) (b .first-of-each2 .ensures), s .pre .2, s .pre .3, s .pre .4)
+    with-starts (s .pre .0) (q .first-of-each .ensures) (b .first-of-each2 .ensures)
 
 same-length : tie.Need-same-length
 same-length c = search needs

@@ -1,3 +1,4 @@
+-- The inner statement of a conditional is run, then its end is written.
 use borrow.Author.Needs.{needs}
 use Rattle.gate.proofs.RanStepsLaws.{ran-then, ran-stops}
 use Rattle.gate.proofs.RunContextLaws.{ran-open}
@@ -11,7 +12,7 @@ enum-known-next : tie.Need-enum-known-next
 enum-known-next c = search needs
 
 write-conditional-end-requires : tie.Need-write-conditional-end-requires
-write-conditional-end-requires c κs = ran-open (c .before .before .before .before .before .before .before .before .before .before .before .before .before .before .before .before .before .before .before .before .pre .0 .opens) (c .before .before .before .before .before .before .before .before .before .before .visit-statement .ensures .0) (c .before .before .next .given .1)
+write-conditional-end-requires c κs = ran-open (c .before .before .before .before .before .before .before .before .before .before .before .before .before .before .before .before .before .before .before .before .pre .0 .context .in-output) (c .before .before .before .before .before .before .before .before .before .before .visit-statement .ensures .0) (c .before .before .next .given .1)
 
 enum-known-e : tie.Need-enum-known-e
 enum-known-e c = search needs

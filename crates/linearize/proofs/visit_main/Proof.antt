@@ -1,3 +1,4 @@
+-- A main statement does what the definition says, whether it is a conditional or not.
 use mathlib.Core.Path.{ap, _∙_}
 use borrow.Author.Needs.{needs}
 use denote.Ref.{now}
@@ -16,7 +17,10 @@ word-requires : tie.Need-word-requires
 word-requires c κs = search needs
 
 visit-conditional-requires : tie.Need-visit-conditional-requires
-visit-conditional-requires c κs = (c .before .before .before .before .before .before .before .before .before .before .before .before .pre .0, c .before .before .before .before .before .before .before .before .before .before .before .before .pre .1, c .before .before .before .before .before .before .before .before .before .before .before .before .pre .2, kind-read (now (c .before .before .before .before .before .before .before .before .before .before .before .before .args .image)) (c .before .before .before .before .before .before .before .before .before .before .before .before .args .s) (c .before .before .before .before .before .statement-at .ensures) (c .before .before .before .before .word .ensures) (c .before .before .before .if1 .taken))
+visit-conditional-requires c κs =
+    let pre = c .before .before .before .before .before .before .before .before .before .before .before .before .pre in
+    let args = c .before .before .before .before .before .before .before .before .before .before .before .before .args in
+    (pre .0, pre .1, kind-read (now (args .image)) (args .s) (c .before .before .before .before .before .statement-at .ensures) (c .before .before .before .before .word .ensures) (c .before .before .before .if1 .taken))
 
 same-length : tie.Need-same-length
 same-length c = search needs
@@ -31,7 +35,10 @@ returns : tie.Need-returns
 returns c = search needs
 
 visit-statement-requires : tie.Need-visit-statement-requires
-visit-statement-requires c κs = (c .before .before .before .before .before .before .before .before .before .before .before .before .pre .0, c .before .before .before .before .before .before .before .before .before .before .before .before .pre .1, plain-in-main _ _ (λ e. c .before .before .before .if1 .left (c .before .before .before .before .word .ensures ∙ ap (word (now (c .before .before .before .before .before .before .before .before .before .before .before .before .args .image))) (c .before .before .before .before .before .statement-at .ensures) ∙ e)) (c .before .before .before .before .before .before .before .before .before .before .before .before .pre .2))
+visit-statement-requires c κs =
+    let pre = c .before .before .before .before .before .before .before .before .before .before .before .before .pre in
+    let args = c .before .before .before .before .before .before .before .before .before .before .before .before .args in
+    (pre .0, plain-in-main _ _ (λ e. c .before .before .before .if1 .left (c .before .before .before .before .word .ensures ∙ ap (word (now (args .image))) (c .before .before .before .before .before .statement-at .ensures) ∙ e)) (pre .1))
 
 same-length-4 : tie.Need-same-length-4
 same-length-4 c = search needs
@@ -43,7 +50,11 @@ same-length-6 : tie.Need-same-length-6
 same-length-6 c = search needs
 
 returns-2 : tie.Need-returns-2
-returns-2 c = (ran-steps (statement-steps _ 0 _ _ _ (plain-in-main _ _ (λ e. c .before .before .before .before .before .before .before .before .before .before .if1 .left (c .before .before .before .before .before .before .before .before .before .before .before .word .ensures ∙ ap (word (now (c .before .before .before .before .before .before .before .before .before .before .before .before .before .before .before .before .before .before .before .args .image))) (c .before .before .before .before .before .before .before .before .before .before .before .before .statement-at .ensures) ∙ e)) (c .before .before .before .before .before .before .before .before .before .before .before .before .before .before .before .before .before .before .before .pre .2))) (c .before .before .before .before .before .before .visit-statement .ensures .0), c .before .before .before .before .before .before .visit-statement .ensures .1)
+returns-2 c =
+    let pre = c .before .before .before .before .before .before .before .before .before .before .before .before .before .before .before .before .before .before .before .pre in
+    let args = c .before .before .before .before .before .before .before .before .before .before .before .before .before .before .before .before .before .before .before .args in
+    let plain = plain-in-main _ _ (λ e. c .before .before .before .before .before .before .before .before .before .before .if1 .left (c .before .before .before .before .before .before .before .before .before .before .before .word .ensures ∙ ap (word (now (args .image))) (c .before .before .before .before .before .before .before .before .before .before .before .before .statement-at .ensures) ∙ e)) (pre .1) in
+    (ran-steps (statement-steps _ 0 _ _ _ (plain .facts)) (c .before .before .before .before .before .before .visit-statement .ensures .0), c .before .before .before .before .before .before .visit-statement .ensures .1)
 
 pub visit-main-spec : {M : Type 1} → statement M
 visit-main-spec =

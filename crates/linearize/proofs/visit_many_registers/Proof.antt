@@ -1,6 +1,7 @@
+-- The tables have room for the starts of the registers of any image, and say where each starts.
 use native.Mathlib.Omega.{arith}
 use borrow.Author.Needs.{needs}
-use Rattle.linearize.proofs.MainContextLaws.{quantum-fits, classical-fits, tabled}
+use Rattle.linearize.proofs.MainContextLaws.{quantum-fits, classical-fits, with-starts}
 use Rattle.linearize.proofs.visit_many_registers.Statement.{statement}
 use Rattle.linearize.proofs.visit_many_registers.Tie as tie
 
@@ -10,7 +11,7 @@ slice-aggregate-first-of-each c = search needs
 first-of-each-requires : tie.Need-first-of-each-requires
 first-of-each-requires c κs =
     let s = c .before .before .before .before in
-    let q = quantum-fits (s .pre .0) (s .pre .1) in
+    let q = quantum-fits (s .pre) in
     (omega arith, q .0, q .1)
 
 add-first-of-each : tie.Need-add-first-of-each
@@ -22,7 +23,7 @@ slice-aggregate-first-of-each-2 c = search needs
 first-of-each-requires-2 : tie.Need-first-of-each-requires-2
 first-of-each-requires-2 c κs =
     let s = c .before .before .before .before .before .before .before .before in
-    classical-fits (s .pre .0) (s .pre .1)
+    classical-fits (s .pre)
 
 slice-aggregate-visit-with-kept-values : tie.Need-slice-aggregate-visit-with-kept-values
 slice-aggregate-visit-with-kept-values c = search needs
@@ -35,7 +36,7 @@ visit-with-kept-values-requires c κs =
     let b = c .before .before .before .before .before in
     let q = b .before .before .before .before in
     let s = q .before .before .before .before .before in
-    (tabled (s .pre .0) (s .pre .1) (q .first-of-each .ensures) (b .first-of-each2 .ensures), s .pre .2, s .pre .3, s .pre .4)
+    with-starts (s .pre) (q .first-of-each .ensures) (b .first-of-each2 .ensures)
 
 same-length : tie.Need-same-length
 same-length c = search needs

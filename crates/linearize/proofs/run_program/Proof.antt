@@ -1,0 +1,56 @@
+-- The run of an accepted image plays its steps: the head where there is a main statement, then the main statements.
+use mathlib.Core.Path.{refl}
+use borrow.Author.Needs.{needs}
+use Rattle.gate.proofs.RanStepsLaws.{wrote-ran, wrote-then, wrote-stops, ran-lengths, ran-steps}
+use Rattle.linearize.proofs.MainContextLaws.{no-steps, head-steps, wrote-nothing, start-wrote}
+use Rattle.linearize.proofs.run_program.Statement.{statement}
+use Rattle.linearize.proofs.run_program.Tie as tie
+
+returns : tie.Need-returns
+returns c = ran-steps (no-steps _ _ (c .before .before .before .before .before .pre .laid .main-is) (c .if1 .taken)) (wrote-ran _ (wrote-nothing (c .before .before .before .before .before .pre .in-output)))
+
+write-head-requires : tie.Need-write-head-requires
+write-head-requires c κs = search needs
+
+enum-known-next : tie.Need-enum-known-next
+enum-known-next c = search needs
+
+levels-to-open-requires : tie.Need-levels-to-open-requires
+levels-to-open-requires c κs = search needs
+
+visit-with-register-starts-requires : tie.Need-visit-with-register-starts-requires
+visit-with-register-starts-requires c κs = start-wrote (c .before .before .before .before .before .before .before .before .before .before .before .before .before .before .before .pre) (c .before .before .before .before .before .before .before .before .write-head .ensures) (c .before .before .before .before .next .given .1)
+
+enum-known-e : tie.Need-enum-known-e
+enum-known-e c = search needs
+
+returns-2 : tie.Need-returns-2
+returns-2 c = ran-steps (head-steps _ _ (c .before .before .before .before .before .before .before .before .before .before .before .before .before .before .before .before .before .before .before .before .pre .laid .main-is) (c .before .before .before .before .before .before .before .before .before .before .before .before .before .before .before .if1 .left) (c .before .before .before .before .before .before .before .levels-to-open .ensures)) (wrote-then (c .before .before .before .before .before .before .before .before .before .before .before .before .before .write-head .ensures) (c .before .before .before .before .before .before .before .before .before .next .given .1) (c .before .before .before .before .visit-with-register-starts .ensures))
+
+same-length-2 : tie.Need-same-length-2
+same-length-2 c = ran-lengths (returns-2 c) .1
+
+same-length : tie.Need-same-length
+same-length c = ran-lengths (returns-2 c) .0
+
+same-length-3 : tie.Need-same-length-3
+same-length-3 c = c .before .before .before .before .before .write-head .ensures .plays .same
+
+returns-3 : tie.Need-returns-3
+returns-3 c = ran-steps (head-steps _ _ (c .before .before .before .before .before .before .before .before .before .before .before .before .pre .laid .main-is) (c .before .before .before .before .before .before .before .if1 .left) refl) (wrote-stops _ _ (c .before .before .before .before .before .write-head .ensures) (c .before .e .given .1))
+
+pub run-program-spec : {M : Type 1} → statement M
+run-program-spec =
+    tie.close
+    (tie.spec
+    returns
+    write-head-requires
+    enum-known-next
+    levels-to-open-requires
+    visit-with-register-starts-requires
+    enum-known-e
+    same-length
+    same-length-2
+    returns-2
+    same-length-3
+    returns-3)
