@@ -128,28 +128,44 @@ abbrev open-gate-μ-loop : open-gate-lts.MeasureT-loop
 open-gate-μ-loop image l qubit-starts bit-starts kept-values₀ g levels-left out₀ trace₀ angles qubits first n position₀ i₀ kept-values out trace position i = n - i
 
 open-gate-write-cut-gate-requires : (t : ℕ) → open-gate-lts.Need-write-cut-gate-requires (open-gate-callees t) (open-gate-at t) open-gate.Post open-gate-Inv-loop open-gate-μ-loop
-open-gate-write-cut-gate-requires t c κs = (c .before .before .before .before .before .before .before .before .before .before .pre .1 .0 .context .in-scope .laid, c .before .before .before .before .before .before .before .before .before .before .pre .1 .0 .context .in-scope .wide, c .before .before .before .before .before .before .before .before .before .before .pre .1 .1, few-arguments (c .before .before .before .before .before .before .before .before .before .before .pre .1 .0 .context .in-scope) (c .before .before .before .before .before .before .before .before .before .before .pre .1 .1), c .before .before .before .before .before .before .before .before .before .before .pre .1 .0 .context .in-output)
+open-gate-write-cut-gate-requires t c κs =
+    let pre = c .before .before .before .before .before .before .before .before .before .before .pre in
+    (pre .1 .0 .context .in-scope .laid, pre .1 .0 .context .in-scope .wide, pre .1 .1, few-arguments (pre .1 .0 .context .in-scope) (pre .1 .1), pre .1 .0 .context .in-output)
 
 open-gate-same-length : (t : ℕ) → open-gate-lts.Need-same-length (open-gate-callees t) (open-gate-at t) open-gate.Post open-gate-Inv-loop open-gate-μ-loop
 open-gate-same-length t c = c .before .before .write-cut-gate .ensures .plays .same
 
 open-gate-returns : (t : ℕ) → open-gate-lts.Need-returns (open-gate-callees t) (open-gate-at t) open-gate.Post open-gate-Inv-loop open-gate-μ-loop
-open-gate-returns t c = (wrote-ran _ (wrote-steps (cut-steps _ _ _ _ _ (c .before .before .before .before .if1 .taken)) (c .before .before .write-cut-gate .ensures)), c .before .before .before .before .before .before .before .before .before .before .before .before .before .pre .1 .0 .context .constants)
+open-gate-returns t c =
+    let pre = c .before .before .before .before .before .before .before .before .before .before .before .before .before .pre in
+    let if1 = c .before .before .before .before .if1 .taken in
+    (wrote-ran _ (wrote-steps (cut-steps _ _ _ _ _ if1) (c .before .before .write-cut-gate .ensures)), pre .1 .0 .context .constants)
 
 open-gate-add-statements-of : (t : ℕ) → open-gate-lts.Need-add-statements-of (open-gate-callees t) (open-gate-at t) open-gate.Post open-gate-Inv-loop open-gate-μ-loop
-open-gate-add-statements-of t c = record { fits = omega (arith, c .before .before .before .before .before .before .before .before .before .pre .1 .1, c .before .before .before .before .before .before .before .before .before .pre .1 .0 .context .in-scope .laid .gates-is, c .before .before .before .before .before .before .before .before .before .pre .1 .0 .context .in-scope .laid .few-gates) }
+open-gate-add-statements-of t c =
+    let pre = c .before .before .before .before .before .before .before .before .before .pre in
+    record { fits = omega (arith, pre .1 .1, pre .1 .0 .context .in-scope .laid .gates-is, pre .1 .0 .context .in-scope .laid .few-gates) }
 
 open-gate-statements-of-requires : (t : ℕ) → open-gate-lts.Need-statements-of-requires (open-gate-callees t) (open-gate-at t) open-gate.Post open-gate-Inv-loop open-gate-μ-loop
-open-gate-statements-of-requires t c κs = (c .before .before .before .before .before .before .before .before .before .pre .1 .0 .context .in-scope .laid, record { each = c .before .before .before .before .before .before .before .before .before .pre .1 .0 .context .in-scope .accepted .gateEntry }, omega (arith, c .before .before .before .before .before .before .before .before .before .pre .1 .1))
+open-gate-statements-of-requires t c κs =
+    let pre = c .before .before .before .before .before .before .before .before .before .pre in
+    (pre .1 .0 .context .in-scope .laid, record { each = pre .1 .0 .context .in-scope .accepted .gateEntry }, omega (arith, pre .1 .1))
 
 open-gate-loop-holds : (t : ℕ) → open-gate-lts.Need-loop-holds (open-gate-callees t) (open-gate-at t) open-gate.Post open-gate-Inv-loop open-gate-μ-loop
-open-gate-loop-holds t c = (looped-start _ _ (c .before .before .before .before .before .before .before .before .before .before .pre .1 .0 .context .in-output), refl, c .before .before .before .before .before .before .before .before .before .before .pre .1 .0 .context .constants, refl)
+open-gate-loop-holds t c =
+    let pre = c .before .before .before .before .before .before .before .before .before .before .pre in
+    (looped-start _ _ (pre .1 .0 .context .in-output), refl, pre .1 .0 .context .constants, refl)
 
 open-gate-add-visit-statement : (t : ℕ) → open-gate-lts.Need-add-visit-statement (open-gate-callees t) (open-gate-at t) open-gate.Post open-gate-Inv-loop open-gate-μ-loop
-open-gate-add-visit-statement t c = record { fits = omega (arith, c .before .before .before .before .before .before .before .before .before .before .before .before .before .pre .1 .1, c .before .before .before .before .before .before .before .before .before .before .before .before .before .pre .1 .0 .context .in-scope .laid .gates-is, c .before .before .before .before .before .before .before .before .before .before .before .before .before .pre .1 .0 .context .in-scope .laid .few-gates) }
+open-gate-add-visit-statement t c =
+    let pre = c .before .before .before .before .before .before .before .before .before .before .before .before .before .pre in
+    record { fits = omega (arith, pre .1 .1, pre .1 .0 .context .in-scope .laid .gates-is, pre .1 .0 .context .in-scope .laid .few-gates) }
 
 open-gate-add-visit-statement-2 : (t : ℕ) → open-gate-lts.Need-add-visit-statement-2 (open-gate-callees t) (open-gate-at t) open-gate.Post open-gate-Inv-loop open-gate-μ-loop
-open-gate-add-visit-statement-2 t c = record { fits = omega (arith, c .before .before .before .loop-test .taken, c .before .before .before .before .before .statements-of .ensures .listed, c .before .before .before .before .before .before .before .before .before .before .before .before .before .before .before .pre .1 .0 .context .in-scope .laid .all-is, c .before .before .before .before .before .before .before .before .before .before .before .before .before .before .before .pre .1 .0 .context .in-scope .laid .whole, c .before .before .before .before .before .before .before .before .before .before .before .before .before .before .before .pre .1 .0 .context .in-scope .laid .short) }
+open-gate-add-visit-statement-2 t c =
+    let pre = c .before .before .before .before .before .before .before .before .before .before .before .before .before .before .before .pre in
+    let statements-of = c .before .before .before .before .before .statements-of .ensures in
+    record { fits = omega (arith, c .before .before .before .loop-test .taken, statements-of .listed, pre .1 .0 .context .in-scope .laid .all-is, pre .1 .0 .context .in-scope .laid .whole, pre .1 .0 .context .in-scope .laid .short) }
 
 open-gate-sub-visit-statement : (t : ℕ) → open-gate-lts.Need-sub-visit-statement (open-gate-callees t) (open-gate-at t) open-gate.Post open-gate-Inv-loop open-gate-μ-loop
 open-gate-sub-visit-statement t c = omega (arith, c .before .before .before .before .before .before .if1 .left)
@@ -168,10 +184,20 @@ open-gate-enum-known-e : (t : ℕ) → open-gate-lts.Need-enum-known-e (open-gat
 open-gate-enum-known-e t c = search needs
 
 open-gate-same-length-2 : (t : ℕ) → open-gate-lts.Need-same-length-2 (open-gate-callees t) (open-gate-at t) open-gate.Post open-gate-Inv-loop open-gate-μ-loop
-open-gate-same-length-2 t c = omega (arith, c .before .before .before .before .before .before .before .before .kept-values .given, c .before .before .before .before .before .before .before .before .before .before .before .before .before .before .before .before .loop .inv .3)
+open-gate-same-length-2 t c =
+    let loop = c .before .before .before .before .before .before .before .before .before .before .before .before .before .before .before .before .loop .inv in
+    let kept-values = c .before .before .before .before .before .before .before .before .kept-values in
+    omega (arith, kept-values .given, loop .3)
 
 open-gate-returns-2 : (t : ℕ) → open-gate-lts.Need-returns-2 (open-gate-callees t) (open-gate-at t) open-gate.Post open-gate-Inv-loop open-gate-μ-loop
-open-gate-returns-2 t c = let f = statement-in-body (c .before .before .before .before .before .before .before .before .before .before .before .before .before .before .before .before .before .before .before .before .before .before .before .before .before .before .before .pre .1 .0) (c .before .before .before .before .before .before .before .before .before .before .before .before .before .before .before .before .before .before .before .before .before .before .before .before .before .before .before .pre .1 .1) (c .before .before .before .before .before .before .before .before .before .before .before .before .before .before .before .before .before .statements-of .ensures) (c .before .before .before .before .before .before .before .before .before .before .before .before .before .before .before .loop-test .taken) in let w = ran-from (c .before .before .before .before .before .before .before .before .before .before .before .before .before .before .before .before .loop .inv .1) (ran-stop _ _ (c .before .before .before .before .before .before .before .before .before .before .before .before .before .before .before .before .loop .inv .0) (c .before .before .before .before .before .before .before .before .before .before .before .before .before .before .before .loop-test .taken) (step-in-body _ _ _ _ _ _ _ (f .facts)) (c .before .before .before .before .before .before .before .before .before .visit-statement .ensures .0) (c .before .e .given .1) refl) in (ran-steps (open-steps _ _ _ _ _ _ _ (c .before .before .before .before .before .before .before .before .before .before .before .before .before .before .before .before .before .before .if1 .left) (holds-body _ _ (c .before .before .before .before .before .before .before .before .before .before .before .before .before .before .before .before .before .statements-of .ensures))) (ran-enter [] _ w), c .before .before .before .before .before .before .before .before .before .visit-statement .ensures .1)
+open-gate-returns-2 t c =
+    let pre = c .before .before .before .before .before .before .before .before .before .before .before .before .before .before .before .before .before .before .before .before .before .before .before .before .before .before .before .pre in
+    let if1 = c .before .before .before .before .before .before .before .before .before .before .before .before .before .before .before .before .before .before .if1 .left in
+    let statements-of = c .before .before .before .before .before .before .before .before .before .before .before .before .before .before .before .before .before .statements-of .ensures in
+    let loop = c .before .before .before .before .before .before .before .before .before .before .before .before .before .before .before .before .loop .inv in
+    let loop-test = c .before .before .before .before .before .before .before .before .before .before .before .before .before .before .before .loop-test .taken in
+    let visit-statement = c .before .before .before .before .before .before .before .before .before .visit-statement .ensures in
+    let f = statement-in-body (pre .1 .0) (pre .1 .1) statements-of loop-test in let w = ran-from (loop .1) (ran-stop _ _ (loop .0) loop-test (step-in-body _ _ _ _ _ _ _ (f .facts)) (visit-statement .0) (c .before .e .given .1) refl) in (ran-steps (open-steps _ _ _ _ _ _ _ if1 (holds-body _ _ statements-of)) (ran-enter [] _ w), visit-statement .1)
 
 open-gate-same-length-3 : (t : ℕ) → open-gate-lts.Need-same-length-3 (open-gate-callees t) (open-gate-at t) open-gate.Post open-gate-Inv-loop open-gate-μ-loop
 open-gate-same-length-3 t c = ran-lengths (open-gate-returns-2 t c .0) .0
@@ -180,13 +206,26 @@ open-gate-same-length-4 : (t : ℕ) → open-gate-lts.Need-same-length-4 (open-g
 open-gate-same-length-4 t c = ran-lengths (open-gate-returns-2 t c .0) .1
 
 open-gate-add-i : (t : ℕ) → open-gate-lts.Need-add-i (open-gate-callees t) (open-gate-at t) open-gate.Post open-gate-Inv-loop open-gate-μ-loop
-open-gate-add-i t c = record { fits = omega (arith, c .before .before .before .before .before .before .before .before .before .before .before .before .before .before .before .loop-test .taken, c .before .before .before .before .before .before .before .before .before .before .before .before .before .before .before .before .before .statements-of .ensures .listed, c .before .before .before .before .before .before .before .before .before .before .before .before .before .before .before .before .before .before .before .before .before .before .before .before .before .before .before .pre .1 .0 .context .in-scope .laid .all-is, c .before .before .before .before .before .before .before .before .before .before .before .before .before .before .before .before .before .before .before .before .before .before .before .before .before .before .before .pre .1 .0 .context .in-scope .laid .whole, c .before .before .before .before .before .before .before .before .before .before .before .before .before .before .before .before .before .before .before .before .before .before .before .before .before .before .before .pre .1 .0 .context .in-scope .laid .short) }
+open-gate-add-i t c =
+    let pre = c .before .before .before .before .before .before .before .before .before .before .before .before .before .before .before .before .before .before .before .before .before .before .before .before .before .before .before .pre in
+    let statements-of = c .before .before .before .before .before .before .before .before .before .before .before .before .before .before .before .before .before .statements-of .ensures in
+    let loop-test = c .before .before .before .before .before .before .before .before .before .before .before .before .before .before .before .loop-test .taken in
+    record { fits = omega (arith, loop-test, statements-of .listed, pre .1 .0 .context .in-scope .laid .all-is, pre .1 .0 .context .in-scope .laid .whole, pre .1 .0 .context .in-scope .laid .short) }
 
 open-gate-loop-less : (t : ℕ) → open-gate-lts.Need-loop-less (open-gate-callees t) (open-gate-at t) open-gate.Post open-gate-Inv-loop open-gate-μ-loop
-open-gate-loop-less t c = omega (arith, c .before .before .before .before .before .before .before .before .before .before .before .before .before .before .before .loop-test .taken)
+open-gate-loop-less t c =
+    let loop-test = c .before .before .before .before .before .before .before .before .before .before .before .before .before .before .before .loop-test .taken in
+    omega (arith, loop-test)
 
 open-gate-loop-again : (t : ℕ) → open-gate-lts.Need-loop-again (open-gate-callees t) (open-gate-at t) open-gate.Post open-gate-Inv-loop open-gate-μ-loop
-open-gate-loop-again t c = let f = statement-in-body (c .before .before .before .before .before .before .before .before .before .before .before .before .before .before .before .before .before .before .before .before .before .before .before .before .before .before .before .pre .1 .0) (c .before .before .before .before .before .before .before .before .before .before .before .before .before .before .before .before .before .before .before .before .before .before .before .before .before .before .before .pre .1 .1) (c .before .before .before .before .before .before .before .before .before .before .before .before .before .before .before .before .before .statements-of .ensures) (c .before .before .before .before .before .before .before .before .before .before .before .before .before .before .before .loop-test .taken) in let w = ran-next _ _ (c .before .before .before .before .before .before .before .before .before .before .before .before .before .before .before .before .loop .inv .0) (c .before .before .before .before .before .before .before .before .before .before .before .before .before .before .before .loop-test .taken) (step-in-body _ _ _ _ _ _ _ (f .facts)) (c .before .before .before .before .before .before .before .before .before .visit-statement .ensures .0) (c .before .next .given .1) in (w .0, w .1 ∙ c .before .before .before .before .before .before .before .before .before .before .before .before .before .before .before .before .loop .inv .1, c .before .before .before .before .before .before .before .before .before .visit-statement .ensures .1, omega (arith, c .before .before .before .before .before .before .before .before .kept-values .given, c .before .before .before .before .before .before .before .before .before .before .before .before .before .before .before .before .loop .inv .3))
+open-gate-loop-again t c =
+    let pre = c .before .before .before .before .before .before .before .before .before .before .before .before .before .before .before .before .before .before .before .before .before .before .before .before .before .before .before .pre in
+    let statements-of = c .before .before .before .before .before .before .before .before .before .before .before .before .before .before .before .before .before .statements-of .ensures in
+    let loop = c .before .before .before .before .before .before .before .before .before .before .before .before .before .before .before .before .loop .inv in
+    let loop-test = c .before .before .before .before .before .before .before .before .before .before .before .before .before .before .before .loop-test .taken in
+    let visit-statement = c .before .before .before .before .before .before .before .before .before .visit-statement .ensures in
+    let kept-values = c .before .before .before .before .before .before .before .before .kept-values in
+    let f = statement-in-body (pre .1 .0) (pre .1 .1) statements-of loop-test in let w = ran-next _ _ (loop .0) loop-test (step-in-body _ _ _ _ _ _ _ (f .facts)) (visit-statement .0) (c .before .next .given .1) in (w .0, w .1 ∙ loop .1, visit-statement .1, omega (arith, kept-values .given, loop .3))
 
 open-gate-same-length-5 : (t : ℕ) → open-gate-lts.Need-same-length-5 (open-gate-callees t) (open-gate-at t) open-gate.Post open-gate-Inv-loop open-gate-μ-loop
 open-gate-same-length-5 t c = c .before .loop .inv .3
@@ -201,13 +240,19 @@ open-gate-returns-3 : (t : ℕ) → open-gate-lts.Need-returns-3 (open-gate-call
 open-gate-returns-3 t c = (ran-steps (open-steps _ _ _ _ _ _ _ (c .before .before .before .if1 .left) (holds-body _ _ (c .before .before .statements-of .ensures))) (ran-enter [] _ (ran-still (c .before .loop .inv .1) (ran-done _ _ (c .before .loop .inv .0) (c .loop-test .left) refl))), c .before .loop .inv .2)
 
 visit-gate-call-at-requires : (t : ℕ) → visit-gate-lts.Need-call-at-requires (visit-gate-callees t) (visit-gate-at t) visit-gate.Post
-visit-gate-call-at-requires t c κs = let k = known-gate (c .before .before .before .before .before .before .pre .1 .0 .context .in-scope) _ (c .before .before .before .before .before .before .pre .1 .2) (c .before .before .before .before .before .before .pre .1 .1) in (c .before .before .before .before .before .before .pre .1 .0 .context .in-scope .laid, c .before .before .before .before .before .before .pre .1 .1 .listed, k .0, k .1)
+visit-gate-call-at-requires t c κs =
+    let pre = c .before .before .before .before .before .before .pre in
+    let k = known-gate (pre .1 .0 .context .in-scope) _ (pre .1 .2) (pre .1 .1) in (pre .1 .0 .context .in-scope .laid, pre .1 .1 .listed, k .0, k .1)
 
 visit-gate-slice-aggregate-parameters : (t : ℕ) → visit-gate-lts.Need-slice-aggregate-parameters (visit-gate-callees t) (visit-gate-at t) visit-gate.Post
 visit-gate-slice-aggregate-parameters t c = search needs
 
 visit-gate-parameters-requires : (t : ℕ) → visit-gate-lts.Need-parameters-requires (visit-gate-callees t) (visit-gate-at t) visit-gate.Post
-visit-gate-parameters-requires t c κs = (c .before .before .before .before .before .before .before .before .before .pre .1 .0 .context .in-scope .laid, c .before .before .before .before .before .before .before .before .before .pre .1 .0 .context .sound-angles, named _ _ (anglesIn (now (c .before .before .before .before .before .before .before .before .before .args .angles))) (named-listed (c .before .before .before .before .before .before .before .before .before .pre .1 .0 .context .in-scope) _ (c .before .before .before .before .before .before .before .before .before .pre .1 .2) (c .before .before .before .before .before .before .before .before .before .pre .1 .1) (c .before .before .call-at .ensures)), c .before .before .before .before .before .before .before .before .before .pre .1 .0 .context .constants, zeros-sound 96, omega (arith, calls (c .before .before .before .before .before .before .before .before .before .pre .1 .0 .context .in-scope) _ (c .before .before .before .before .before .before .before .before .before .pre .1 .2) (c .before .before .before .before .before .before .before .before .before .pre .1 .1) (c .before .before .call-at .ensures) .few-parameters))
+visit-gate-parameters-requires t c κs =
+    let pre = c .before .before .before .before .before .before .before .before .before .pre in
+    let args = c .before .before .before .before .before .before .before .before .before .args in
+    let call-at = c .before .before .call-at .ensures in
+    (pre .1 .0 .context .in-scope .laid, pre .1 .0 .context .sound-angles, named _ _ (anglesIn (now (args .angles))) (named-listed (pre .1 .0 .context .in-scope) _ (pre .1 .2) (pre .1 .1) call-at), pre .1 .0 .context .constants, zeros-sound 96, omega (arith, calls (pre .1 .0 .context .in-scope) _ (pre .1 .2) (pre .1 .1) call-at .few-parameters))
 
 visit-gate-enum-known-position : (t : ℕ) → visit-gate-lts.Need-enum-known-position (visit-gate-callees t) (visit-gate-at t) visit-gate.Post
 visit-gate-enum-known-position t c = search needs
@@ -223,7 +268,10 @@ visit-gate-enum-known-e : (t : ℕ) → visit-gate-lts.Need-enum-known-e (visit-
 visit-gate-enum-known-e t c = search needs
 
 visit-gate-same-length : (t : ℕ) → visit-gate-lts.Need-same-length (visit-gate-callees t) (visit-gate-at t) visit-gate.Post
-visit-gate-same-length t c = omega (arith, c .before .before .before .before .before .kept-values2 .given, c .before .before .before .before .before .before .before .before .before .before .before .before .before .before .before .kept-values .given)
+visit-gate-same-length t c =
+    let kept-values = c .before .before .before .before .before .before .before .before .before .before .before .before .before .before .before .kept-values in
+    let kept-values2 = c .before .before .before .before .before .kept-values2 in
+    omega (arith, kept-values2 .given, kept-values .given)
 
 visit-gate-same-length-2 : (t : ℕ) → visit-gate-lts.Need-same-length-2 (visit-gate-callees t) (visit-gate-at t) visit-gate.Post
 visit-gate-same-length-2 t c = ran-lengths (c .before .before .before .before .before .before .visit-rounds .ensures .0) .0
@@ -232,13 +280,25 @@ visit-gate-same-length-3 : (t : ℕ) → visit-gate-lts.Need-same-length-3 (visi
 visit-gate-same-length-3 t c = ran-lengths (c .before .before .before .before .before .before .visit-rounds .ensures .0) .1
 
 visit-gate-returns : (t : ℕ) → visit-gate-lts.Need-returns (visit-gate-callees t) (visit-gate-at t) visit-gate.Post
-visit-gate-returns t c = let g = rw (c .before .before .before .before .before .before .before .before .before .before .before .position .given .1) at (c .before .before .before .before .before .before .before .before .before .before .before .before .before .before .before .before .parameters .ensures .0 .ends) in (rw (gate-given (c .before .before .before .before .before .before .before .before .before .before .before .before .before .before .before .before .before .before .before .before .before .before .before .before .before .before .pre .1 .0 .context .in-scope) _ (c .before .before .before .before .before .before .before .before .before .before .before .before .before .before .before .before .before .before .before .before .before .before .before .before .before .before .pre .1 .2) (c .before .before .before .before .before .before .before .before .before .before .before .before .before .before .before .before .before .before .before .call-at .ensures) _ _ (named-listed (c .before .before .before .before .before .before .before .before .before .before .before .before .before .before .before .before .before .before .before .before .before .before .before .before .before .before .pre .1 .0 .context .in-scope) _ (c .before .before .before .before .before .before .before .before .before .before .before .before .before .before .before .before .before .before .before .before .before .before .before .before .before .before .pre .1 .2) (c .before .before .before .before .before .before .before .before .before .before .before .before .before .before .before .before .before .before .before .before .before .before .before .before .before .before .pre .1 .1) (c .before .before .before .before .before .before .before .before .before .before .before .before .before .before .before .before .before .before .before .call-at .ensures)) (g .1)) (ran-steps (call-frame _ _ _ (anglesIn (now (c .before .before .before .before .before .before .before .before .before .before .before .before .before .before .before .before .before .before .before .before .before .before .before .before .before .before .args .angles))) _ (c .before .before .before .before .before .before .before .before .before .before .before .before .before .before .before .before .before .before .before .call-at .result) _) (rw (g .0) at (c .before .before .before .before .before .before .visit-rounds .ensures .0))), c .before .before .before .before .before .before .visit-rounds .ensures .1)
+visit-gate-returns t c =
+    let pre = c .before .before .before .before .before .before .before .before .before .before .before .before .before .before .before .before .before .before .before .before .before .before .before .before .before .before .pre in
+    let args = c .before .before .before .before .before .before .before .before .before .before .before .before .before .before .before .before .before .before .before .before .before .before .before .before .before .before .args in
+    let call-at = c .before .before .before .before .before .before .before .before .before .before .before .before .before .before .before .before .before .before .before .call-at .ensures in
+    let call-at-2 = c .before .before .before .before .before .before .before .before .before .before .before .before .before .before .before .before .before .before .before .call-at in
+    let parameters = c .before .before .before .before .before .before .before .before .before .before .before .before .before .before .before .before .parameters .ensures in
+    let position = c .before .before .before .before .before .before .before .before .before .before .before .position in
+    let visit-rounds = c .before .before .before .before .before .before .visit-rounds .ensures in
+    let g = rw (position .given .1) at (parameters .0 .ends) in (rw (gate-given (pre .1 .0 .context .in-scope) _ (pre .1 .2) call-at _ _ (named-listed (pre .1 .0 .context .in-scope) _ (pre .1 .2) (pre .1 .1) call-at) (g .1)) (ran-steps (call-frame _ _ _ (anglesIn (now (args .angles))) _ (call-at-2 .result) _) (rw (g .0) at (visit-rounds .0))), visit-rounds .1)
 
 visit-gate-same-length-4 : (t : ℕ) → visit-gate-lts.Need-same-length-4 (visit-gate-callees t) (visit-gate-at t) visit-gate.Post
 visit-gate-same-length-4 t c = omega (arith, c .before .before .before .before .before .kept-values .given)
 
 visit-gate-returns-2 : (t : ℕ) → visit-gate-lts.Need-returns-2 (visit-gate-callees t) (visit-gate-at t) visit-gate.Post
-visit-gate-returns-2 t c = let g = rw (c .before .e .given .1) at (c .before .before .before .before .before .before .parameters .ensures .0 .ends) in (wrote-ran _ (rw (gate-refused (c .before .before .before .before .before .before .before .before .before .before .before .before .before .before .before .before .pre .1 .0 .context .in-scope) _ (c .before .before .before .before .before .before .before .before .before .before .before .before .before .before .before .before .pre .1 .2) (c .before .before .before .before .before .before .before .before .before .call-at .ensures) _ _ (named-listed (c .before .before .before .before .before .before .before .before .before .before .before .before .before .before .before .before .pre .1 .0 .context .in-scope) _ (c .before .before .before .before .before .before .before .before .before .before .before .before .before .before .before .before .pre .1 .2) (c .before .before .before .before .before .before .before .before .before .before .before .before .before .before .before .before .pre .1 .1) (c .before .before .before .before .before .before .before .before .before .call-at .ensures)) (g .1 .1)) (refuses _ _ (g .0) (g .1 .2) (c .before .before .before .before .before .before .before .before .before .before .before .before .before .before .before .before .pre .1 .0 .context .in-output))), c .before .before .before .before .before .before .parameters .ensures .1)
+visit-gate-returns-2 t c =
+    let pre = c .before .before .before .before .before .before .before .before .before .before .before .before .before .before .before .before .pre in
+    let call-at = c .before .before .before .before .before .before .before .before .before .call-at .ensures in
+    let parameters = c .before .before .before .before .before .before .parameters .ensures in
+    let g = rw (c .before .e .given .1) at (parameters .0 .ends) in (wrote-ran _ (rw (gate-refused (pre .1 .0 .context .in-scope) _ (pre .1 .2) call-at _ _ (named-listed (pre .1 .0 .context .in-scope) _ (pre .1 .2) (pre .1 .1) call-at) (g .1 .1)) (refuses _ _ (g .0) (g .1 .2) (pre .1 .0 .context .in-output))), parameters .1)
 
 abbrev visit-rounds-Inv-loop : visit-rounds-lts.InvT-loop
 visit-rounds-Inv-loop image l qubit-starts bit-starts kept-values₀ scope qubits call levels-left out₀ trace₀ at angles n position₀ i₀ kept-values out trace position i = Looped (visitGate image (opening image levels-left) (scopeFrame image scope [] qubits) (call .statement) (call .gate) (range (call .argument) (call .arguments)) (take (call .parameters) (anglesIn angles))) n out₀ position₀ i out position × (trace ≡ trace₀) × ConstantsKept image kept-values × (length kept-values ≡ length kept-values₀)
@@ -250,31 +310,51 @@ visit-rounds-values-in-requires : (t : ℕ) → visit-rounds-lts.Need-values-in-
 visit-rounds-values-in-requires t c κs = tt
 
 visit-rounds-visit-opaque-requires : (t : ℕ) → visit-rounds-lts.Need-visit-opaque-requires (visit-rounds-callees t) (visit-rounds-at t) visit-rounds.Post visit-rounds-Inv-loop visit-rounds-μ-loop
-visit-rounds-visit-opaque-requires t c κs = (c .before .before .before .before .before .before .before .before .before .before .before .pre .1 .0 .context .in-scope, subst SoundAngles (sym (c .before .values-in .ensures)) (c .before .before .before .before .before .before .before .before .before .before .before .pre .1 .0 .context .sound-angles), c .before .before .before .before .before .before .before .before .before .before .before .pre .1 .1 .few-parameters, c .before .before .before .before .before .before .before .before .before .before .before .pre .1 .1 .arguments-fit, c .before .before .before .before .before .before .before .before .before .before .before .pre .1 .0 .context .in-output)
+visit-rounds-visit-opaque-requires t c κs =
+    let pre = c .before .before .before .before .before .before .before .before .before .before .before .pre in
+    (pre .1 .0 .context .in-scope, subst SoundAngles (sym (c .before .values-in .ensures)) (pre .1 .0 .context .sound-angles), pre .1 .1 .few-parameters, pre .1 .1 .arguments-fit, pre .1 .0 .context .in-output)
 
 visit-rounds-same-length : (t : ℕ) → visit-rounds-lts.Need-same-length (visit-rounds-callees t) (visit-rounds-at t) visit-rounds.Post visit-rounds-Inv-loop visit-rounds-μ-loop
 visit-rounds-same-length t c = c .before .before .visit-opaque .ensures .plays .same
 
 visit-rounds-returns : (t : ℕ) → visit-rounds-lts.Need-returns (visit-rounds-callees t) (visit-rounds-at t) visit-rounds.Post visit-rounds-Inv-loop visit-rounds-μ-loop
-visit-rounds-returns t c = (wrote-ran _ (wrote-steps (opaque-rounds (c .before .before .before .before .before .before .before .before .before .before .before .before .before .before .pre .1 .0 .context .in-scope) (c .before .before .before .before .before .before .before .before .before .before .before .before .before .before .pre .1 .1) _ [] _ (c .before .before .before .before .before .before .if1 .taken)) (rw (c .before .before .before .before .values-in .ensures) at (c .before .before .visit-opaque .ensures))), c .before .before .before .before .before .before .before .before .before .before .before .before .before .before .pre .1 .0 .context .constants)
+visit-rounds-returns t c =
+    let pre = c .before .before .before .before .before .before .before .before .before .before .before .before .before .before .pre in
+    let if1 = c .before .before .before .before .before .before .if1 .taken in
+    let values-in = c .before .before .before .before .values-in .ensures in
+    (wrote-ran _ (wrote-steps (opaque-rounds (pre .1 .0 .context .in-scope) (pre .1 .1) _ [] _ if1) (rw values-in at (c .before .before .visit-opaque .ensures))), pre .1 .0 .context .constants)
 
 visit-rounds-rounds-of-requires : (t : ℕ) → visit-rounds-lts.Need-rounds-of-requires (visit-rounds-callees t) (visit-rounds-at t) visit-rounds.Post visit-rounds-Inv-loop visit-rounds-μ-loop
-visit-rounds-rounds-of-requires t c κs = (c .before .before .before .before .before .before .before .before .pre .1 .0 .context .in-scope .laid, omega (arith, c .before .before .before .before .before .before .before .before .pre .1 .1 .arguments-fit .listed, c .before .before .before .before .before .before .before .before .pre .1 .0 .context .in-scope .laid .arguments-is, c .before .before .before .before .before .before .before .before .pre .1 .0 .context .in-scope .laid .whole, c .before .before .before .before .before .before .before .before .pre .1 .0 .context .in-scope .laid .short))
+visit-rounds-rounds-of-requires t c κs =
+    let pre = c .before .before .before .before .before .before .before .before .pre in
+    (pre .1 .0 .context .in-scope .laid, omega (arith, pre .1 .1 .arguments-fit .listed, pre .1 .0 .context .in-scope .laid .arguments-is, pre .1 .0 .context .in-scope .laid .whole, pre .1 .0 .context .in-scope .laid .short))
 
 visit-rounds-loop-holds : (t : ℕ) → visit-rounds-lts.Need-loop-holds (visit-rounds-callees t) (visit-rounds-at t) visit-rounds.Post visit-rounds-Inv-loop visit-rounds-μ-loop
-visit-rounds-loop-holds t c = (looped-start _ _ (c .before .before .before .before .before .before .before .before .before .pre .1 .0 .context .in-output), refl, c .before .before .before .before .before .before .before .before .before .pre .1 .0 .context .constants, refl)
+visit-rounds-loop-holds t c =
+    let pre = c .before .before .before .before .before .before .before .before .before .pre in
+    (looped-start _ _ (pre .1 .0 .context .in-output), refl, pre .1 .0 .context .constants, refl)
 
 visit-rounds-qubits-in-requires : (t : ℕ) → visit-rounds-lts.Need-qubits-in-requires (visit-rounds-callees t) (visit-rounds-at t) visit-rounds.Post visit-rounds-Inv-loop visit-rounds-μ-loop
-visit-rounds-qubits-in-requires t c κs = (c .before .before .before .before .before .before .before .before .before .before .before .pre .1 .0 .context .in-scope, c .before .before .before .before .before .before .before .before .before .before .before .pre .1 .1 .arguments-fit, subst (λ (m : ℕ). c .before .loop .i < m) (c .before .before .rounds-of .ensures) (c .loop-test .taken))
+visit-rounds-qubits-in-requires t c κs =
+    let pre = c .before .before .before .before .before .before .before .before .before .before .before .pre in
+    (pre .1 .0 .context .in-scope, pre .1 .1 .arguments-fit, subst (λ (m : ℕ). c .before .loop .i < m) (c .before .before .rounds-of .ensures) (c .loop-test .taken))
 
 visit-rounds-add-with-trace-words : (t : ℕ) → visit-rounds-lts.Need-add-with-trace-words (visit-rounds-callees t) (visit-rounds-at t) visit-rounds.Post visit-rounds-Inv-loop visit-rounds-μ-loop
-visit-rounds-add-with-trace-words t c = record { fits = omega (arith, c .before .before .before .before .before .before .before .before .before .before .before .before .before .before .before .before .pre .1 .0 .trace-room) }
+visit-rounds-add-with-trace-words t c =
+    let pre = c .before .before .before .before .before .before .before .before .before .before .before .before .before .before .before .before .pre in
+    record { fits = omega (arith, pre .1 .0 .trace-room) }
 
 visit-rounds-with-trace-words-requires : (t : ℕ) → visit-rounds-lts.Need-with-trace-words-requires (visit-rounds-callees t) (visit-rounds-at t) visit-rounds.Post visit-rounds-Inv-loop visit-rounds-μ-loop
 visit-rounds-with-trace-words-requires t c κs = tt
 
 visit-rounds-open-gate-requires : (t : ℕ) → visit-rounds-lts.Need-open-gate-requires (visit-rounds-callees t) (visit-rounds-at t) visit-rounds.Post visit-rounds-Inv-loop visit-rounds-μ-loop
-visit-rounds-open-gate-requires t c κs = (omega (arith, c .before .before .before .before .before .before .before .before .before .before .before .before .before .before .before .before .before .pre .0, c .before .before .before .before .before .before .before .before .before .before .before .before .before .before .before .before .before .pre .1 .1 .downward), (context-opened (c .before .before .before .before .before .before .before .before .before .before .before .before .before .before .before .before .before .pre .1 .0) (c .before .before .before .before .before .before .before .before .before .before .before .before .before .before .before .before .before .pre .1 .1) (c .before .before .before .before .before .before .before .before .before .before .before .before .before .before .before .before .before .pre .1 .0 .context .sound-angles) (c .before .before .before .before .before .qubits-in .ensures) (c .before .before .before .before .before .before .before .before .rounds-of .ensures) (c .before .before .before .before .before .before .loop-test .taken) (c .before .before .before .before .before .before .before .loop .inv .0) (c .before .before .before .before .before .before .before .loop .inv .1) (c .with-trace-words .ensures) (c .before .before .before .before .before .before .before .loop .inv .2), c .before .before .before .before .before .before .before .before .before .before .before .before .before .before .before .before .before .pre .1 .1 .gate-listed))
+visit-rounds-open-gate-requires t c κs =
+    let pre = c .before .before .before .before .before .before .before .before .before .before .before .before .before .before .before .before .before .pre in
+    let rounds-of = c .before .before .before .before .before .before .before .before .rounds-of .ensures in
+    let loop = c .before .before .before .before .before .before .before .loop .inv in
+    let loop-test = c .before .before .before .before .before .before .loop-test .taken in
+    let qubits-in = c .before .before .before .before .before .qubits-in .ensures in
+    (omega (arith, pre .0, pre .1 .1 .downward), (context-opened (pre .1 .0) (pre .1 .1) (pre .1 .0 .context .sound-angles) qubits-in rounds-of loop-test (loop .0) (loop .1) (c .with-trace-words .ensures) (loop .2), pre .1 .1 .gate-listed))
 
 visit-rounds-enum-known-next : (t : ℕ) → visit-rounds-lts.Need-enum-known-next (visit-rounds-callees t) (visit-rounds-at t) visit-rounds.Post visit-rounds-Inv-loop visit-rounds-μ-loop
 visit-rounds-enum-known-next t c = search needs
@@ -292,13 +372,31 @@ visit-rounds-statement-at-requires t c κs =
     (laid, omega (arith, pre .1 .1 .listed, laid .all-is, laid .whole, laid .short))
 
 visit-rounds-write-trace-pair-requires : (t : ℕ) → visit-rounds-lts.Need-write-trace-pair-requires (visit-rounds-callees t) (visit-rounds-at t) visit-rounds.Post visit-rounds-Inv-loop visit-rounds-μ-loop
-visit-rounds-write-trace-pair-requires t c κs = omega (arith, ran-lengths (c .before .before .before .before .before .before .before .before .before .before .before .open-gate .ensures .0) .1, ap length (c .before .before .before .before .before .before .before .before .before .before .before .before .before .before .before .before .before .before .before .loop .inv .1), c .before .before .before .before .before .before .before .before .before .before .before .before .before .before .before .before .before .before .before .before .before .before .before .before .before .before .before .before .before .pre .1 .0 .trace-length, c .before .before .before .before .before .before .before .before .before .before .before .before .before .before .before .before .before .before .before .before .before .before .before .before .before .before .before .before .before .pre .1 .0 .trace-room, c .before .before .before .before .before .before .before .before .before .before .before .before .before .before .before .before .before .before .before .before .before .before .before .before .before .before .before .before .before .pre .1 .1 .downward)
+visit-rounds-write-trace-pair-requires t c κs =
+    let pre = c .before .before .before .before .before .before .before .before .before .before .before .before .before .before .before .before .before .before .before .before .before .before .before .before .before .before .before .before .before .pre in
+    let loop = c .before .before .before .before .before .before .before .before .before .before .before .before .before .before .before .before .before .before .before .loop .inv in
+    let open-gate = c .before .before .before .before .before .before .before .before .before .before .before .open-gate .ensures in
+    omega (arith, ran-lengths (open-gate .0) .1, ap length (loop .1), pre .1 .0 .trace-length, pre .1 .0 .trace-room, pre .1 .1 .downward)
 
 visit-rounds-same-length-2 : (t : ℕ) → visit-rounds-lts.Need-same-length-2 (visit-rounds-callees t) (visit-rounds-at t) visit-rounds.Post visit-rounds-Inv-loop visit-rounds-μ-loop
-visit-rounds-same-length-2 t c = omega (arith, c .before .before .before .before .before .before .before .before .before .before .before .before .before .kept-values .given, c .before .before .before .before .before .before .before .before .before .before .before .before .before .before .before .before .before .before .before .before .before .before .loop .inv .3)
+visit-rounds-same-length-2 t c =
+    let loop = c .before .before .before .before .before .before .before .before .before .before .before .before .before .before .before .before .before .before .before .before .before .before .loop .inv in
+    let kept-values = c .before .before .before .before .before .before .before .before .before .before .before .before .before .kept-values in
+    omega (arith, kept-values .given, loop .3)
 
 visit-rounds-returns-2 : (t : ℕ) → visit-rounds-lts.Need-returns-2 (visit-rounds-callees t) (visit-rounds-at t) visit-rounds.Post visit-rounds-Inv-loop visit-rounds-μ-loop
-visit-rounds-returns-2 t c = (ran-from (c .before .before .before .before .before .before .before .before .before .before .before .before .before .before .before .before .before .before .before .before .before .before .loop .inv .1) (ran-stop _ _ (c .before .before .before .before .before .before .before .before .before .before .before .before .before .before .before .before .before .before .before .before .before .before .loop .inv .0) (c .before .before .before .before .before .before .before .before .before .before .before .before .before .before .before .before .before .before .before .before .before .loop-test .taken) (body-round (c .before .before .before .before .before .before .before .before .before .before .before .before .before .before .before .before .before .before .before .before .before .before .before .before .before .before .before .before .before .before .before .before .pre .1 .0 .context .in-scope) (c .before .before .before .before .before .before .before .before .before .before .before .before .before .before .before .before .before .before .before .before .before .before .before .before .before .before .before .before .before .before .before .before .pre .1 .1) (c .before .before .before .before .before .before .before .before .before .before .before .before .before .before .before .before .before .before .before .before .qubits-in .ensures) _ [] _ (c .before .before .before .before .before .before .before .before .before .before .before .before .before .before .before .before .before .before .before .before .before .before .before .before .if1 .left)) (ran-refused (c .before .before .before .before .before .before .before .before .before .before .before .before .before .before .open-gate .ensures .0) (c .before .before .before .before .before .before .before .before .before .before .before .before .before .before .before .with-trace-words .ensures) (sym (c .before .before .before .before .before .before .before .before .before .before .before .before .before .before .before .before .before .before .before .before .before .before .loop .inv .0 .level)) _ _ (c .before .before .before .before .before .before .e .given .1) (c .before .before .before .before .statement-at .ensures) (c .before .before .write-trace-pair .ensures)) refl (c .before .before .before .before .before .before .before .before .before .before .before .before .before .before .before .before .before .before .before .before .before .before .before .rounds-of .ensures)), c .before .before .before .before .before .before .before .before .before .before .before .before .before .before .open-gate .ensures .1)
+visit-rounds-returns-2 t c =
+    let pre = c .before .before .before .before .before .before .before .before .before .before .before .before .before .before .before .before .before .before .before .before .before .before .before .before .before .before .before .before .before .before .before .before .pre in
+    let if1 = c .before .before .before .before .before .before .before .before .before .before .before .before .before .before .before .before .before .before .before .before .before .before .before .before .if1 .left in
+    let rounds-of = c .before .before .before .before .before .before .before .before .before .before .before .before .before .before .before .before .before .before .before .before .before .before .before .rounds-of .ensures in
+    let loop = c .before .before .before .before .before .before .before .before .before .before .before .before .before .before .before .before .before .before .before .before .before .before .loop .inv in
+    let loop-test = c .before .before .before .before .before .before .before .before .before .before .before .before .before .before .before .before .before .before .before .before .before .loop-test .taken in
+    let qubits-in = c .before .before .before .before .before .before .before .before .before .before .before .before .before .before .before .before .before .before .before .before .qubits-in .ensures in
+    let with-trace-words = c .before .before .before .before .before .before .before .before .before .before .before .before .before .before .before .with-trace-words .ensures in
+    let open-gate = c .before .before .before .before .before .before .before .before .before .before .before .before .before .before .open-gate .ensures in
+    let e = c .before .before .before .before .before .before .e in
+    let statement-at = c .before .before .before .before .statement-at .ensures in
+    (ran-from (loop .1) (ran-stop _ _ (loop .0) loop-test (body-round (pre .1 .0 .context .in-scope) (pre .1 .1) qubits-in _ [] _ if1) (ran-refused (open-gate .0) with-trace-words (sym (loop .0 .level)) _ _ (e .given .1) statement-at (c .before .before .write-trace-pair .ensures)) refl rounds-of), open-gate .1)
 
 visit-rounds-same-length-3 : (t : ℕ) → visit-rounds-lts.Need-same-length-3 (visit-rounds-callees t) (visit-rounds-at t) visit-rounds.Post visit-rounds-Inv-loop visit-rounds-μ-loop
 visit-rounds-same-length-3 t c = ran-lengths (visit-rounds-returns-2 t c .0) .0
@@ -307,13 +405,29 @@ visit-rounds-same-length-4 : (t : ℕ) → visit-rounds-lts.Need-same-length-4 (
 visit-rounds-same-length-4 t c = ran-lengths (visit-rounds-returns-2 t c .0) .1
 
 visit-rounds-add-i : (t : ℕ) → visit-rounds-lts.Need-add-i (visit-rounds-callees t) (visit-rounds-at t) visit-rounds.Post visit-rounds-Inv-loop visit-rounds-μ-loop
-visit-rounds-add-i t c = record { fits = omega (arith, c .before .before .before .before .before .before .before .before .before .before .before .before .before .before .before .before .before .loop-test .taken, c .before .before .before .before .before .before .before .before .before .before .before .before .before .before .before .before .before .before .before .rounds-of .ensures, call-rounds-few (c .before .before .before .before .before .before .before .before .before .before .before .before .before .before .before .before .before .before .before .before .before .before .before .before .before .before .before .before .pre .1 .0 .context .in-scope) (c .before .before .before .before .before .before .before .before .before .before .before .before .before .before .before .before .before .before .before .before .before .before .before .before .before .before .before .before .pre .1 .1 .arguments-fit)) }
+visit-rounds-add-i t c =
+    let pre = c .before .before .before .before .before .before .before .before .before .before .before .before .before .before .before .before .before .before .before .before .before .before .before .before .before .before .before .before .pre in
+    let rounds-of = c .before .before .before .before .before .before .before .before .before .before .before .before .before .before .before .before .before .before .before .rounds-of .ensures in
+    let loop-test = c .before .before .before .before .before .before .before .before .before .before .before .before .before .before .before .before .before .loop-test .taken in
+    record { fits = omega (arith, loop-test, rounds-of, call-rounds-few (pre .1 .0 .context .in-scope) (pre .1 .1 .arguments-fit)) }
 
 visit-rounds-loop-less : (t : ℕ) → visit-rounds-lts.Need-loop-less (visit-rounds-callees t) (visit-rounds-at t) visit-rounds.Post visit-rounds-Inv-loop visit-rounds-μ-loop
-visit-rounds-loop-less t c = omega (arith, c .before .before .before .before .before .before .before .before .before .before .before .before .before .before .before .before .before .loop-test .taken)
+visit-rounds-loop-less t c =
+    let loop-test = c .before .before .before .before .before .before .before .before .before .before .before .before .before .before .before .before .before .loop-test .taken in
+    omega (arith, loop-test)
 
 visit-rounds-loop-again : (t : ℕ) → visit-rounds-lts.Need-loop-again (visit-rounds-callees t) (visit-rounds-at t) visit-rounds.Post visit-rounds-Inv-loop visit-rounds-μ-loop
-visit-rounds-loop-again t c = let w = ran-returned (c .before .before .before .before .before .before .before .before .before .before .open-gate .ensures .0) (c .before .before .before .before .before .before .before .before .before .before .before .with-trace-words .ensures) (sym (c .before .before .before .before .before .before .before .before .before .before .before .before .before .before .before .before .before .before .loop .inv .0 .level)) (c .before .before .before .before .before .before .before .before .before .before .before .before .before .before .before .before .before .before .before .before .before .before .before .before .before .before .before .before .args .scope ∷ statementAt (now (c .before .before .before .before .before .before .before .before .before .before .before .before .before .before .before .before .before .before .before .before .before .before .before .before .before .before .before .before .args .image)) (c .before .before .before .before .before .before .before .before .before .before .before .before .before .before .before .before .before .before .before .before .before .before .before .before .before .before .before .before .args .call .statement) ∷ []) (c .before .before .next .given .1) (c .with-trace-words2 .ensures) in (looped-next _ _ (c .before .before .before .before .before .before .before .before .before .before .before .before .before .before .before .before .before .before .loop .inv .0) (c .before .before .before .before .before .before .before .before .before .before .before .before .before .before .before .before .before .loop-test .taken) (body-round (c .before .before .before .before .before .before .before .before .before .before .before .before .before .before .before .before .before .before .before .before .before .before .before .before .before .before .before .before .pre .1 .0 .context .in-scope) (c .before .before .before .before .before .before .before .before .before .before .before .before .before .before .before .before .before .before .before .before .before .before .before .before .before .before .before .before .pre .1 .1) (c .before .before .before .before .before .before .before .before .before .before .before .before .before .before .before .before .qubits-in .ensures) _ [] _ (c .before .before .before .before .before .before .before .before .before .before .before .before .before .before .before .before .before .before .before .before .if1 .left)) refl (w .0), w .1 ∙ c .before .before .before .before .before .before .before .before .before .before .before .before .before .before .before .before .before .before .loop .inv .1, c .before .before .before .before .before .before .before .before .before .before .open-gate .ensures .1, omega (arith, c .before .before .before .before .before .before .before .before .before .kept-values .given, c .before .before .before .before .before .before .before .before .before .before .before .before .before .before .before .before .before .before .loop .inv .3))
+visit-rounds-loop-again t c =
+    let args = c .before .before .before .before .before .before .before .before .before .before .before .before .before .before .before .before .before .before .before .before .before .before .before .before .before .before .before .before .args in
+    let pre = c .before .before .before .before .before .before .before .before .before .before .before .before .before .before .before .before .before .before .before .before .before .before .before .before .before .before .before .before .pre in
+    let if1 = c .before .before .before .before .before .before .before .before .before .before .before .before .before .before .before .before .before .before .before .before .if1 .left in
+    let loop = c .before .before .before .before .before .before .before .before .before .before .before .before .before .before .before .before .before .before .loop .inv in
+    let loop-test = c .before .before .before .before .before .before .before .before .before .before .before .before .before .before .before .before .before .loop-test .taken in
+    let qubits-in = c .before .before .before .before .before .before .before .before .before .before .before .before .before .before .before .before .qubits-in .ensures in
+    let with-trace-words = c .before .before .before .before .before .before .before .before .before .before .before .with-trace-words .ensures in
+    let open-gate = c .before .before .before .before .before .before .before .before .before .before .open-gate .ensures in
+    let kept-values = c .before .before .before .before .before .before .before .before .before .kept-values in
+    let w = ran-returned (open-gate .0) with-trace-words (sym (loop .0 .level)) (args .scope ∷ statementAt (now (args .image)) (args .call .statement) ∷ []) (c .before .before .next .given .1) (c .with-trace-words2 .ensures) in (looped-next _ _ (loop .0) loop-test (body-round (pre .1 .0 .context .in-scope) (pre .1 .1) qubits-in _ [] _ if1) refl (w .0), w .1 ∙ loop .1, open-gate .1, omega (arith, kept-values .given, loop .3))
 
 visit-rounds-same-length-5 : (t : ℕ) → visit-rounds-lts.Need-same-length-5 (visit-rounds-callees t) (visit-rounds-at t) visit-rounds.Post visit-rounds-Inv-loop visit-rounds-μ-loop
 visit-rounds-same-length-5 t c = c .before .loop .inv .3
@@ -328,7 +442,9 @@ visit-rounds-returns-3 : (t : ℕ) → visit-rounds-lts.Need-returns-3 (visit-ro
 visit-rounds-returns-3 t c = (ran-still (c .before .loop .inv .1) (ran-done _ _ (c .before .loop .inv .0) (c .loop-test .left) (c .before .before .rounds-of .ensures)), c .before .loop .inv .2)
 
 visit-statement-statement-at-requires : (t : ℕ) → visit-statement-lts.Need-statement-at-requires (visit-statement-callees t) (visit-statement-at t) visit-statement.Post
-visit-statement-statement-at-requires t c κs = (c .before .before .before .before .before .before .pre .1 .0 .context .in-scope .laid, omega (arith, c .before .before .before .before .before .before .pre .1 .1 .listed, c .before .before .before .before .before .before .pre .1 .0 .context .in-scope .laid .all-is, c .before .before .before .before .before .before .pre .1 .0 .context .in-scope .laid .whole, c .before .before .before .before .before .before .pre .1 .0 .context .in-scope .laid .short))
+visit-statement-statement-at-requires t c κs =
+    let pre = c .before .before .before .before .before .before .pre in
+    (pre .1 .0 .context .in-scope .laid, omega (arith, pre .1 .1 .listed, pre .1 .0 .context .in-scope .laid .all-is, pre .1 .0 .context .in-scope .laid .whole, pre .1 .0 .context .in-scope .laid .short))
 
 visit-statement-word-requires : (t : ℕ) → visit-statement-lts.Need-word-requires (visit-statement-callees t) (visit-statement-at t) visit-statement.Post
 visit-statement-word-requires t c κs = tt
@@ -364,7 +480,13 @@ visit-statement-same-length-5 : (t : ℕ) → visit-statement-lts.Need-same-leng
 visit-statement-same-length-5 t c = c .before .before .before .before .visit-primitive .ensures .0 .plays .same
 
 visit-statement-returns-2 : (t : ℕ) → visit-statement-lts.Need-returns-2 (visit-statement-callees t) (visit-statement-at t) visit-statement.Post
-visit-statement-returns-2 t c = (wrote-ran _ (wrote-steps (primitive-steps _ _ _ _ (λ e. c .before .before .before .before .before .before .before .if1 .left (c .before .before .before .before .before .before .before .before .word .ensures ∙ ap (word (now (c .before .before .before .before .before .before .before .before .before .before .before .before .before .before .before .before .args .image))) (c .before .before .before .before .before .before .before .before .before .statement-at .ensures) ∙ e))) (c .before .before .before .before .visit-primitive .ensures .0)), c .before .before .before .before .visit-primitive .ensures .1)
+visit-statement-returns-2 t c =
+    let args = c .before .before .before .before .before .before .before .before .before .before .before .before .before .before .before .before .args in
+    let statement-at = c .before .before .before .before .before .before .before .before .before .statement-at .ensures in
+    let word-2 = c .before .before .before .before .before .before .before .before .word .ensures in
+    let if1 = c .before .before .before .before .before .before .before .if1 .left in
+    let visit-primitive = c .before .before .before .before .visit-primitive .ensures in
+    (wrote-ran _ (wrote-steps (primitive-steps _ _ _ _ (λ e. if1 (word-2 ∙ ap (word (now (args .image))) statement-at ∙ e))) (visit-primitive .0)), visit-primitive .1)
 
 pub +open-gate+visit-gate+visit-rounds+visit-statement-spec : {M : Type 1} → statement M
 +open-gate+visit-gate+visit-rounds+visit-statement-spec =

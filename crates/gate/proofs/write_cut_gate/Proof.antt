@@ -7,25 +7,35 @@ use Rattle.gate.proofs.write_cut_gate.Statement.{statement}
 use Rattle.gate.proofs.write_cut_gate.Tie as tie
 
 gate-at-requires : tie.Need-gate-at-requires
-gate-at-requires c κs = (c .before .before .pre .0, omega (arith, c .before .before .pre .2, c .before .before .pre .0 .gates-is, c .before .before .pre .0 .few-gates))
+gate-at-requires c κs =
+    let pre = c .before .before .pre in
+    (pre .0, omega (arith, pre .2, pre .0 .gates-is, pre .0 .few-gates))
 
 zero-requires : tie.Need-zero-requires
 zero-requires c κs = search needs
 
 add-word : tie.Need-add-word
-add-word c = record { fits = omega (arith, near-gate (c .before .before .before .before .before .pre .0) _ (c .before .before .before .before .before .pre .2) (c .before .before .gate-at .ensures)) }
+add-word c =
+    let pre = c .before .before .before .before .before .pre in
+    record { fits = omega (arith, near-gate (pre .0) _ (pre .2) (c .before .before .gate-at .ensures)) }
 
 word-requires : tie.Need-word-requires
 word-requires c κs = search needs
 
 write-opaque-requires : tie.Need-write-opaque-requires
-write-opaque-requires c κs = (c .before .before .before .before .before .before .pre .4, sound-zeros (c .before .before .zero .ensures .1), c .before .before .before .before .before .before .pre .1, omega arith, omega (arith, c .before .before .before .before .before .before .pre .3, read-at (now (c .before .before .before .before .before .before .args .image)) 1 (c .before .before .before .gate-at .ensures) (c .word .ensures)))
+write-opaque-requires c κs =
+    let pre = c .before .before .before .before .before .before .pre in
+    let args = c .before .before .before .before .before .before .args in
+    (pre .4, sound-zeros (c .before .before .zero .ensures .1), pre .1, omega arith, omega (arith, pre .3, read-at (now (args .image)) 1 (c .before .before .before .gate-at .ensures) (c .word .ensures)))
 
 same-length : tie.Need-same-length
 same-length c = c .before .before .write-opaque .ensures .plays .same
 
 returns : tie.Need-returns
-returns c = cut-is _ _ (read-at (now (c .before .before .before .before .before .before .before .before .before .args .image)) 1 (c .before .before .before .before .before .before .gate-at .ensures) (c .before .before .before .word .ensures)) (c .before .before .write-opaque .ensures)
+returns c =
+    let args = c .before .before .before .before .before .before .before .before .before .args in
+    let gate-at = c .before .before .before .before .before .before .gate-at .ensures in
+    cut-is _ _ (read-at (now (args .image)) 1 gate-at (c .before .before .before .word .ensures)) (c .before .before .write-opaque .ensures)
 
 pub write-cut-gate-spec : {M : Type 1} → statement M
 write-cut-gate-spec =

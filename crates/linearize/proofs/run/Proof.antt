@@ -20,7 +20,10 @@ enum-told : tie.Need-enum-told
 enum-told c = search needs
 
 run-accepted-requires : tie.Need-run-accepted-requires
-run-accepted-requires c κs = (sym (c .before .before .before .before .check .ensures) ∙ ap answerFlaw (c .before .before .enum-told .given .1), omega (arith, c .before .before .before .before .before .if1 .left))
+run-accepted-requires c κs =
+    let if1 = c .before .before .before .before .before .if1 .left in
+    let check = c .before .before .before .before .check .ensures in
+    (sym check ∙ ap answerFlaw (c .before .before .enum-told .given .1), omega (arith, if1))
 
 refused-requires-2 : tie.Need-refused-requires-2
 refused-requires-2 c κs = search needs

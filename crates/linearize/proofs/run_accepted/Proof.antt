@@ -44,10 +44,17 @@ same-length-2 : tie.Need-same-length-2
 same-length-2 c = ran-lengths (c .before .before .before .before .run-program .ensures) .1
 
 returns : tie.Need-returns
-returns c = accepted-run _ _ _ _ (c .before .before .before .before .before .before .before .before .before .before .before .before .before .before .before .pre .0) (c .before .before .before .before .before .before .before .before .before .before .before .before .before .before .before .pre .1) (c .before .before .before .before .before .start .ensures) (c .before .before .before .before .run-program .ensures)
+returns c =
+    let pre = c .before .before .before .before .before .before .before .before .before .before .before .before .before .before .before .pre in
+    let start = c .before .before .before .before .before .start .ensures in
+    let run-program = c .before .before .before .before .run-program .ensures in
+    accepted-run _ _ _ _ (pre .0) (pre .1) start run-program
 
 returns-2 : tie.Need-returns-2
-returns-2 c = absurd (contents-right (now (c .before .before .before .before .before .before .before .args .image)) (c .before .before .before .before .before .before .before .pre .0) (subst (ReadAs (now (c .before .before .before .before .before .before .before .args .image))) (c .before .enum-told .given .1) (c .before .before .before .read-contents .ensures)))
+returns-2 c =
+    let args = c .before .before .before .before .before .before .before .args in
+    let pre = c .before .before .before .before .before .before .before .pre in
+    absurd (contents-right (now (args .image)) (pre .0) (subst (ReadAs (now (args .image))) (c .before .enum-told .given .1) (c .before .before .before .read-contents .ensures)))
 
 pub run-accepted-spec : {M : Type 1} → statement M
 run-accepted-spec =

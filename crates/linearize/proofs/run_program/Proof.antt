@@ -7,7 +7,9 @@ use Rattle.linearize.proofs.run_program.Statement.{statement}
 use Rattle.linearize.proofs.run_program.Tie as tie
 
 returns : tie.Need-returns
-returns c = ran-steps (no-steps _ _ (c .before .before .before .before .before .pre .laid .main-is) (c .if1 .taken)) (wrote-ran _ (wrote-nothing (c .before .before .before .before .before .pre .in-output)))
+returns c =
+    let pre = c .before .before .before .before .before .pre in
+    ran-steps (no-steps _ _ (pre .laid .main-is) (c .if1 .taken)) (wrote-ran _ (wrote-nothing (pre .in-output)))
 
 write-head-requires : tie.Need-write-head-requires
 write-head-requires c κs = search needs
@@ -19,13 +21,24 @@ levels-to-open-requires : tie.Need-levels-to-open-requires
 levels-to-open-requires c κs = search needs
 
 visit-with-register-starts-requires : tie.Need-visit-with-register-starts-requires
-visit-with-register-starts-requires c κs = start-wrote (c .before .before .before .before .before .before .before .before .before .before .before .before .before .before .before .pre) (c .before .before .before .before .before .before .before .before .write-head .ensures) (c .before .before .before .before .next .given .1)
+visit-with-register-starts-requires c κs =
+    let pre = c .before .before .before .before .before .before .before .before .before .before .before .before .before .before .before .pre in
+    let write-head = c .before .before .before .before .before .before .before .before .write-head .ensures in
+    let next = c .before .before .before .before .next in
+    start-wrote pre write-head (next .given .1)
 
 enum-known-e : tie.Need-enum-known-e
 enum-known-e c = search needs
 
 returns-2 : tie.Need-returns-2
-returns-2 c = ran-steps (head-steps _ _ (c .before .before .before .before .before .before .before .before .before .before .before .before .before .before .before .before .before .before .before .before .pre .laid .main-is) (c .before .before .before .before .before .before .before .before .before .before .before .before .before .before .before .if1 .left) (c .before .before .before .before .before .before .before .levels-to-open .ensures)) (wrote-then (c .before .before .before .before .before .before .before .before .before .before .before .before .before .write-head .ensures) (c .before .before .before .before .before .before .before .before .before .next .given .1) (c .before .before .before .before .visit-with-register-starts .ensures))
+returns-2 c =
+    let pre = c .before .before .before .before .before .before .before .before .before .before .before .before .before .before .before .before .before .before .before .before .pre in
+    let if1 = c .before .before .before .before .before .before .before .before .before .before .before .before .before .before .before .if1 .left in
+    let write-head = c .before .before .before .before .before .before .before .before .before .before .before .before .before .write-head .ensures in
+    let next = c .before .before .before .before .before .before .before .before .before .next in
+    let levels-to-open = c .before .before .before .before .before .before .before .levels-to-open .ensures in
+    let visit-with-register-starts = c .before .before .before .before .visit-with-register-starts .ensures in
+    ran-steps (head-steps _ _ (pre .laid .main-is) if1 levels-to-open) (wrote-then write-head (next .given .1) visit-with-register-starts)
 
 same-length-2 : tie.Need-same-length-2
 same-length-2 c = ran-lengths (returns-2 c) .1
@@ -37,7 +50,11 @@ same-length-3 : tie.Need-same-length-3
 same-length-3 c = c .before .before .before .before .before .write-head .ensures .plays .same
 
 returns-3 : tie.Need-returns-3
-returns-3 c = ran-steps (head-steps _ _ (c .before .before .before .before .before .before .before .before .before .before .before .before .pre .laid .main-is) (c .before .before .before .before .before .before .before .if1 .left) refl) (wrote-stops _ _ (c .before .before .before .before .before .write-head .ensures) (c .before .e .given .1))
+returns-3 c =
+    let pre = c .before .before .before .before .before .before .before .before .before .before .before .before .pre in
+    let if1 = c .before .before .before .before .before .before .before .if1 .left in
+    let write-head = c .before .before .before .before .before .write-head .ensures in
+    ran-steps (head-steps _ _ (pre .laid .main-is) if1 refl) (wrote-stops _ _ write-head (c .before .e .given .1))
 
 pub run-program-spec : {M : Type 1} → statement M
 run-program-spec =

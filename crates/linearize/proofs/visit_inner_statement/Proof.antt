@@ -12,7 +12,10 @@ enum-known-next : tie.Need-enum-known-next
 enum-known-next c = search needs
 
 write-conditional-end-requires : tie.Need-write-conditional-end-requires
-write-conditional-end-requires c κs = ran-open (c .before .before .before .before .before .before .before .before .before .before .before .before .before .before .before .before .before .before .before .before .pre .0 .context .in-output) (c .before .before .before .before .before .before .before .before .before .before .visit-statement .ensures .0) (c .before .before .next .given .1)
+write-conditional-end-requires c κs =
+    let pre = c .before .before .before .before .before .before .before .before .before .before .before .before .before .before .before .before .before .before .before .before .pre in
+    let visit-statement = c .before .before .before .before .before .before .before .before .before .before .visit-statement .ensures in
+    ran-open (pre .0 .context .in-output) (visit-statement .0) (c .before .before .next .given .1)
 
 enum-known-e : tie.Need-enum-known-e
 enum-known-e c = search needs
@@ -27,7 +30,10 @@ same-length-3 : tie.Need-same-length-3
 same-length-3 c = search needs
 
 returns : tie.Need-returns
-returns c = (ran-then (c .before .before .before .before .before .before .before .before .before .before .before .before .before .visit-statement .ensures .0) (c .before .before .before .before .before .next .given .1) (c .before .before .write-conditional-end .ensures), c .before .before .before .before .before .before .before .before .before .before .before .before .before .visit-statement .ensures .1)
+returns c =
+    let visit-statement = c .before .before .before .before .before .before .before .before .before .before .before .before .before .visit-statement .ensures in
+    let next = c .before .before .before .before .before .next in
+    (ran-then (visit-statement .0) (next .given .1) (c .before .before .write-conditional-end .ensures), visit-statement .1)
 
 same-length-4 : tie.Need-same-length-4
 same-length-4 c = search needs
@@ -39,7 +45,9 @@ same-length-6 : tie.Need-same-length-6
 same-length-6 c = search needs
 
 returns-2 : tie.Need-returns-2
-returns-2 c = (ran-stops _ (c .before .before .before .before .before .before .before .before .before .visit-statement .ensures .0) (c .before .e .given .1), c .before .before .before .before .before .before .before .before .before .visit-statement .ensures .1)
+returns-2 c =
+    let visit-statement = c .before .before .before .before .before .before .before .before .before .visit-statement .ensures in
+    (ran-stops _ (visit-statement .0) (c .before .e .given .1), visit-statement .1)
 
 pub visit-inner-statement-spec : {M : Type 1} → statement M
 visit-inner-statement-spec =

@@ -53,8 +53,12 @@ returns-2 : tie.Need-returns-2
 returns-2 c =
     let pre = c .before .before .before .before .before .before .before .before .before .before .before .before .before .before .before .before .before .before .before .pre in
     let args = c .before .before .before .before .before .before .before .before .before .before .before .before .before .before .before .before .before .before .before .args in
-    let plain = plain-in-main _ _ (λ e. c .before .before .before .before .before .before .before .before .before .before .if1 .left (c .before .before .before .before .before .before .before .before .before .before .before .word .ensures ∙ ap (word (now (args .image))) (c .before .before .before .before .before .before .before .before .before .before .before .before .statement-at .ensures) ∙ e)) (pre .1) in
-    (ran-steps (statement-steps _ 0 _ _ _ (plain .facts)) (c .before .before .before .before .before .before .visit-statement .ensures .0), c .before .before .before .before .before .before .visit-statement .ensures .1)
+    let statement-at = c .before .before .before .before .before .before .before .before .before .before .before .before .statement-at .ensures in
+    let word-2 = c .before .before .before .before .before .before .before .before .before .before .before .word .ensures in
+    let if1 = c .before .before .before .before .before .before .before .before .before .before .if1 .left in
+    let visit-statement = c .before .before .before .before .before .before .visit-statement .ensures in
+    let plain = plain-in-main _ _ (λ e. if1 (word-2 ∙ ap (word (now (args .image))) statement-at ∙ e)) (pre .1) in
+    (ran-steps (statement-steps _ 0 _ _ _ (plain .facts)) (visit-statement .0), visit-statement .1)
 
 pub visit-main-spec : {M : Type 1} → statement M
 visit-main-spec =

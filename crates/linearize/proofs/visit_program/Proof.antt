@@ -22,7 +22,9 @@ abbrev μ-loop : tie.MeasureT-loop
 μ-loop image l qubit-starts bit-starts kept-values₀ levels-left out₀ trace₀ angles qubits n position₀ s₀ kept-values out trace position s = n - s
 
 loop-holds : tie.Need-loop-holds Inv-loop μ-loop
-loop-holds c = (looped-start _ _ (c .before .before .before .before .before .before .pre .0 .start .in-output), refl, c .before .before .before .before .before .before .pre .1, refl)
+loop-holds c =
+    let pre = c .before .before .before .before .before .before .pre in
+    (looped-start _ _ (pre .0 .start .in-output), refl, pre .1, refl)
 
 visit-main-requires : tie.Need-visit-main-requires Inv-loop μ-loop
 visit-main-requires c κs =
@@ -37,10 +39,18 @@ enum-known-e : tie.Need-enum-known-e Inv-loop μ-loop
 enum-known-e c = search needs
 
 same-length : tie.Need-same-length Inv-loop μ-loop
-same-length c = omega (arith, c .before .before .before .before .before .before .before .before .kept-values .given, c .before .before .before .before .before .before .before .before .before .before .before .before .before .before .before .before .loop .inv .3)
+same-length c =
+    let loop = c .before .before .before .before .before .before .before .before .before .before .before .before .before .before .before .before .loop .inv in
+    let kept-values = c .before .before .before .before .before .before .before .before .kept-values in
+    omega (arith, kept-values .given, loop .3)
 
 returns : tie.Need-returns Inv-loop μ-loop
-returns c = ran-steps (main-steps _ _ _ _ (c .before .before .before .before .before .before .before .before .before .before .before .before .before .before .before .before .before .before .before .before .before .before .before .pre .0 .start .laid .main-is)) (ran-from (c .before .before .before .before .before .before .before .before .before .before .before .before .before .before .before .before .loop .inv .1) (ran-stop _ _ (c .before .before .before .before .before .before .before .before .before .before .before .before .before .before .before .before .loop .inv .0) (c .before .before .before .before .before .before .before .before .before .before .before .before .before .before .before .loop-test .taken) refl (c .before .before .before .before .before .before .before .before .before .visit-main .ensures .0) (c .before .e .given .1) refl))
+returns c =
+    let pre = c .before .before .before .before .before .before .before .before .before .before .before .before .before .before .before .before .before .before .before .before .before .before .before .pre in
+    let loop = c .before .before .before .before .before .before .before .before .before .before .before .before .before .before .before .before .loop .inv in
+    let loop-test = c .before .before .before .before .before .before .before .before .before .before .before .before .before .before .before .loop-test .taken in
+    let visit-main = c .before .before .before .before .before .before .before .before .before .visit-main .ensures in
+    ran-steps (main-steps _ _ _ _ (pre .0 .start .laid .main-is)) (ran-from (loop .1) (ran-stop _ _ (loop .0) loop-test refl (visit-main .0) (c .before .e .given .1) refl))
 
 same-length-2 : tie.Need-same-length-2 Inv-loop μ-loop
 same-length-2 c = ran-lengths (returns c) .0
@@ -49,13 +59,23 @@ same-length-3 : tie.Need-same-length-3 Inv-loop μ-loop
 same-length-3 c = ran-lengths (returns c) .1
 
 add-s : tie.Need-add-s Inv-loop μ-loop
-add-s c = record { fits = omega (arith, c .before .before .before .before .before .before .before .before .before .before .before .before .before .before .before .loop-test .taken, c .before .before .before .before .before .before .before .before .before .before .before .before .before .before .before .before .before .before .before .before .before .before .before .pre .0 .start .laid .main-is, c .before .before .before .before .before .before .before .before .before .before .before .before .before .before .before .before .before .before .before .before .before .before .before .pre .0 .start .laid .whole, c .before .before .before .before .before .before .before .before .before .before .before .before .before .before .before .before .before .before .before .before .before .before .before .pre .0 .start .laid .short) }
+add-s c =
+    let pre = c .before .before .before .before .before .before .before .before .before .before .before .before .before .before .before .before .before .before .before .before .before .before .before .pre in
+    let loop-test = c .before .before .before .before .before .before .before .before .before .before .before .before .before .before .before .loop-test .taken in
+    record { fits = omega (arith, loop-test, pre .0 .start .laid .main-is, pre .0 .start .laid .whole, pre .0 .start .laid .short) }
 
 loop-less : tie.Need-loop-less Inv-loop μ-loop
-loop-less c = omega (arith, c .before .before .before .before .before .before .before .before .before .before .before .before .before .before .before .loop-test .taken)
+loop-less c =
+    let loop-test = c .before .before .before .before .before .before .before .before .before .before .before .before .before .before .before .loop-test .taken in
+    omega (arith, loop-test)
 
 loop-again : tie.Need-loop-again Inv-loop μ-loop
-loop-again c = let w = ran-next _ _ (c .before .before .before .before .before .before .before .before .before .before .before .before .before .before .before .before .loop .inv .0) (c .before .before .before .before .before .before .before .before .before .before .before .before .before .before .before .loop-test .taken) refl (c .before .before .before .before .before .before .before .before .before .visit-main .ensures .0) (c .before .next .given .1) in (w .0, w .1 ∙ c .before .before .before .before .before .before .before .before .before .before .before .before .before .before .before .before .loop .inv .1, c .before .before .before .before .before .before .before .before .before .visit-main .ensures .1, omega (arith, c .before .before .before .before .before .before .before .before .kept-values .given, c .before .before .before .before .before .before .before .before .before .before .before .before .before .before .before .before .loop .inv .3))
+loop-again c =
+    let loop = c .before .before .before .before .before .before .before .before .before .before .before .before .before .before .before .before .loop .inv in
+    let loop-test = c .before .before .before .before .before .before .before .before .before .before .before .before .before .before .before .loop-test .taken in
+    let visit-main = c .before .before .before .before .before .before .before .before .before .visit-main .ensures in
+    let kept-values = c .before .before .before .before .before .before .before .before .kept-values in
+    let w = ran-next _ _ (loop .0) loop-test refl (visit-main .0) (c .before .next .given .1) in (w .0, w .1 ∙ loop .1, visit-main .1, omega (arith, kept-values .given, loop .3))
 
 same-length-4 : tie.Need-same-length-4 Inv-loop μ-loop
 same-length-4 c = c .before .loop .inv .3
@@ -67,7 +87,9 @@ same-length-6 : tie.Need-same-length-6 Inv-loop μ-loop
 same-length-6 c = ap length (c .before .loop .inv .1)
 
 returns-2 : tie.Need-returns-2 Inv-loop μ-loop
-returns-2 c = ran-steps (main-steps _ _ _ _ (c .before .before .before .before .before .before .before .before .pre .0 .start .laid .main-is)) (ran-still (c .before .loop .inv .1) (ran-done _ _ (c .before .loop .inv .0) (c .loop-test .left) refl))
+returns-2 c =
+    let pre = c .before .before .before .before .before .before .before .before .pre in
+    ran-steps (main-steps _ _ _ _ (pre .0 .start .laid .main-is)) (ran-still (c .before .loop .inv .1) (ran-done _ _ (c .before .loop .inv .0) (c .loop-test .left) refl))
 
 pub visit-program-spec : {M : Type 1} → statement M
 visit-program-spec =
