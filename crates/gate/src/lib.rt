@@ -56,10 +56,9 @@ fn write_cut_gate(
         (now (out .entry)) at r (now (out .exit))
         ⌝ }
 {
-    let gate = image::gate_at(image, l, g);
-    let angle = expression::zero();
-    let angles = [angle; 16];
-    record_writer::write_opaque(out, at, g, angles, 0, qubits, image::word(image, gate + 1))
+    let place = image::gate_at(image, l, g);
+    let angles = [expression::zero(); 16];
+    record_writer::write_opaque(out, at, g, angles, 0, qubits, image::word(image, place + 1))
 }
 
 // A U, CX, barrier, measurement or reset: a statement that opens no gate.
@@ -183,15 +182,15 @@ fn call_at(image: &[u64], l: Layout, s: u64) -> Call
 {
     let place = image::statement_at(image, l, s);
     let gate = image::word(image, place + 1);
-    let at = image::gate_at(image, l, gate);
+    let gate_place = image::gate_at(image, l, gate);
     Call {
         statement: s,
         gate,
         expressions: image::parameter_at(image, l, image::word(image, place + 2)),
-        parameters: image::word(image, at),
+        parameters: image::word(image, gate_place),
         argument: image::word(image, place + 3),
-        arguments: image::word(image, at + 1),
-        body: image::word(image, at + 2),
+        arguments: image::word(image, gate_place + 1),
+        body: image::word(image, gate_place + 2),
     }
 }
 
@@ -292,7 +291,7 @@ fn visit_gate(
         ⌝ }
 {
     let call = call_at(image, l, s);
-    let mut given = [0u64; 96];
+    let mut given_angles = [0u64; 96];
     match expression::parameters(
         image,
         l,
@@ -300,7 +299,7 @@ fn visit_gate(
         kept_values,
         call.expressions,
         call.parameters,
-        &mut given,
+        &mut given_angles,
         at,
     ) {
         Linearized::Done(position) => visit_rounds(
@@ -312,7 +311,7 @@ fn visit_gate(
             scope,
             qubits,
             call,
-            given,
+            given_angles,
             levels_left,
             out,
             trace,
@@ -381,7 +380,7 @@ fn visit_rounds(
             call.arguments,
             i,
         );
-        let opened = Frame {
+        let frame = Frame {
             angles,
             qubits: opened_qubits,
         };
@@ -391,7 +390,7 @@ fn visit_rounds(
             qubit_starts,
             bit_starts,
             kept_values,
-            opened,
+            frame,
             call.gate,
             levels_left,
             out,

@@ -19,6 +19,21 @@ ghost use Rattle.linearize.specs.MainContext.{StartContext, MainContext}
 ghost use Rattle.linearize.specs.MainStatement.{MainStatement, IsConditional, mainStatementSteps, innerSteps, mainSteps};
 ghost use Rattle.linearize.specs.Linearizes.{refusedWith, Linearizes};
 
+// The words of a trace that is long enough for any run: two for each call, and a call goes to a gate of smaller number.
+const TRACE_WORDS: usize = 256;
+
+// The most expressions of a program that has few.
+const FEW_EXPRESSIONS: u64 = 128;
+
+// The most quantum, and the most classical, registers of a program that has few.
+const FEW_REGISTERS: u64 = 64;
+
+// The words of the values kept of few expressions: seven for each.
+const FEW_VALUES_WORDS: usize = 7 * 128;
+
+// The words of the values kept of as many expressions as an image may have: seven for each.
+const MOST_VALUES_WORDS: usize = 7 * 2728;
+
 // The inner statement of a conditional, and the conditional's end.
 fn visit_inner_statement(
     image: &[u64],
@@ -230,7 +245,7 @@ fn visit_program(
     Linearized::Done(position)
 }
 
-// The main statements, where room for the values of 128 expressions is enough.
+// The main statements of a program with few expressions.
 fn visit_few_expressions(
     image: &[u64],
     l: Layout,
@@ -247,7 +262,7 @@ fn visit_few_expressions(
         (now (out .entry)) at (now (trace .entry)) r (now (out .exit)) (now (trace .exit))
         ⌝ }
 {
-    let mut kept_values = [0u64; 896];
+    let mut kept_values = [0u64; FEW_VALUES_WORDS];
     visit_program(
         image,
         l,
@@ -278,7 +293,7 @@ fn visit_many_expressions(
         (now (out .entry)) at (now (trace .entry)) r (now (out .exit)) (now (trace .exit))
         ⌝ }
 {
-    let mut kept_values = [0u64; 19096];
+    let mut kept_values = [0u64; MOST_VALUES_WORDS];
     visit_program(
         image,
         l,
@@ -309,7 +324,7 @@ fn visit_with_kept_values(
         (now (out .entry)) at (now (trace .entry)) r (now (out .exit)) (now (trace .exit))
         ⌝ }
 {
-    if l.expressions <= 128 {
+    if l.expressions <= FEW_EXPRESSIONS {
         return visit_few_expressions(
             image,
             l,
@@ -340,7 +355,7 @@ fn levels_to_open(depth: u64) -> u64
     if depth == 0 { 0 } else { depth - 1 }
 }
 
-// The main statements, where tables of the starts of 64 registers are enough.
+// The main statements of a program with few registers.
 fn visit_few_registers(
     image: &[u64],
     l: Layout,
@@ -417,7 +432,7 @@ fn visit_with_register_starts(
         (now (out .entry)) at (now (trace .entry)) r (now (out .exit)) (now (trace .exit))
         ⌝ }
 {
-    if image::larger(l.quantum, l.classical) <= 64 {
+    if image::larger(l.quantum, l.classical) <= FEW_REGISTERS {
         return visit_few_registers(image, l, levels_left, out, trace, at);
     }
     visit_many_registers(image, l, levels_left, out, trace, at)
@@ -486,7 +501,7 @@ fn run_accepted(image: &[u64], depth: u64, out: &mut [u64], trace: &mut [u64]) -
 pub fn run(image: &[u64], depth: u64, out: &mut [u64], trace: &mut [u64]) -> Linearized
     ensures { λ r. ⌜ Linearizes (now (image .entry)) depth (now (out .entry)) (now (trace .entry)) r (now (out .exit)) (now (trace .exit)) ⌝ }
 {
-    if trace.len() < 256 {
+    if trace.len() < TRACE_WORDS {
         return refused(LinearizeErrorKind::ShortTrace);
     }
     let answer = image_check::check(image);
