@@ -52,7 +52,7 @@ zero-word (suc n) zero = refl
 zero-word (suc n) (suc k) = zero-word n k
 
 pub zeros-sound : (n : ℕ) → SoundAngles (anglesIn (replicate n 0))
-zeros-sound n = record { full = sixteen (replicate n 0); each = λ i h. rw (angle-at (replicate n 0) i zeroValue h ∙ value-zero (6 * i)) zero-sound }
+zeros-sound n = record { sixteen = sixteen (replicate n 0); each = λ i h. rw (angle-at (replicate n 0) i zeroValue h ∙ value-zero (6 * i)) zero-sound }
   where
     value-zero : (p : ℕ) → valueAt (replicate n 0) p ≡ zeroValue
     value-zero p = rw (zero-word n p, zero-word n (p + 1), zero-word n (p + 2), zero-word n (p + 3), zero-word n (p + 3 + 1), zero-word n (p + 3 + 2)) refl

@@ -34,10 +34,10 @@ use Rattle.expression.specs.Operands.{NoValue, RefusalOf, ParametersGive
 
 -- sixteen angles, one of them put in anew
 put-sound : (found : List Value) (i : ℕ) (x : Value) → i < 16 → SoundAngles found → Sound x → SoundAngles (set found i x)
-put-sound found i x l s h = record { full = length-set found i x ∙ s .full; each = λ j m. go j m (eqb j i) refl }
+put-sound found i x l s h = record { sixteen = length-set found i x ∙ s .sixteen; each = λ j m. go j m (eqb j i) refl }
   where
     go : (j : ℕ) → j < 16 → (b : Bool) → eqb j i ≡ b → Sound (getD (set found i x) j zeroValue)
-    go j m true e = rw (eqb-true j i e, getD-set-same found i x zeroValue (omega (arith, s .full))) h
+    go j m true e = rw (eqb-true j i e, getD-set-same found i x zeroValue (omega (arith, s .sixteen))) h
     go j m false e = rw (getD-set-other found i j x zeroValue (eqb-false j i e)) (s .each j m)
 
 -- ---- what is told of each refusal
@@ -125,7 +125,7 @@ module _ (image : List ℕ) (angles : List Value) (f : ℕ → ℕ) where
   pub front-next : (i e : ℕ) (found : List Value) (r : Evaluation) (x : Value) → i < 16 → Front i found → e ≡ f i → EvaluatesTo (evaluate image angles 32 e) r → r ≡ evaluation.Value x → Front (i + 1) (set found i x)
   front-next i e found r x l k q t h = record {
     sound = put-sound found i x l (k .sound) (rw h at (t .sound));
-    front = rw (add-one i) (one-more 0 i i (take i found) x (omega arith) (k .front) (ap (evaluate image angles 32) (sym q) ∙ sym (t .is) ∙ h) ∙ ap have (sym (take-suc-set found i x (omega (arith, k .sound .full)))));
+    front = rw (add-one i) (one-more 0 i i (take i found) x (omega arith) (k .front) (ap (evaluate image angles 32) (sym q) ∙ sym (t .is) ∙ h) ∙ ap have (sym (take-suc-set found i x (omega (arith, k .sound .sixteen)))));
   }
 
   pub front-done : (i n : ℕ) (found : List Value) (at : Position) → i ≤ n → n ≤ i → Front i found → ParametersGiven (values 0 n) n at (linearized.Done at) found

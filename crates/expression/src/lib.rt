@@ -1,12 +1,12 @@
 // Works out the angles of an accepted image: expressions, and the parameters of a call.
 use image::Layout;
 use rational::Rational64;
-use value::Evaluation;
-use value::Value;
 use record_writer::LinearizeError;
 use record_writer::LinearizeErrorKind;
 use record_writer::Linearized;
 use record_writer::Position;
+use value::Evaluation;
+use value::Value;
 ghost use mathlib.Core.Path.{_≡_};
 ghost use mathlib.Core.List.{map};
 ghost use mathlib.Core.Bool.{true};

@@ -31,7 +31,7 @@ angle-put out start x e f =
     rw (e, f, add-one start, add-two start, three) refl
 
 pub angle-sound : {angles : List Value} → SoundAngles angles → (i : ℕ) (d : Value) → i < 16 → Sound (getD angles i d)
-angle-sound {angles} s i d h = rw (within angles i d zeroValue (omega (arith, s .full))) (s .each i h)
+angle-sound {angles} s i d h = rw (within angles i d zeroValue (omega (arith, s .sixteen))) (s .each i h)
 
 -- one angle more
 pub angles-none : (out : List ℕ) (start : ℕ) (angles : List Value) → out ≡ sets out start (flatMap angleWords (take 0 angles))

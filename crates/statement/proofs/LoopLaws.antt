@@ -1,4 +1,4 @@
--- Rounds in turn: what a loop has played after some of them.
+-- Rounds in turn: what a loop has played after some of them (`Looped`), and when it stops or is done.
 use Prim.Native.Nat.{ℕ, _+_, _-_, _≤_, _<_, zero-le}
 use native.Mathlib.Omega.{arith}
 use mathlib.Core.Path.{_≡_, refl, subst, _∙_}
@@ -6,26 +6,14 @@ use mathlib.Core.List.{List, [], flatMap}
 use lib.ListN.{length}
 use Rattle.model.specs.Lists.{range}
 use Rattle.model.specs.Steps.{Step, inRounds}
-use Rattle.model.specs.Run.{done}
 use Rattle.model.specs.Playing.{Going}
 use Rattle.model.proofs.PlayLaws.{going-start, going-part, going-stopped, going-done, rounds-next, rounds-none, rounds-all}
 use Rattle.record_writer.specs.declared.Position.{Position}
-use Rattle.record_writer.specs.declared.LinearizeErrorKind.{LinearizeErrorKind}
-use Rattle.record_writer.specs.declared.LinearizeErrorKind.the-variants as kind
 use Rattle.record_writer.specs.declared.LinearizeError.{LinearizeError}
 use Rattle.record_writer.specs.declared.Linearized.{Linearized}
 use Rattle.record_writer.specs.declared.Linearized.the-variants as linearized
-use Rattle.record_writer.specs.Promise.{refusalAnswer, placeAt, InOutput, WroteSteps}
-
-pub not-done : (k : LinearizeErrorKind) (t : List ℕ) → ¬ (refusalAnswer k t ≡ done)
-not-done (kind.DivideByZero p) t e = absurd (let z : _≡_ {A = ℕ} 0 1 = cc in omega arith)
-not-done (kind.ApproximateFail p f) t e = absurd (let z : _≡_ {A = ℕ} 0 1 = cc in omega arith)
-not-done (kind.NumericalOverflow p) t e = absurd (let z : _≡_ {A = ℕ} 0 1 = cc in omega arith)
-not-done (kind.OverlappingRegs p q) t e = absurd (let z : _≡_ {A = ℕ} 0 1 = cc in omega arith)
-not-done (kind.FunctionOfFloats p) t e = absurd (let z : _≡_ {A = ℕ} 0 1 = cc in omega arith)
-not-done kind.OutputFull t e = absurd (let z : _≡_ {A = ℕ} 0 1 = cc in omega arith)
-not-done (kind.Rejected c) t e = absurd (let z : _≡_ {A = ℕ} 0 1 = cc in omega arith)
-not-done kind.ShortTrace t e = absurd (let z : _≡_ {A = ℕ} 0 1 = cc in omega arith)
+use Rattle.record_writer.specs.Promise.{placeAt, InOutput, WroteSteps}
+use Rattle.record_writer.proofs.WroteStepsLaws.{not-done, wrote-open}
 
 -- of n rounds the first i are played
 pub record Looped (g : ℕ → List Step) (n : ℕ) (out : List ℕ) (at : Position) (i : ℕ) (out′ : List ℕ) (now : Position) : Type 0 where
@@ -33,9 +21,6 @@ pub record Looped (g : ℕ → List Step) (n : ℕ) (out : List ℕ) (at : Posit
   pub going : Going (inRounds n g) (flatMap g (range i (n - i))) (placeAt out at) (placeAt out′ now)
   pub level : now .trace ≡ at .trace
   pub opens : InOutput out′ now
-
-pub wrote-open : {ss : List Step} {out out′ : List ℕ} {at p : Position} → InOutput out at → WroteSteps ss out at (linearized.Done p) out′ → InOutput out′ p
-wrote-open o w = record { inside = w .plays .fits; fewer = omega (arith, o .fewer, w .plays .fewer) }
 
 module _ (g : ℕ → List Step) (n : ℕ) {out : List ℕ} {at : Position} where
   pub looped-start : InOutput out at → Looped g n out at 0 out at

@@ -1,11 +1,12 @@
+-- The word is read if the words reach so far, and is 0 if they do not.
 use lib.ListN.{List·getD-eq-default, drop, length-drop}
 use native.Mathlib.Omega.{arith}
 use lib.Seq.{getD-drop}
 use denote.Ref.{now}
 use mathlib.Core.Path.{sym}
 use borrow.Author.Needs.{needs}
-use Rattle.record_reader.proofs.word_behind.Statement.{statement}
-use Rattle.record_reader.proofs.word_behind.Tie as tie
+use Rattle.record_reader.proofs.record_word.Statement.{statement}
+use Rattle.record_reader.proofs.record_word.Tie as tie
 
 sub-if1 : tie.Need-sub-if1
 sub-if1 c = search needs
@@ -27,6 +28,6 @@ returns-2 c =
     let a = c .before in
     sym (List·getD-eq-default (drop (a .args .at) (now (a .args .words))) 0 (rw (length-drop (a .args .at) (now (a .args .words))) (omega arith)))
 
-pub word-behind-spec : {M : Type 1} → statement M
-word-behind-spec =
+pub record-word-spec : {M : Type 1} → statement M
+record-word-spec =
     tie.close (tie.spec sub-if1 add-result mul-result shared-slice-read-result returns returns-2)

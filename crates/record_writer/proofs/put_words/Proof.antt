@@ -1,3 +1,4 @@
+-- The words are put in turn: after i turns of the loop the first i of them stand.
 use Prim.Native.Nat.{ℕ, _-_, _≤_}
 use native.Mathlib.Nat.{le-antisymm}
 use native.Mathlib.Omega.{arith}
@@ -7,9 +8,9 @@ use lib.ListN.{length, take, length-set}
 use lib.Seq.{sets, take-length}
 use denote.Ref.{now}
 use borrow.Author.Needs.{needs}
-use Rattle.record_writer.proofs.WriteLaws.{copied}
-use Rattle.record_writer.proofs.copy.Statement.{statement}
-use Rattle.record_writer.proofs.copy.Tie as tie
+use Rattle.record_writer.proofs.WriteLaws.{put-next-word}
+use Rattle.record_writer.proofs.put_words.Statement.{statement}
+use Rattle.record_writer.proofs.put_words.Tie as tie
 
 abbrev Inv-loop : tie.InvT-loop
 Inv-loop out₀ start words n i₀ out i = (i ≤ n) × (out ≡ sets out₀ start (take i words)) × (length out ≡ length out₀)
@@ -46,7 +47,7 @@ loop-again c =
     let l = c .before .before in
     let a = l .before .args in (
       omega (arith, c .before .loop-test .taken),
-      copied (now (a .out)) (a .start) (l .loop .i) (now (a .words)) (c .before .loop-test .taken) (l .loop .inv .1),
+      put-next-word (now (a .out)) (a .start) (l .loop .i) (now (a .words)) (c .before .loop-test .taken) (l .loop .inv .1),
       length-set (l .loop .out) _ _ ∙ l .loop .inv .2,
     )
 
@@ -60,8 +61,8 @@ returns c =
     let w = now (l .before .args .words) in
     l .loop .inv .1 ∙ ap (λ (x : List ℕ). sets (now (l .before .args .out)) (l .before .args .start) x) (ap (λ (n : ℕ). take n w) e ∙ take-length w)
 
-pub copy-spec : {M : Type 1} → statement M
-copy-spec =
+pub put-words-spec : {M : Type 1} → statement M
+put-words-spec =
     tie.close
     (tie.spec
     Inv-loop
