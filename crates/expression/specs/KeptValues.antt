@@ -1,72 +1,58 @@
--- Angles in words: those of a frame, and the values kept of expressions.
+-- The values of expressions that are kept: a constant's for the whole run, any other's for one evaluation.
 use Prim.Native.Nat.{ℕ, _+_, _*_, _≤_, _<_}
 use mathlib.Core.Path.{_≡_}
-use mathlib.Core.Bool.{Bool, true, false, cond}
-use mathlib.Core.List.{List, map}
+use mathlib.Core.Bool.{Bool, true, false}
+use mathlib.Core.List.{List}
 use lib.ListN.{length, getD, set}
-use lib.Dec.{eqb}
-use Rattle.rational.specs.declared.Rational64.{Rational64}
 use Rattle.value.specs.declared.Value.{Value}
+use Rattle.value.specs.declared.Evaluation.{Evaluation}
 use Rattle.value.specs.declared.Evaluation.the-variants as evaluation
 use Rattle.value.specs.Value.{Sound}
-use Rattle.model.specs.Lists.{range}
+use Rattle.value.specs.Promise.{EvaluatesTo}
 use Rattle.model.specs.Image.{expressions}
 use Rattle.model.specs.Evaluate.{evaluate}
+use Rattle.image.specs.declared.Layout.{Layout}
+use Rattle.image.specs.Layout.{LayoutOf}
+use Rattle.record_writer.specs.Promise.{SoundAngles}
+use Rattle.expression.specs.Angles.{valueAt}
 
--- ---- an angle in six words
-
--- a denominator from its word: 0 stands for 1
-abbrev pub denominatorOf : ℕ → ℕ
-denominatorOf d = cond (eqb d 0) 1 d
-
--- a fraction in three: 1 for a negative one, the numerator, the denominator; three zeros are the fraction 0
-abbrev pub partAt : List ℕ → ℕ → Rational64
-partAt words p = record { negative = eqb (getD words p 0) 1; numer = getD words (p + 1) 0; denom = denominatorOf (getD words (p + 2) 0) }
-
-abbrev pub signOf : Bool → ℕ
-signOf negative = cond negative 1 0
-
-abbrev pub putPart : List ℕ → ℕ → Rational64 → List ℕ
-putPart words p x = set (set (set words p (signOf (x .negative))) (p + 1) (x .numer)) (p + 2) (x .denom)
-
-abbrev pub valueAt : List ℕ → ℕ → Value
-valueAt words p = record { a = partAt words p; b = partAt words (p + 3) }
-
-abbrev pub putValue : List ℕ → ℕ → Value → List ℕ
-putValue words p x = putPart (putPart words p (x .a)) (p + 3) (x .b)
-
--- the sixteen angles of a frame
-unfoldable pub anglesIn : List ℕ → List Value
-anglesIn words = map (λ i. valueAt words (6 * i)) (range 0 16)
-
--- ---- values that are kept: of entry e seven words, 1 if it is a constant, and its value
-
+-- of entry e seven words are kept: 1 if it is a constant, and its value
 abbrev pub constantAt : List ℕ → ℕ → ℕ
-constantAt table e = getD table (7 * e) 0
+constantAt kept e = getD kept (7 * e) 0
 
 abbrev pub keptAt : List ℕ → ℕ → Value
-keptAt table e = valueAt table (7 * e + 1)
+keptAt kept e = valueAt kept (7 * e + 1)
 
 -- an entry's value is the same whatever the parameters are
 abbrev pub Constant : List ℕ → ℕ → Type 0
 Constant image e = (xs ys : List Value) → evaluate image xs 32 e ≡ evaluate image ys 32 e
 
 -- what is marked as a constant has its value, and there is room for all
-pub record ConstantsKept (image table : List ℕ) : Type 0 where
-  pub room : 7 * expressions image ≤ length table
-  pub each : (e : ℕ) → e < expressions image → constantAt table e ≡ 1 → (xs : List Value) → evaluate image xs 32 e ≡ evaluation.Value (keptAt table e)
-  pub sound : (e : ℕ) → e < expressions image → constantAt table e ≡ 1 → Sound (keptAt table e)
+pub record ConstantsKept (image kept : List ℕ) : Type 0 where
+  pub room : 7 * expressions image ≤ length kept
+  pub each : (e : ℕ) → e < expressions image → constantAt kept e ≡ 1 → (xs : List Value) → evaluate image xs 32 e ≡ evaluation.Value (keptAt kept e)
+  pub sound : (e : ℕ) → e < expressions image → constantAt kept e ≡ 1 → Sound (keptAt kept e)
 
 -- what is marked as known has its value with the parameters at hand
-pub record ValuesKept (image : List ℕ) (angles : List Value) (known : List Bool) (table : List ℕ) : Type 0 where
-  pub fixed : ConstantsKept image table
-  pub each : (e : ℕ) → e < expressions image → getD known e false ≡ true → evaluate image angles 32 e ≡ evaluation.Value (keptAt table e)
-  pub sound : (e : ℕ) → e < expressions image → getD known e false ≡ true → Sound (keptAt table e)
+pub record ValuesKept (image : List ℕ) (angles : List Value) (known : List Bool) (kept : List ℕ) : Type 0 where
+  pub constants : ConstantsKept image kept
+  pub each : (e : ℕ) → e < expressions image → getD known e false ≡ true → evaluate image angles 32 e ≡ evaluation.Value (keptAt kept e)
+  pub sound : (e : ℕ) → e < expressions image → getD known e false ≡ true → Sound (keptAt kept e)
 
 -- a value is kept as entry e's, which is known then; the others stand as they stood
-pub record ValueStored (known : List Bool) (table : List ℕ) (e : ℕ) (x : Value) (known′ : List Bool) (table′ : List ℕ) : Type 0 where
+pub record ValueStored (known : List Bool) (kept : List ℕ) (e : ℕ) (x : Value) (known′ : List Bool) (kept′ : List ℕ) : Type 0 where
   pub marked : known′ ≡ set known e true
-  pub same : length table′ ≡ length table
-  pub constants : (i : ℕ) → constantAt table′ i ≡ constantAt table i
-  pub this : keptAt table′ e ≡ x
-  pub others : (i : ℕ) → ¬ (i ≡ e) → keptAt table′ i ≡ keptAt table i
+  pub same : length kept′ ≡ length kept
+  pub constants : (i : ℕ) → constantAt kept′ i ≡ constantAt kept i
+  pub this : keptAt kept′ e ≡ x
+  pub others : (i : ℕ) → ¬ (i ≡ e) → keptAt kept′ i ≡ keptAt kept i
+
+-- where expressions are evaluated: the layout is the image's, the angles of the frame are sound, and what is kept as a constant's value is so
+pub record AngleContext (image : List ℕ) (l : Layout) (angles : List Value) (kept : List ℕ) : Type 0 where
+  pub laid : LayoutOf image l
+  pub sound : SoundAngles angles
+  pub constants : ConstantsKept image kept
+
+-- an expression was evaluated with the angles of a frame, and what is kept by then is right
+abbrev pub Evaluated : List ℕ → List Value → ℕ → Evaluation → List Bool → List ℕ → Type 0
+Evaluated image angles e r known kept = EvaluatesTo (evaluate image angles 32 e) r × ValuesKept image angles known kept

@@ -1,3 +1,4 @@
+-- After i turns of the loop the first i angles are those in the words.
 use Prim.Native.Nat.{ℕ, _*_, _-_, _≤_, _<_}
 use mathlib.Core.Path.{_≡_, refl}
 use native.Mathlib.Omega.{arith}
@@ -5,10 +6,10 @@ use borrow.Author.Needs.{needs}
 use denote.Ref.{now}
 use lib.ListN.{length, getD}
 use Rattle.model.specs.Evaluate.{zeroValue}
-use Rattle.expression.specs.Table.{valueAt}
-use Rattle.expression.proofs.AngleLaws.{angles-are, front-put}
-use Rattle.expression.proofs.values_in.Statement.{statement}
-use Rattle.expression.proofs.values_in.Tie as tie
+use Rattle.expression.specs.Angles.{valueAt}
+use Rattle.expression.proofs.AnglesLaws.{angles-are, front-put}
+use Rattle.expression.proofs.angles_in.Statement.{statement}
+use Rattle.expression.proofs.angles_in.Tie as tie
 
 abbrev Inv-loop : tie.InvT-loop
 Inv-loop words values₀ i₀ values i = (i ≤ 16) × (length values ≡ 16) × ((j : ℕ) → j < i → getD values j zeroValue ≡ valueAt words (6 * j))
@@ -49,8 +50,8 @@ loop-again c =
 returns : tie.Need-returns Inv-loop μ-loop
 returns c = let l = c .before .loop in angles-are _ (l .values) zeroValue (l .inv .1) (λ i h. l .inv .2 i (omega (arith, c .loop-test .left)))
 
-pub values-in-spec : {M : Type 1} → statement M
-values-in-spec =
+pub angles-in-spec : {M : Type 1} → statement M
+angles-in-spec =
     tie.close
     (tie.spec
     Inv-loop

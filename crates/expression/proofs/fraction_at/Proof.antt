@@ -1,8 +1,9 @@
+-- The three words that are read are the fraction that stands there.
 use denote.Ref.{now}
-use Rattle.expression.proofs.TableLaws.{part-read}
+use Rattle.expression.proofs.AnglesLaws.{fraction-read}
 use borrow.Author.Needs.{needs}
-use Rattle.expression.proofs.part.Statement.{statement}
-use Rattle.expression.proofs.part.Tie as tie
+use Rattle.expression.proofs.fraction_at.Statement.{statement}
+use Rattle.expression.proofs.fraction_at.Tie as tie
 
 mul-t4 : tie.Need-mul-t4
 mul-t4 c = search needs
@@ -32,10 +33,10 @@ denominator-requires : tie.Need-denominator-requires
 denominator-requires c κs = search needs
 
 returns : tie.Need-returns
-returns c = part-read (now (c .before .before .before .before .before .args .words)) (c .before .before .before .before .before .args .at) _ (c .denominator .ensures)
+returns c = fraction-read (now (c .before .before .before .before .before .args .words)) (c .before .before .before .before .before .args .at) _ (c .denominator .ensures)
 
-pub part-spec : {M : Type 1} → statement M
-part-spec =
+pub fraction-at-spec : {M : Type 1} → statement M
+fraction-at-spec =
     tie.close
     (tie.spec
     mul-t4

@@ -1,8 +1,9 @@
+-- An angle put into an entry's words is the entry's value, and no other entry's words change.
 use denote.Ref.{now}
-use Rattle.expression.proofs.TableLaws.{stored}
+use Rattle.expression.proofs.KeptValuesLaws.{stored}
 use borrow.Author.Needs.{needs}
-use Rattle.expression.proofs.keep.Statement.{statement}
-use Rattle.expression.proofs.keep.Tie as tie
+use Rattle.expression.proofs.keep_value.Statement.{statement}
+use Rattle.expression.proofs.keep_value.Tie as tie
 
 mul-put-value : tie.Need-mul-put-value
 mul-put-value c = search needs
@@ -20,10 +21,10 @@ same-length : tie.Need-same-length
 same-length c = search needs
 
 returns : tie.Need-returns
-returns c = stored _ (now (c .before .before .before .before .before .args .table)) _ (c .before .before .before .before .before .args .e) (c .before .before .before .before .before .args .x) (c .before .before .before .before .before .pre .1) (c .before .before .before .before .before .pre .2) (c .before .before .put-value .ensures)
+returns c = stored _ (now (c .before .before .before .before .before .args .kept-values)) _ (c .before .before .before .before .before .args .e) (c .before .before .before .before .before .args .x) (c .before .before .before .before .before .pre .1) (c .before .before .before .before .before .pre .2) (c .before .before .put-value .ensures)
 
-pub keep-spec : {M : Type 1} → statement M
-keep-spec =
+pub keep-value-spec : {M : Type 1} → statement M
+keep-value-spec =
     tie.close
     (tie.spec
     mul-put-value

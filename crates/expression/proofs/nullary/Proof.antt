@@ -1,14 +1,15 @@
+-- An entry without operands has the value that the definition says of its kind.
 use Prim.Native.Nat.{_<_}
 use mathlib.Core.Path.{_≡_, sym, _∙_}
 use native.Mathlib.Omega.{arith}
 use denote.Ref.{now}
 use Rattle.model.specs.Evaluate.{zeroValue}
-use Rattle.expression.specs.Table.{anglesIn}
-use Rattle.expression.proofs.AngleLaws.{angle-at}
+use Rattle.expression.specs.Angles.{anglesIn}
+use Rattle.expression.proofs.AnglesLaws.{angle-at}
 use Rattle.expression.proofs.OperandLaws.{over-pi, over-real, over-int, over-variable, third}
 use borrow.Author.Needs.{needs}
-use Rattle.expression.proofs.leaf.Statement.{statement}
-use Rattle.expression.proofs.leaf.Tie as tie
+use Rattle.expression.proofs.nullary.Statement.{statement}
+use Rattle.expression.proofs.nullary.Tie as tie
 
 -- the last kind is a parameter's
 is-variable : (m : tie.At-match-rest) → m .before .args .kind ≡ 3
@@ -45,10 +46,10 @@ returns-3 : tie.Need-returns-3
 returns-3 c = over-int _ _ _ _ (c .before .match .keys3) (c .int .ensures)
 
 returns-4 : tie.Need-returns-4
-returns-4 c = let s = c .before .before .before in over-variable (anglesIn (now (s .args .variables))) _ _ _ (is-variable (c .before .before)) (s .pre .0) (small (c .before .before)) (c .value-at .ensures ∙ sym (angle-at (now (s .args .variables)) (s .args .a) zeroValue (small (c .before .before))))
+returns-4 c = let s = c .before .before .before in over-variable (anglesIn (now (s .args .angles))) _ _ _ (is-variable (c .before .before)) (s .pre .0) (small (c .before .before)) (c .value-at .ensures ∙ sym (angle-at (now (s .args .angles)) (s .args .a) zeroValue (small (c .before .before))))
 
-pub leaf-spec : {M : Type 1} → statement M
-leaf-spec =
+pub nullary-spec : {M : Type 1} → statement M
+nullary-spec =
     tie.close
     (tie.spec
     pi-requires

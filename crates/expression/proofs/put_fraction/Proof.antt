@@ -1,13 +1,14 @@
+-- Three stores are the three words of a fraction.
 use native.Mathlib.Omega.{arith}
 use lib.ListN.{length-set}
 use denote.Ref.{now}
-use Rattle.expression.proofs.TableLaws.{part-put}
+use Rattle.expression.proofs.AnglesLaws.{fraction-put}
 use borrow.Author.Needs.{needs}
-use Rattle.expression.proofs.put_part.Statement.{statement}
-use Rattle.expression.proofs.put_part.Tie as tie
+use Rattle.expression.proofs.put_fraction.Statement.{statement}
+use Rattle.expression.proofs.put_fraction.Tie as tie
 
-sign-requires : tie.Need-sign-requires
-sign-requires c κs = search needs
+sign-word-requires : tie.Need-sign-word-requires
+sign-word-requires c κs = search needs
 
 mul-words : tie.Need-mul-words
 mul-words c = search needs
@@ -22,7 +23,7 @@ mul-words-2 : tie.Need-mul-words-2
 mul-words-2 c = search needs
 
 slice-write-words-2 : tie.Need-slice-write-words-2
-slice-write-words-2 c = let a = c .before .before .args in omega (arith, c .before .before .pre, length-set (now (a .words)) (a .at) (c .sign .result))
+slice-write-words-2 c = let a = c .before .before .args in omega (arith, c .before .before .pre, length-set (now (a .words)) (a .at) (c .sign-word .result))
 
 add-words-2 : tie.Need-add-words-2
 add-words-2 c = search needs
@@ -37,13 +38,13 @@ same-length : tie.Need-same-length
 same-length c = search needs
 
 returns : tie.Need-returns
-returns c = let a = c .before .before .args in part-put (now (a .words)) (a .at) (a .x) _ (c .sign .ensures)
+returns c = let a = c .before .before .args in fraction-put (now (a .words)) (a .at) (a .x) _ (c .sign-word .ensures)
 
-pub put-part-spec : {M : Type 1} → statement M
-put-part-spec =
+pub put-fraction-spec : {M : Type 1} → statement M
+put-fraction-spec =
     tie.close
     (tie.spec
-    sign-requires
+    sign-word-requires
     mul-words
     slice-write-words
     add-words
