@@ -21,9 +21,9 @@ use Rattle.record_writer.proofs.WroteStepsLaws.{full-up}
 use Rattle.argument.specs.Frames.{scopeFrame}
 use Rattle.statement.specs.Statements.{apartCX, overlapAtCX}
 
-module _ (image : List ℕ) (scope : ℕ) (angles : List Value) (formals : List ℕ) where
+module _ (image : List ℕ) (scope : ℕ) (angles : List Value) (qubits : List ℕ) where
   abbrev frame : Frame
-  frame = scopeFrame image scope angles formals
+  frame = scopeFrame image scope angles qubits
 
   pub reset-round : (a i : ℕ) {q : ℕ} → q ≡ qubitIn image frame i a → _≡_ {A = List Step} (write [] (Record.Reset q) ∷ []) (writeReset image frame a i)
   unfolding writeReset
@@ -41,10 +41,11 @@ module _ (image : List ℕ) (scope : ℕ) (angles : List Value) (formals : List 
   unfolding writeU
   u-round theta phi lambda a i e = ap (λ (q : ℕ). write [] (Record.U theta phi lambda q) ∷ []) e
 
-pub overlap-told : (image : List ℕ) (a b : ℕ) {at : Position} {m n : ℕ} → m ≡ argumentAt image a → n ≡ argumentAt image b → linearized.Refused (record { kind = kind.OverlappingRegs m n; at = at }) ≡ overlapAtCX image a b at
-overlap-told image a b e f = rw (e, f) refl
+-- the refusal of a CX whose arguments have one qubit
+pub overlap-refusal : (image : List ℕ) (a b : ℕ) {at : Position} {m n : ℕ} → m ≡ argumentAt image a → n ≡ argumentAt image b → linearized.Refused (record { kind = kind.OverlappingRegs m n; at = at }) ≡ overlapAtCX image a b at
+overlap-refusal image a b e f = rw (e, f) refl
 
--- the ways of a CX
+-- the three ends of a round of a CX
 module _ (image : List ℕ) (a b : ℕ) {out : List ℕ} {p q : ℕ} {at : Position} where
   pub cx-overlaps : InOutput out at → p ≡ q → WroteSteps (apartCX image a b p q) out at (overlapAtCX image a b at) out
   unfolding apartCX play
