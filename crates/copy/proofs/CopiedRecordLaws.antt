@@ -1,4 +1,4 @@
--- A record's words from a place on.
+-- The words of a record from a place on: how many are before its qubits, how many are qubits, and both copied.
 use Prim.Native.Nat.{ℕ, zero, suc, _+_, _*_, _≤_, _<_}
 use native.Mathlib.Omega.{arith}
 use mathlib.Core.Path.{_≡_, refl, sym, ap, ap₂, _∙_}
@@ -10,11 +10,11 @@ use lib.Seq.{sets, length-take-le, getD-drop, getD-take}
 use borrow.Author.Tests.{eq-eqb, ne-eqb}
 use Rattle.model.proofs.PlayLaws.{sets-append}
 use Rattle.model.proofs.CopyLaws.{part-stays}
-use Rattle.copy.specs.Copying.{fixedAt, countAt, lengthAt, renamedAt}
+use Rattle.copy.specs.CopiedRecord.{wordsBeforeQubits, qubitCount, copiedLength, renamedWords}
 
 module _ (out : List ℕ) (from : ℕ) where
-  pub some-words : 1 ≤ fixedAt out from
-  unfolding fixedAt
+  pub some-words : 1 ≤ wordsBeforeQubits out from
+  unfolding wordsBeforeQubits
   some-words = go (eqb (getD out from 0) 1) (eqb (getD out from 0) 2)
     where
       go : (b c : Bool) → 1 ≤ cond b 13 (cond c 1 (4 + 4 * getD out (from + 2) 0))
@@ -23,37 +23,37 @@ module _ (out : List ℕ) (from : ℕ) where
       go false false = omega arith
 
   module _ (e : getD out from 0 ≡ 1) where
-    pub fixed-U : 13 ≡ fixedAt out from
-    unfolding fixedAt
+    pub fixed-U : 13 ≡ wordsBeforeQubits out from
+    unfolding wordsBeforeQubits
     fixed-U = sym (ap (λ b. cond b 13 (cond (eqb (getD out from 0) 2) 1 (4 + 4 * getD out (from + 2) 0))) (eq-eqb _ 1 e))
 
-    pub count-U : 1 ≡ countAt out from
-    unfolding countAt
+    pub count-U : 1 ≡ qubitCount out from
+    unfolding qubitCount
     count-U = sym (ap (λ b. cond b 1 (cond (eqb (getD out from 0) 2) 2 (getD out (from + 3) 0))) (eq-eqb _ 1 e))
 
   module _ (d : ¬ (getD out from 0 ≡ 1)) (e : getD out from 0 ≡ 2) where
-    pub fixed-CX : 1 ≡ fixedAt out from
-    unfolding fixedAt
+    pub fixed-CX : 1 ≡ wordsBeforeQubits out from
+    unfolding wordsBeforeQubits
     fixed-CX = sym (ap₂ (λ b c. cond b 13 (cond c 1 (4 + 4 * getD out (from + 2) 0))) (ne-eqb _ 1 d) (eq-eqb _ 2 e))
 
-    pub count-CX : 2 ≡ countAt out from
-    unfolding countAt
+    pub count-CX : 2 ≡ qubitCount out from
+    unfolding qubitCount
     count-CX = sym (ap₂ (λ b c. cond b 1 (cond c 2 (getD out (from + 3) 0))) (ne-eqb _ 1 d) (eq-eqb _ 2 e))
 
   module _ (d : ¬ (getD out from 0 ≡ 1)) (e : ¬ (getD out from 0 ≡ 2)) where
-    pub fixed-opaque : 4 + 4 * getD out (from + 2) 0 ≡ fixedAt out from
-    unfolding fixedAt
+    pub fixed-opaque : 4 + 4 * getD out (from + 2) 0 ≡ wordsBeforeQubits out from
+    unfolding wordsBeforeQubits
     fixed-opaque = sym (ap₂ (λ b c. cond b 13 (cond c 1 (4 + 4 * getD out (from + 2) 0))) (ne-eqb _ 1 d) (ne-eqb _ 2 e))
 
-    pub count-opaque : getD out (from + 3) 0 ≡ countAt out from
-    unfolding countAt
+    pub count-opaque : getD out (from + 3) 0 ≡ qubitCount out from
+    unfolding qubitCount
     count-opaque = sym (ap₂ (λ b c. cond b 1 (cond c 2 (getD out (from + 3) 0))) (ne-eqb _ 1 d) (ne-eqb _ 2 e))
 
 -- the two parts, one after the other
-pub both-parts : (r : ℕ → ℕ) (out out′ out″ : List ℕ) (from to fixed count : ℕ) → fixed ≡ fixedAt out from → count ≡ countAt out from
-    → from + lengthAt out from ≤ to → to + lengthAt out from ≤ length out
+pub both-parts : (r : ℕ → ℕ) (out out′ out″ : List ℕ) (from to fixed count : ℕ) → fixed ≡ wordsBeforeQubits out from → count ≡ qubitCount out from
+    → from + copiedLength out from ≤ to → to + copiedLength out from ≤ length out
     → out′ ≡ sets out to (take fixed (drop from out)) → out″ ≡ sets out′ (to + fixed) (map r (take count (drop (from + fixed) out′)))
-    → out″ ≡ sets out to (renamedAt r out from)
+    → out″ ≡ sets out to (renamedWords r out from)
 both-parts r out out′ out″ from to fixed count f c before fits e d =
     d
     ∙ ap (λ l. sets out′ (to + fixed) (map r l)) (ap (λ l. take count (drop (from + fixed) l)) e ∙ part-stays (from + fixed) count to (take fixed (drop from out)) out (omega arith))

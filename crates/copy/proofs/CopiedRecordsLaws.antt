@@ -1,4 +1,4 @@
--- The records that are copied.
+-- Records that are copied in turn: how many are, that the next one stands whole, and that the words say which copy it is.
 use Prim.Native.Nat.{ℕ, zero, suc, _+_, _-_, _*_, _≤_, _<_}
 use native.Mathlib.Nat.{add-zero, zero-add, suc-add}
 use native.Mathlib.Omega.{arith}
@@ -14,9 +14,9 @@ use Rattle.model.proofs.Lengths.{length-words}
 use Rattle.model.proofs.PlayLaws.{sets-append}
 use Rattle.model.proofs.Renamed.{renamedRecord}
 use Rattle.model.proofs.CopyLaws.{Plain, plain-U, plain-CX, plain-opaque, qubitsFrom, plain-words, copiedWords, part-stays}
-use Rattle.copy.specs.Copying.{fixedAt, countAt, lengthAt, renamedAt}
-use Rattle.copy.specs.Copied.{Held, Copied, Copying}
-use Rattle.copy.proofs.RecordLaws.{some-words, fixed-U, fixed-CX, fixed-opaque, count-U, count-CX, count-opaque}
+use Rattle.copy.specs.CopiedRecord.{wordsBeforeQubits, qubitCount, copiedLength, renamedWords}
+use Rattle.copy.specs.CopiedRecords.{RecordsStand, RecordsCopied, CopiedSoFar}
+use Rattle.copy.proofs.CopiedRecordLaws.{some-words, fixed-U, fixed-CX, fixed-opaque, count-U, count-CX, count-opaque}
 
 -- ---- one record
 
@@ -33,8 +33,8 @@ module _ (out : List ℕ) (from : ℕ) (x : Record) (there : take (length (encod
   first-there h = ap (λ k. getD out k 0) (sym (add-zero from)) ∙ word-there 0 h
 
   pub record Sized : Type 0 where
-    pub fixed : fixedAt out from ≡ qubitsFrom x
-    pub whole : lengthAt out from ≡ length (encode x)
+    pub fixed : wordsBeforeQubits out from ≡ qubitsFrom x
+    pub whole : copiedLength out from ≡ length (encode x)
     pub inside : qubitsFrom x ≤ length (encode x)
 
 module _ (out : List ℕ) (from : ℕ) where
@@ -61,11 +61,11 @@ module _ (out : List ℕ) (from : ℕ) where
       }
 
   -- what is written of it is the renamed record
-  pub renamed-there : (r : ℕ → ℕ) (x : Record) → take (length (encode x)) (drop from out) ≡ encode x → Plain x → renamedAt r out from ≡ encode (renamedRecord r x)
+  pub renamed-there : (r : ℕ → ℕ) (x : Record) → take (length (encode x)) (drop from out) ≡ encode x → Plain x → renamedWords r out from ≡ encode (renamedRecord r x)
   renamed-there r x there p =
       let z = sized x there p in
-      let f = fixedAt out from in
-      let c = countAt out from in
+      let f = wordsBeforeQubits out from in
+      let c = qubitCount out from in
       let n = length (encode x) in
       let front : take f (drop from out) ≡ take (qubitsFrom x) (encode x) =
       sym (take-take f n (drop from out) (omega (arith, z .fixed, z .inside))) ∙ ap₂ take (z .fixed) there in
@@ -100,14 +100,14 @@ module _ (r : ℕ → ℕ) where
   copied-more l x = ap (flatMap encode) (map-more (renamedRecord r) l x) ∙ flat-more encode (map (renamedRecord r) l) (renamedRecord r x)
 
   module _ (out : List ℕ) (from words to : ℕ) where
-    pub copying-start : Held out from words → Copying r out from words to from to out
+    pub copying-start : RecordsStand out from words → CopiedSoFar r out from words to from to out
     unfolding flatMap
     copying-start h =
         record {
           before = [];
-          behind = h .records;
+          rest = h .records;
           plain-before = nil;
-          plain-behind = h .plain;
+          plain-rest = h .plain;
           stands = h .stands;
           read = sym (add-zero from);
           written = sym (add-zero to);
@@ -120,18 +120,18 @@ module _ (r : ℕ → ℕ) where
       pub plain : Plain it
       pub there : take (length (encode it)) (drop a out′) ≡ encode it
       pub inside : a + length (encode it) ≤ from + words
-      pub later : (out″ : List ℕ) → out″ ≡ sets out′ b (encode (renamedRecord r it)) → Copying r out from words to (a + length (encode it)) (b + length (encode it)) out″
+      pub later : (out″ : List ℕ) → out″ ≡ sets out′ b (encode (renamedRecord r it)) → CopiedSoFar r out from words to (a + length (encode it)) (b + length (encode it)) out″
 
-    module _ (ends : from + words ≤ to) (fits : to + words ≤ length out) {a b : ℕ} {out′ : List ℕ} (c : Copying r out from words to a b out′) where
-      all-words : words ≡ length (flatMap encode (c .before)) + length (flatMap encode (c .behind))
-      all-words = sym (length-take-le words (drop from out) (simp length-drop (omega arith))) ∙ ap length (c .stands) ∙ length-append (flatMap encode (c .before)) (flatMap encode (c .behind))
+    module _ (ends : from + words ≤ to) (fits : to + words ≤ length out) {a b : ℕ} {out′ : List ℕ} (c : CopiedSoFar r out from words to a b out′) where
+      all-words : words ≡ length (flatMap encode (c .before)) + length (flatMap encode (c .rest))
+      all-words = sym (length-take-le words (drop from out) (simp length-drop (omega arith))) ∙ ap length (c .stands) ∙ length-append (flatMap encode (c .before)) (flatMap encode (c .rest))
 
-      step : (x : Record) (rest : List Record) → c .behind ≡ x ∷ rest → All Plain (x ∷ rest) → Next a b out′
+      step : (x : Record) (rest : List Record) → c .rest ≡ x ∷ rest → All Plain (x ∷ rest) → Next a b out′
       unfolding flatMap
       step x rest e (cons p k) =
           let lb = length (flatMap encode (c .before)) in
           let n = length (encode x) in
-          let long : length (flatMap encode (c .behind)) ≡ n + length (flatMap encode rest) = ap (λ l. length (flatMap encode l)) e ∙ length-append (encode x) (flatMap encode rest) in
+          let long : length (flatMap encode (c .rest)) ≡ n + length (flatMap encode rest) = ap (λ l. length (flatMap encode l)) e ∙ length-append (encode x) (flatMap encode rest) in
           let whole : take words (drop from out) ≡ flatMap encode (c .before) ++ (encode x ++ flatMap encode rest) = c .stands ∙ ap (λ l. flatMap encode (c .before) ++ flatMap encode l) e in
           let inside : a + n ≤ from + words = omega (arith, all-words, long, c .read) in
           let part : take n (drop a out) ≡ encode x =
@@ -148,9 +148,9 @@ module _ (r : ℕ → ℕ) where
                 let len : length (flatMap encode (c .before ++ x ∷ [])) ≡ lb + n = ap length more ∙ length-append (flatMap encode (c .before)) (encode x) in
                 record {
                   before = c .before ++ x ∷ [];
-                  behind = rest;
+                  rest = rest;
                   plain-before = All-append (c .plain-before) (cons p nil);
-                  plain-behind = k;
+                  plain-rest = k;
                   stands = whole ∙ sym (append-assoc (flatMap encode (c .before)) (encode x) (flatMap encode rest)) ∙ ap (λ l. l ++ flatMap encode rest) (sym more);
                   read = omega (arith, len, c .read);
                   written = omega (arith, len, c .written);
@@ -162,17 +162,17 @@ module _ (r : ℕ → ℕ) where
 
       pub copying-next : a < from + words → Next a b out′
       unfolding flatMap
-      copying-next h = go (c .behind) refl (c .plain-behind)
+      copying-next h = go (c .rest) refl (c .plain-rest)
         where
-          go : (l : List Record) → c .behind ≡ l → All Plain l → Next a b out′
+          go : (l : List Record) → c .rest ≡ l → All Plain l → Next a b out′
           go [] e k = absurd (omega (arith, all-words, ap (λ l. length (flatMap encode l)) e, c .read))
           go (x ∷ rest) e k = step x rest e k
 
-      pub copying-done : from + words ≤ a → Copied r out from words to out′
+      pub copying-done : from + words ≤ a → RecordsCopied r out from words to out′
       unfolding flatMap encode
-      copying-done h = go (c .behind) refl
+      copying-done h = go (c .rest) refl
         where
-          go : (l : List Record) → c .behind ≡ l → Copied r out from words to out′
+          go : (l : List Record) → c .rest ≡ l → RecordsCopied r out from words to out′
           go [] e =
               record {
                 records = c .before;
@@ -183,22 +183,22 @@ module _ (r : ℕ → ℕ) where
           go (x ∷ rest) e = absurd (omega (arith, all-words, ap (λ l. length (flatMap encode l)) e ∙ length-append (encode x) (flatMap encode rest), c .read))
 
       module _ (h : a < from + words) where
-        long-at : lengthAt out′ a ≡ length (encode (copying-next h .it))
+        long-at : copiedLength out′ a ≡ length (encode (copying-next h .it))
         long-at = let x = copying-next h in sized out′ a (x .it) (x .there) (x .plain) .whole
 
-        pub next-inside : a + lengthAt out′ a ≤ from + words
+        pub next-inside : a + copiedLength out′ a ≤ from + words
         next-inside = omega (arith, long-at, copying-next h .inside)
 
-        pub next-before : a + lengthAt out′ a ≤ b
+        pub next-before : a + copiedLength out′ a ≤ b
         next-before = omega (arith, next-inside, c .written)
 
-        pub next-fits : length out′ ≡ length out → b + lengthAt out′ a ≤ length out′
+        pub next-fits : length out′ ≡ length out → b + copiedLength out′ a ≤ length out′
         next-fits e = omega (arith, next-inside, c .written, c .read)
 
-        pub next-some : 1 ≤ lengthAt out′ a
+        pub next-some : 1 ≤ copiedLength out′ a
         next-some = omega (arith, some-words out′ a)
 
-        pub next-later : (n : ℕ) (out″ : List ℕ) → n ≡ lengthAt out′ a → out″ ≡ sets out′ b (renamedAt r out′ a) → Copying r out from words to (a + n) (b + n) out″
+        pub next-later : (n : ℕ) (out″ : List ℕ) → n ≡ copiedLength out′ a → out″ ≡ sets out′ b (renamedWords r out′ a) → CopiedSoFar r out from words to (a + n) (b + n) out″
         next-later n out″ e d =
             let x = copying-next h in
             let k = x .later out″ (d ∙ ap (sets out′ b) (renamed-there out′ a r (x .it) (x .there) (x .plain))) in
@@ -223,9 +223,9 @@ module _ (r : ℕ → ℕ) where
       let ws = encode x ++ flatMap encode xs in
       let vs = encode y ++ flatMap encode ys in
       let long : length (encode x) ≡ length (encode y) =
-      sym (sized ws 0 x (at-front x (flatMap encode xs)) p .whole) ∙ ap (λ l. lengthAt l 0) e ∙ sized vs 0 y (at-front y (flatMap encode ys)) q .whole in
+      sym (sized ws 0 x (at-front x (flatMap encode xs)) p .whole) ∙ ap (λ l. copiedLength l 0) e ∙ sized vs 0 y (at-front y (flatMap encode ys)) q .whole in
       let first : encode (renamedRecord r x) ≡ encode (renamedRecord r y) =
-      sym (renamed-there ws 0 r x (at-front x (flatMap encode xs)) p) ∙ ap (λ l. renamedAt r l 0) e ∙ renamed-there vs 0 r y (at-front y (flatMap encode ys)) q in
+      sym (renamed-there ws 0 r x (at-front x (flatMap encode xs)) p) ∙ ap (λ l. renamedWords r l 0) e ∙ renamed-there vs 0 r y (at-front y (flatMap encode ys)) q in
       let later : flatMap encode xs ≡ flatMap encode ys =
       sym (drop-at (encode x) (flatMap encode xs) (length (encode x)) refl) ∙ ap₂ drop long e ∙ drop-at (encode y) (flatMap encode ys) (length (encode y)) refl in
       ap₂ _++_ first (copied-once k j later)
