@@ -1,3 +1,4 @@
+-- The answer is the record with its length, the end, or no record.
 use mathlib.Core.Path.{ap}
 use Rattle.record_reader.specs.Answer.{nextRecordOf}
 use native.Mathlib.Omega.{arith}

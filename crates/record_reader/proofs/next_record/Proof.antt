@@ -1,3 +1,4 @@
+-- The part of the slice that is handed back is the record at the position.
 use Rattle.record_reader.proofs.LengthLaws.{part-is, no-part, fits-left}
 use native.Mathlib.Omega.{arith}
 use denote.Ref.{now}

@@ -1,3 +1,4 @@
+-- The words that are appended are the record of a measurement.
 use mathlib.Core.Path.{refl}
 use borrow.Author.Needs.{needs}
 use Rattle.model.specs.Records.{Record, encode, kind, fields}
