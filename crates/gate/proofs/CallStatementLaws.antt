@@ -39,7 +39,7 @@ named-is image p n = parameters-from image p 0 n ∙ ap (λ (m : ℕ). map (para
 
 -- ---- what the check says
 
-module _ {image : List ℕ} {l : Layout} {qubit-starts bit-starts : List ℕ} {scope : ℕ} {qubits : List ℕ} (st : ScopeContext image l qubit-starts bit-starts scope qubits) where
+module _ {image : List ℕ} {l : Layout} {qubit-starts : List ℕ} {scope : ℕ} {qubits : List ℕ} (st : ScopeContext image l qubit-starts scope qubits) where
   below : (g : ℕ) → g < gates image → (scope : ℕ) → T (downward image scope g) → g < nested scope
   unfolding downward
   below g h zero d = omega (arith, st .accepted .fewGates)
@@ -82,7 +82,7 @@ module _ {image : List ℕ} {l : Layout} {qubit-starts bit-starts : List ℕ} {s
         pub named-listed : ListedExpressions image (variables image scope) (call .expressions) (call .parameters)
         named-listed =
             subst (λ (c : Call). ListedExpressions image (variables image scope) (c .expressions) (c .parameters)) (sym e) (record {
-              few = (few-parameters (st .accepted) gate (call-facts .0), few-variables image (st .accepted) scope _ (st .ready));
+              few = (few-parameters (st .accepted) gate (call-facts .0), few-variables image (st .accepted) scope _ (st .frame));
               near = omega (arith, call-facts .1, st .laid .whole, st .laid .short);
               each = subst (λ (es : List ℕ). T (all (expressionOk image (variables image scope) 32) es)) (sym (named-is image (word image (at + 2)) (gateParameters image gate)))
                   (All-all _ (All-of (parameter image) (all-All _ _ (call-facts .4))));

@@ -19,13 +19,13 @@ use Rattle.model.proofs.StepsSound.{all-below}
 use Rattle.model.proofs.TraceLaws.{under, opening-under}
 use Rattle.image.specs.declared.Layout.{Layout}
 use Rattle.gate.specs.declared.Call.{Call}
-use Rattle.argument.specs.Frames.{scopeFrame, formalsOf, ScopeContext, RoundQubits}
+use Rattle.argument.specs.Frames.{scopeFrame, scopeQubits, ScopeContext, RoundQubits}
 use Rattle.gate.specs.RanSteps.{plainSteps}
 use Rattle.gate.specs.CallStatement.{CallStatement, callSteps}
 
 -- ---- a round of a call
 
-module _ {image : List ℕ} {l : Layout} {qubit-starts bit-starts : List ℕ} {scope : ℕ} {qubits : List ℕ} (st : ScopeContext image l qubit-starts bit-starts scope qubits) {call : Call} (c : CallStatement image l scope call) where
+module _ {image : List ℕ} {l : Layout} {qubit-starts : List ℕ} {scope : ℕ} {qubits : List ℕ} (st : ScopeContext image l qubit-starts scope qubits) {call : Call} (c : CallStatement image l scope call) where
   -- what it says of its gate
   arguments-are : call .arguments ≡ gateArguments image (call .gate)
   arguments-are = ap (λ (x : Call). x .arguments) (c .read) ∙ sym (ap (λ (x : Call). gateArguments image (x .gate)) (c .read))
@@ -41,21 +41,20 @@ module _ {image : List ℕ} {l : Layout} {qubit-starts bit-starts : List ℕ} {s
     new-qubits : take (gateArguments image (call .gate)) q ≡ map (qubitIn image (scopeFrame image scope [] qubits) i) (range (call .argument) (call .arguments))
     new-qubits = ap (λ (n : ℕ). take n q) (sym arguments-are) ∙ k .front
 
-    pub opened-stands : i < rounds image scope (range (call .argument) (call .arguments)) → ScopeContext image l qubit-starts bit-starts (suc (call .gate)) q
-    unfolding formalsOf
-    opened-stands h =
+    pub opened-in-scope : i < rounds image scope (range (call .argument) (call .arguments)) → ScopeContext image l qubit-starts (suc (call .gate)) q
+    unfolding scopeQubits
+    opened-in-scope h =
         record {
           laid = st .laid;
           accepted = st .accepted;
-          quantum = st .quantum;
-          classical = st .classical;
-          wide = k .full;
-          ready = (
+          starts = st .starts;
+          sixteen = k .sixteen;
+          frame = (
             omega (arith, c .gate-listed, st .laid .gates-is),
             omega arith,
-            length-take (gateArguments image (call .gate)) q ∙ omega (arith, arguments-are, c .arguments-fit .few, k .full),
+            length-take (gateArguments image (call .gate)) q ∙ omega (arith, arguments-are, c .arguments-fit .few, k .sixteen),
             subst (Declared image) (sym new-qubits)
-                (all-below image (st .accepted) (scopeFrame image scope [] qubits) (st .ready) i (range (call .argument) (call .arguments)) (all-All _ _ (c .arguments-fit .each)) (c .arguments-fit .match) h),
+                (all-below image (st .accepted) (scopeFrame image scope [] qubits) (st .frame) i (range (call .argument) (call .arguments)) (all-All _ _ (c .arguments-fit .each)) (c .arguments-fit .match) h),
           );
         }
 
@@ -63,7 +62,7 @@ module _ {image : List ℕ} {l : Layout} {qubit-starts bit-starts : List ℕ} {s
     pub body-round : (levels-left : ℕ) (angles new : List Value) → ¬ (call .body ≡ 0)
         → map (under (scope ∷ statementAt image (call .statement) ∷ [])) (openGate image (opening image levels-left) (scopeFrame image (suc (call .gate)) new q) (call .gate))
         ≡ visitGate image (opening image levels-left) (scopeFrame image scope angles qubits) (call .statement) (call .gate) (range (call .argument) (call .arguments)) (take (call .parameters) new) i
-    unfolding visitGate pushFrame formalsOf variables qubitIn
+    unfolding visitGate pushFrame scopeQubits variables qubitIn
     body-round levels-left angles new h =
         sym (opening-under (scope ∷ statementAt image (call .statement) ∷ []) image levels-left (scopeFrame image (suc (call .gate)) new q) (call .gate))
         ∙ rw (ne-eqb (gateBody image (call .gate)) 0 (λ e. h (body-is ∙ e)), new-qubits, parameters-are) refl
@@ -126,7 +125,7 @@ module _ (image : List ℕ) (g levels-left : ℕ) (angles : List Value) (q : Lis
   opened = scopeFrame image (suc g) angles q
 
   pub cut-steps : levels-left ≡ 0 → _≡_ {A = List Step} (write [] (Record.Opaque g [] (take (gateArguments image g) q)) ∷ []) (openGate image (opening image levels-left) opened g)
-  unfolding openGate opening formalsOf
+  unfolding openGate opening scopeQubits
   cut-steps e = rw e refl
 
   abbrev pub bodyStatement : ℕ → ℕ → List Step
@@ -140,5 +139,5 @@ module _ (image : List ℕ) (g levels-left : ℕ) (angles : List Value) (q : Lis
       ∙ rw (← run) refl ∙ ap (λ (k : ℕ). openGate image (opening image k) opened g) e
 
 -- a gate has at most 16 arguments
-pub few-arguments : {image : List ℕ} {l : Layout} {qubit-starts bit-starts : List ℕ} {g : ℕ} {qubits : List ℕ} → ScopeContext image l qubit-starts bit-starts (suc g) qubits → g < l .gates → gateArguments image g ≤ 16
+pub few-arguments : {image : List ℕ} {l : Layout} {qubit-starts : List ℕ} {g : ℕ} {qubits : List ℕ} → ScopeContext image l qubit-starts (suc g) qubits → g < l .gates → gateArguments image g ≤ 16
 few-arguments {image} {g = g} st h = accepted.few-arguments (st .accepted) g (omega (arith, h, st .laid .gates-is))

@@ -27,7 +27,8 @@ use Rattle.record_writer.specs.declared.Position.{Position}
 use Rattle.record_writer.specs.declared.Linearized.{Linearized}
 use Rattle.gate.specs.declared.Call.{Call}
 use Rattle.record_writer.specs.Promise.{SoundAngles, WroteSteps}
-use Rattle.argument.specs.Frames.{scopeFrame, ScopeContext}
+use Rattle.argument.specs.Frames.{scopeFrame, ScopeContext, AcceptedArgument, AcceptedArguments}
+use Rattle.statement.specs.Statements.{CXArguments, MeasureArguments, UStatement, uSteps, cxSteps, barrierSteps, measureSteps, resetSteps}
 use Rattle.expression.specs.NamedExpressions.{namedAt, ListedExpressions}
 use Rattle.gate.specs.PlainStatement.{PlainStatement, IsCall}
 use Rattle.gate.specs.RanSteps.{plainSteps}
@@ -95,7 +96,7 @@ three image p =
 
 -- ---- a statement that opens no gate, by its first words
 
-module _ {image : List ℕ} {l : Layout} {qubit-starts bit-starts : List ℕ} {scope : ℕ} {qubits : List ℕ} (st : ScopeContext image l qubit-starts bit-starts scope qubits) (s : ℕ) {p k a b : ℕ}
+module _ {image : List ℕ} {l : Layout} {qubit-starts : List ℕ} {scope : ℕ} {qubits : List ℕ} (st : ScopeContext image l qubit-starts scope qubits) (s : ℕ) {p k a b : ℕ}
     (ep : p ≡ statementAt image s) (ek : k ≡ word image p) (ea : a ≡ word image (p + 1)) (eb : b ≡ word image (p + 2)) (f : PlainStatement image l scope s) where
   known : {x : Statement} → statement image s ≡ x → PlainFacts image scope x
   known e = subst (PlainFacts image scope) e (f .facts)
@@ -122,59 +123,63 @@ module _ {image : List ℕ} {l : Layout} {qubit-starts bit-starts : List ℕ} {s
 
   -- what its acceptance says
 
-  pub u-needs : {q : ℕ} → k ≡ 1 → q ≡ word image (p + 4) → ListedExpressions image (variables image scope) (p + 1) 3 × (q < l .arguments) × T (argumentOk image scope q)
+  pub u-needs : {q : ℕ} → k ≡ 1 → q ≡ word image (p + 4) → UStatement image l scope (p + 1) q
   u-needs e eq =
-      let g = known (u-statement e eq) in (
-        record {
-          few = (omega arith, few-variables image (st .accepted) scope _ (st .ready));
+      let g = known (u-statement e eq) in
+      record {
+        expressions = record {
+          few = (omega arith, few-variables image (st .accepted) scope _ (st .frame));
           near = omega (arith, near-statement (st .laid) s (f .listed) ep);
           each = subst (λ (es : List ℕ). T (all (expressionOk image (variables image scope) 32) es)) (sym (three image p)) (g .4);
-        },
-        listed (g .3) (st .laid .arguments-is),
-        g .5,
-      )
+        };
+        argument = record { listed = listed (g .3) (st .laid .arguments-is); ok = g .5 };
+      }
 
-  pub cx-needs : k ≡ 2 → (a < l .arguments) × (b < l .arguments) × T (argumentOk image scope a) × T (argumentOk image scope b) × T (matching (argumentSize image scope a ∷ argumentSize image scope b ∷ []))
-  cx-needs e = let g = known (cx-statement e) in (listed (g .0) (st .laid .arguments-is), listed (g .1) (st .laid .arguments-is), g .2, g .3, g .4)
+  pub cx-needs : k ≡ 2 → CXArguments image l scope a b
+  cx-needs e =
+      let g = known (cx-statement e) in
+      record { control = record { listed = listed (g .0) (st .laid .arguments-is); ok = g .2 }; target = record { listed = listed (g .1) (st .laid .arguments-is); ok = g .3 }; match = g .4 }
 
-  pub barrier-needs : k ≡ 4 → (a + b ≤ l .arguments) × T (all (argumentOk image scope) (range a b))
-  barrier-needs e = let g = known (barrier-statement e) in (omega (arith, g .0, st .laid .arguments-is), g .1)
+  pub barrier-needs : k ≡ 4 → AcceptedArguments image l scope a b
+  barrier-needs e = let g = known (barrier-statement e) in record { listed = omega (arith, g .0, st .laid .arguments-is); each = g .1 }
 
-  pub measure-needs : k ≡ 5 → (a < l .arguments) × (b < l .arguments) × T (argumentOk image scope a) × T (classicalArgumentOk image b) × T (matching (argumentSize image scope a ∷ classicalArgumentSize image b ∷ []))
-  measure-needs e = let g = known (measure-statement e) in (listed (g .1) (st .laid .arguments-is), listed (g .2) (st .laid .arguments-is), g .3, g .4, g .5)
+  pub measure-needs : k ≡ 5 → MeasureArguments image l scope a b
+  measure-needs e =
+      let g = known (measure-statement e) in
+      record { qubits = record { listed = listed (g .1) (st .laid .arguments-is); ok = g .3 }; bits = record { listed = listed (g .2) (st .laid .arguments-is); ok = g .4 }; match = g .5 }
 
-  pub reset-needs : ¬ (k ≡ 1) → ¬ (k ≡ 2) → ¬ IsCall image s → ¬ (k ≡ 4) → ¬ (k ≡ 5) → (a < l .arguments) × T (argumentOk image scope a)
-  reset-needs n1 n2 n3 n4 n5 = let g = known (reset-statement n1 n2 n3 n4 n5) in (listed (g .1) (st .laid .arguments-is), g .2)
+  pub reset-needs : ¬ (k ≡ 1) → ¬ (k ≡ 2) → ¬ IsCall image s → ¬ (k ≡ 4) → ¬ (k ≡ 5) → AcceptedArgument image l scope a
+  reset-needs n1 n2 n3 n4 n5 = let g = known (reset-statement n1 n2 n3 n4 n5) in record { listed = listed (g .1) (st .laid .arguments-is); ok = g .2 }
 
   -- what it does. The frame's angles show in a U alone.
 
   module _ (angles : List Value) {out out′ : List ℕ} {at : Position} {r : Linearized} where
     pub u-wrote : {q : ℕ} → k ≡ 1 → q ≡ word image (p + 4)
-        → WroteSteps (withValues image (scopeFrame image scope angles qubits) (namedAt image (p + 1) 3) (λ xs. inRounds (rounds image scope (q ∷ [])) (writeU image (scopeFrame image scope angles qubits) q xs))) out at r out′
+        → WroteSteps (uSteps image scope angles qubits (p + 1) q) out at r out′
         → WroteSteps (plainSteps image 0 (scopeFrame image scope angles qubits) s) out at r out′
     unfolding visitPlain
     u-wrote e eq w = rw (u-statement e eq) (rw (three image p) at w)
 
-    pub cx-wrote : k ≡ 2 → WroteSteps (inRounds (rounds image scope (a ∷ b ∷ [])) (writeCX image (scopeFrame image scope [] qubits) a b)) out at r out′
+    pub cx-wrote : k ≡ 2 → WroteSteps (cxSteps image scope qubits a b) out at r out′
         → WroteSteps (plainSteps image 0 (scopeFrame image scope angles qubits) s) out at r out′
     unfolding visitPlain writeCX qubitIn
     cx-wrote e w = rw (cx-statement e) w
 
-    pub barrier-wrote : k ≡ 4 → WroteSteps (write [] (Record.Barrier (rising (flatMap (argumentQubits image (scopeFrame image scope [] qubits)) (range a b)))) ∷ []) out at r out′
+    pub barrier-wrote : k ≡ 4 → WroteSteps (barrierSteps image scope qubits a b) out at r out′
         → WroteSteps (plainSteps image 0 (scopeFrame image scope angles qubits) s) out at r out′
     unfolding visitPlain argumentQubits qubitIn
     barrier-wrote e w = rw (barrier-statement e) w
 
-    pub measure-wrote : k ≡ 5 → WroteSteps (inRounds (largest (argumentSize image scope a ∷ classicalArgumentSize image b ∷ [])) (writeMeasure image (scopeFrame image scope [] qubits) a b)) out at r out′
+    pub measure-wrote : k ≡ 5 → WroteSteps (measureSteps image scope qubits a b) out at r out′
         → WroteSteps (plainSteps image 0 (scopeFrame image scope angles qubits) s) out at r out′
     unfolding visitPlain writeMeasure qubitIn
     measure-wrote e w = rw (measure-statement e) w
 
-    pub reset-wrote : ¬ (k ≡ 1) → ¬ (k ≡ 2) → ¬ IsCall image s → ¬ (k ≡ 4) → ¬ (k ≡ 5) → WroteSteps (inRounds (rounds image scope (a ∷ [])) (writeReset image (scopeFrame image scope [] qubits) a)) out at r out′
+    pub reset-wrote : ¬ (k ≡ 1) → ¬ (k ≡ 2) → ¬ IsCall image s → ¬ (k ≡ 4) → ¬ (k ≡ 5) → WroteSteps (resetSteps image scope qubits a) out at r out′
         → WroteSteps (plainSteps image 0 (scopeFrame image scope angles qubits) s) out at r out′
     unfolding visitPlain writeReset qubitIn
     reset-wrote n1 n2 n3 n4 n5 w = rw (reset-statement n1 n2 n3 n4 n5) w
 
 -- sixteen angles of 0
 pub sound-zeros : {x : Value} → Sound x → SoundAngles (x ∷ x ∷ x ∷ x ∷ x ∷ x ∷ x ∷ x ∷ x ∷ x ∷ x ∷ x ∷ x ∷ x ∷ x ∷ x ∷ [])
-sound-zeros h = record { full = refl; each = λ i k. All-getD {P = Sound} i zeroValue k (cons h (cons h (cons h (cons h (cons h (cons h (cons h (cons h (cons h (cons h (cons h (cons h (cons h (cons h (cons h (cons h nil)))))))))))))))) }
+sound-zeros h = record { sixteen = refl; each = λ i k. All-getD {P = Sound} i zeroValue k (cons h (cons h (cons h (cons h (cons h (cons h (cons h (cons h (cons h (cons h (cons h (cons h (cons h (cons h (cons h (cons h nil)))))))))))))))) }

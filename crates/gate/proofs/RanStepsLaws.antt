@@ -22,7 +22,8 @@ use Rattle.record_writer.specs.declared.Linearized.{Linearized}
 use Rattle.record_writer.specs.declared.Linearized.the-variants as linearized
 use Rattle.record_writer.specs.Promise.{refusalAnswer, runAnswerOf, WroteSteps}
 use Rattle.gate.specs.RanSteps.{RanSteps}
-use Rattle.statement.proofs.LoopLaws.{not-done, Looped, looped-next, looped-done}
+use Rattle.record_writer.proofs.WroteStepsLaws.{not-done}
+use Rattle.statement.proofs.LoopedLaws.{Looped, looped-next, looped-done}
 
 -- ---- without calls
 
@@ -34,7 +35,7 @@ no-calls (kind.NumericalOverflow p) = refl
 no-calls (kind.OverlappingRegs p q) = refl
 no-calls (kind.FunctionOfFloats p) = refl
 no-calls kind.OutputFull = refl
-no-calls (kind.Rejected c) = refl
+no-calls (kind.Flawed c) = refl
 no-calls kind.ShortTrace = refl
 
 quiet : (r : Linearized) → traceOf (runAnswerOf r []) ≡ []
@@ -119,7 +120,7 @@ module _ (u : List ℕ) where
   deeper-answer (kind.OverlappingRegs p q) t = refl
   deeper-answer (kind.FunctionOfFloats p) t = refl
   deeper-answer kind.OutputFull t = refl
-  deeper-answer (kind.Rejected c) t = refl
+  deeper-answer (kind.Flawed c) t = refl
   deeper-answer kind.ShortTrace t = refl
 
   deeper-trace : (k : LinearizeErrorKind) (t : List ℕ) → Inner (refusalAnswer k t) → traceOf (refusalAnswer k (u ++ t)) ≡ u ++ traceOf (refusalAnswer k t)
@@ -130,7 +131,7 @@ module _ (u : List ℕ) where
   deeper-trace (kind.OverlappingRegs p q) t h = refl
   deeper-trace (kind.FunctionOfFloats p) t h = refl
   deeper-trace kind.OutputFull t h = refl
-  deeper-trace (kind.Rejected c) t h = absurd h
+  deeper-trace (kind.Flawed c) t h = absurd h
   deeper-trace kind.ShortTrace t h = absurd h
 
 -- a call that comes back, and one that is refused: its pair of words stands in front

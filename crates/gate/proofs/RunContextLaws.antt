@@ -15,19 +15,21 @@ use Rattle.image.specs.declared.Span.{Span}
 use Rattle.image.specs.Layout.{StatementsOf}
 use Rattle.image.proofs.KindLaws.{words-are}
 use Rattle.record_writer.specs.declared.Position.{Position}
-use Rattle.expression.specs.Table.{anglesIn, ConstantsKept}
+use Rattle.expression.specs.Angles.{anglesIn}
+use Rattle.expression.specs.KeptValues.{ConstantsKept, AngleContext}
 use Rattle.gate.specs.declared.Call.{Call}
 use Rattle.record_writer.specs.declared.Linearized.{Linearized}
 use Rattle.record_writer.specs.Promise.{InOutput, WroteSteps, SoundAngles}
 use Rattle.argument.specs.Frames.{scopeFrame, RoundQubits}
-use Rattle.gate.specs.RunContext.{RunContext}
+use Rattle.gate.specs.RunContext.{StatementContext, RunContext}
 use Rattle.gate.specs.PlainStatement.{PlainStatement, IsCall}
 use Rattle.gate.specs.RanSteps.{RanSteps, plainSteps}
 use Rattle.gate.specs.CallStatement.{CallStatement, callSteps}
 use Rattle.record_writer.specs.declared.Linearized.the-variants as linearized
-use Rattle.statement.proofs.LoopLaws.{Looped, wrote-open}
+use Rattle.record_writer.proofs.WroteStepsLaws.{wrote-open}
+use Rattle.statement.proofs.LoopedLaws.{Looped}
 use Rattle.gate.proofs.RanStepsLaws.{ran-wrote}
-use Rattle.gate.proofs.OpenGateLaws.{opened-stands, body-facts, statement-steps, bodyStatement}
+use Rattle.gate.proofs.OpenGateLaws.{opened-in-scope, body-facts, statement-steps, bodyStatement}
 
 pub kind-read : (image : List ℕ) (s : ℕ) {p k n : ℕ} → p ≡ statementAt image s → k ≡ word image p → k ≡ n → word image (statementAt image s) ≡ n
 kind-read image s e f h = ap (word image) (sym e) ∙ sym f ∙ h
@@ -59,13 +61,17 @@ call-frame image levels-left scope angles qubits call xs = refl
 pub holds-body : (image : List ℕ) (g : ℕ) {l : Layout} {r : Span} → StatementsOf image l (g + 1) r → scopeStatements image (suc g) ≡ range (r .first) (r .count)
 holds-body image g h = rw (add-one g) at (h .statements-are)
 
+-- other angles, and other values kept
+angles-kept : {image : List ℕ} {l : Layout} {qubit-starts bit-starts kept-values kept-values′ angles qubits out : List ℕ} {scope : ℕ} {at : Position} {new : List Value} → SoundAngles new → StatementContext image l qubit-starts bit-starts kept-values scope angles qubits out at → ConstantsKept image kept-values′ → AngleContext image l new kept-values′
+angles-kept a c f = record { laid = c .in-scope .laid; sound = a; constants = f }
+
 module _ {image : List ℕ} {l : Layout} {qubit-starts bit-starts : List ℕ} where
   -- where a loop over statements or rounds has come to
   pub context-on : {scope : ℕ} {kept-values kept-values′ angles qubits out trace out′ trace′ : List ℕ} {at position : Position} {g : ℕ → List Step} {n i : ℕ} → RunContext image l qubit-starts bit-starts kept-values scope angles qubits out trace at → Looped g n out at i out′ position → trace′ ≡ trace → ConstantsKept image kept-values′
       → RunContext image l qubit-starts bit-starts kept-values′ scope angles qubits out′ trace′ position
   context-on r k e f =
       record {
-        context = record { in-scope = r .context .in-scope; constants = f; sound-angles = r .context .sound-angles; in-output = k .opens };
+        context = record { in-scope = r .context .in-scope; with-bits = r .context .with-bits; with-angles = angles-kept (r .context .with-angles .sound) (r .context) f; in-output = k .in-output };
         trace-length = subst (λ (t : List ℕ). 256 ≤ length t) (sym e) (r .trace-length);
         trace-room = omega (arith, r .trace-room, k .level);
       }
@@ -78,10 +84,10 @@ module _ {image : List ℕ} {l : Layout} {qubit-starts bit-starts : List ℕ} wh
   context-opened {i = i} r c a k e h lo t d f =
       record {
         context = record {
-          in-scope = opened-stands (r .context .in-scope) c k (subst (λ (m : ℕ). i < m) e h);
-          constants = f;
-          sound-angles = a;
-          in-output = rw d (record { inside = lo .opens .inside; fewer = lo .opens .fewer });
+          in-scope = opened-in-scope (r .context .in-scope) c k (subst (λ (m : ℕ). i < m) e h);
+          with-bits = r .context .with-bits;
+          with-angles = angles-kept a (r .context) f;
+          in-output = rw d (record { inside = lo .in-output .inside; fewer = lo .in-output .fewer });
         };
         trace-length = subst (λ (x : List ℕ). 256 ≤ length x) (sym t) (r .trace-length);
         trace-room = omega (arith, r .trace-room, c .downward, ap (λ (x : Position). x .trace) d);
@@ -113,7 +119,7 @@ pub context-wrote : {image : List ℕ} {l : Layout} {qubit-starts bit-starts : L
 context-wrote {ss = ss} {out} {out′} {at = at} {p} d w e =
     let v : WroteSteps ss out at (linearized.Done p) out′ = rw e at w in
     record {
-      context = record { in-scope = d .context .in-scope; constants = d .context .constants; sound-angles = d .context .sound-angles; in-output = wrote-open (d .context .in-output) v };
+      context = record { in-scope = d .context .in-scope; with-bits = d .context .with-bits; with-angles = d .context .with-angles; in-output = wrote-open (d .context .in-output) v };
       trace-length = d .trace-length;
       trace-room = omega (arith, d .trace-room, v .level);
     }
@@ -122,4 +128,4 @@ context-wrote {ss = ss} {out} {out′} {at = at} {p} d w e =
 pub context-called : {image : List ℕ} {l : Layout} {qubit-starts bit-starts : List ℕ} {scope : ℕ} {kept-values kept-values′ angles new-angles qubits out trace : List ℕ} {at p : Position}
     → RunContext image l qubit-starts bit-starts kept-values scope angles qubits out trace at → ConstantsKept image kept-values′ → SoundAngles (anglesIn new-angles) → p ≡ at → RunContext image l qubit-starts bit-starts kept-values′ scope new-angles qubits out trace p
 context-called r f a e =
-    rw e (record { context = record { in-scope = r .context .in-scope; constants = f; sound-angles = a; in-output = r .context .in-output }; trace-length = r .trace-length; trace-room = r .trace-room })
+    rw e (record { context = record { in-scope = r .context .in-scope; with-bits = r .context .with-bits; with-angles = angles-kept a (r .context) f; in-output = r .context .in-output }; trace-length = r .trace-length; trace-room = r .trace-room })

@@ -12,7 +12,7 @@ use Rattle.model.specs.Playing.{Plays}
 use Rattle.record_writer.specs.declared.Position.{Position}
 use Rattle.record_writer.specs.declared.Linearized.{Linearized}
 use Rattle.record_writer.specs.Promise.{placeAt, positionOf, runAnswerOf}
-use Rattle.expression.specs.Table.{anglesIn}
+use Rattle.expression.specs.Angles.{anglesIn}
 use Rattle.argument.specs.Frames.{scopeFrame}
 
 -- some steps were played. Where they were refused, the calls on the stack stand in the trace from the position's words on.

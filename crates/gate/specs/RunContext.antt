@@ -4,20 +4,21 @@ use mathlib.Core.List.{List}
 use lib.ListN.{length}
 use Rattle.image.specs.declared.Layout.{Layout}
 use Rattle.record_writer.specs.declared.Position.{Position}
-use Rattle.record_writer.specs.Promise.{InOutput, SoundAngles}
-use Rattle.expression.specs.Table.{anglesIn, ConstantsKept}
-use Rattle.argument.specs.Frames.{ScopeContext}
+use Rattle.record_writer.specs.Promise.{InOutput}
+use Rattle.expression.specs.Angles.{anglesIn}
+use Rattle.expression.specs.KeptValues.{AngleContext}
+use Rattle.argument.specs.Frames.{ScopeContext, BitContext}
 
 -- the calls that may nest in a scope: each goes to a gate of smaller number
 abbrev pub nested : ℕ → ℕ
 nested zero = 128
 nested (suc g) = g
 
--- where a statement is run that opens no gate: its frame has sixteen angles and qubits, the values kept are those of constants, and the position lies in the output
+-- where a statement is run that opens no gate: the tables tell where the registers start, the frame has its qubits and its angles, the values kept are those of constants, and the position lies in the output
 pub record StatementContext (image : List ℕ) (l : Layout) (qubit-starts bit-starts kept-values : List ℕ) (scope : ℕ) (angles qubits out : List ℕ) (at : Position) : Type 0 where
-  pub in-scope : ScopeContext image l qubit-starts bit-starts scope qubits
-  pub constants : ConstantsKept image kept-values
-  pub sound-angles : SoundAngles (anglesIn angles)
+  pub in-scope : ScopeContext image l qubit-starts scope qubits
+  pub with-bits : BitContext image l bit-starts
+  pub with-angles : AngleContext image l (anglesIn angles) kept-values
   pub in-output : InOutput out at
 
 -- where any statement is run: the trace has room for every call that may nest, too

@@ -11,8 +11,9 @@ ghost use Rattle.model.specs.Image.{word, statementAt, gateArguments};
 ghost use Rattle.model.specs.Records.{Record};
 ghost use Rattle.model.specs.Steps.{write};
 ghost use Rattle.image.specs.Layout.{LayoutOf};
-ghost use Rattle.record_writer.specs.Promise.{InOutput, WroteSteps};
-ghost use Rattle.expression.specs.Table.{anglesIn, ConstantsKept};
+ghost use Rattle.record_writer.specs.Promise.{InOutput, QubitsGiven, WroteSteps};
+ghost use Rattle.expression.specs.Angles.{anglesIn};
+ghost use Rattle.expression.specs.KeptValues.{ConstantsKept};
 ghost use Rattle.argument.specs.Frames.{scopeFrame};
 ghost use Rattle.gate.specs.RunContext.{StatementContext, RunContext};
 ghost use Rattle.gate.specs.PlainStatement.{PlainStatement, IsCall};
@@ -46,9 +47,8 @@ fn write_cut_gate(
 ) -> Linearized
     requires { ⌜
         LayoutOf (now image) l
-        × (length qubits ≡ 16)
         × (g < l .gates)
-        × (gateArguments (now image) g ≤ 16)
+        × QubitsGiven qubits (gateArguments (now image) g)
         × InOutput (now out) at
         ⌝ }
     ensures { λ r. ⌜
@@ -95,7 +95,6 @@ fn visit_primitive(
             image,
             l,
             qubit_starts,
-            bit_starts,
             kept_values,
             scope,
             angles,
@@ -105,30 +104,8 @@ fn visit_primitive(
             out,
             at,
         ),
-        2 => statement::visit_cx(
-            image,
-            l,
-            qubit_starts,
-            bit_starts,
-            scope,
-            qubits,
-            a,
-            b,
-            out,
-            at,
-        ),
-        4 => statement::visit_barrier(
-            image,
-            l,
-            qubit_starts,
-            bit_starts,
-            scope,
-            qubits,
-            a,
-            b,
-            out,
-            at,
-        ),
+        2 => statement::visit_cx(image, l, qubit_starts, scope, qubits, a, b, out, at),
+        4 => statement::visit_barrier(image, l, qubit_starts, scope, qubits, a, b, out, at),
         5 => statement::visit_measure(
             image,
             l,
@@ -141,17 +118,7 @@ fn visit_primitive(
             out,
             at,
         ),
-        _ => statement::visit_reset(
-            image,
-            l,
-            qubit_starts,
-            bit_starts,
-            scope,
-            qubits,
-            a,
-            out,
-            at,
-        ),
+        _ => statement::visit_reset(image, l, qubit_starts, scope, qubits, a, out, at),
     }
 }
 
@@ -348,12 +315,11 @@ fn visit_rounds(
         ⌝ }
 {
     if call.body == 0 {
-        let values = expression::values_in(&angles);
+        let values = expression::angles_in(&angles);
         return statement::visit_opaque(
             image,
             l,
             qubit_starts,
-            bit_starts,
             scope,
             qubits,
             call.gate,
@@ -369,11 +335,10 @@ fn visit_rounds(
     let mut position = at;
     let mut i = 0u64;
     while i < n {
-        let opened_qubits = argument::qubits_in(
+        let opened_qubits = argument::qubits_in_round(
             image,
             l,
             qubit_starts,
-            bit_starts,
             scope,
             qubits,
             call.argument,

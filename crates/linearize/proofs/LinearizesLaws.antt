@@ -63,7 +63,7 @@ refusal-trace (kind.NumericalOverflow p) c = refl
 refusal-trace (kind.OverlappingRegs p q) c = refl
 refusal-trace (kind.FunctionOfFloats p) c = refl
 refusal-trace kind.OutputFull c = refl
-refusal-trace (kind.Rejected v) c = refl
+refusal-trace (kind.Flawed v) c = refl
 refusal-trace kind.ShortTrace c = refl
 
 answer-trace : (r : Linearized) (calls : List ℕ) → runAnswerOf r (traceOf (runAnswerOf r calls)) ≡ runAnswerOf r calls
@@ -106,7 +106,7 @@ module _ (image : List ℕ) (depth : ℕ) (out trace : List ℕ) where
   unfolding linearize runs output flatMap traceOf
   short-trace h = linearizes image depth out trace (sym (rw (lt-ltb (length trace) 256 h) refl))
 
-  pub not-accepted : {c : CheckAnswer} → 256 ≤ length trace → answerFlaw c ≡ check image → ¬ (answerFlaw c ≡ fine) → Linearizes image depth out trace (refusedWith (kind.Rejected c)) out trace
+  pub not-accepted : {c : CheckAnswer} → 256 ≤ length trace → answerFlaw c ≡ check image → ¬ (answerFlaw c ≡ fine) → Linearizes image depth out trace (refusedWith (kind.Flawed c)) out trace
   unfolding linearize runs accepted output flatMap traceOf
   not-accepted {c} h e n = linearizes image depth out trace (sym (rw (le-ltb (length trace) 256 h, ← e) (go (answerFlaw c) n)))
     where

@@ -20,11 +20,11 @@ use Rattle.image.specs.Layout.{LayoutOf}
 use Rattle.image.specs.Firsts.{RegisterStarts}
 use Rattle.record_writer.specs.declared.Linearized.{Linearized}
 use Rattle.record_writer.specs.declared.Linearized.the-variants as linearized
-use Rattle.statement.proofs.LoopLaws.{wrote-open}
+use Rattle.record_writer.proofs.WroteStepsLaws.{wrote-open}
 use Rattle.image.proofs.KindLaws.{if-at, plain-facts-at}
-use Rattle.argument.specs.Frames.{scopeFrame, formalsOf, ScopeContext}
-use Rattle.expression.specs.Table.{ConstantsKept}
-use Rattle.expression.proofs.AngleLaws.{zeros-sound}
+use Rattle.argument.specs.Frames.{scopeFrame, scopeQubits, ScopeContext}
+use Rattle.expression.specs.KeptValues.{ConstantsKept}
+use Rattle.expression.proofs.AnglesLaws.{zeros-sound}
 use Rattle.record_writer.specs.declared.Position.{Position}
 use Rattle.record_writer.specs.Promise.{InOutput, WroteSteps}
 use Rattle.gate.specs.RunContext.{RunContext}
@@ -47,7 +47,7 @@ module _ (image : List ℕ) (s : ℕ) where
   plain-in-main h m = record { listed = m .listed; facts = plain-facts-at image 0 s (statementAt image s) (word image (statementAt image s)) refl refl h (m .facts) }
 
   -- a conditional's steps: its start, its inner statement, its end
-  module _ {l : Layout} {qubit-starts bit-starts qubits : List ℕ} (st : ScopeContext image l qubit-starts bit-starts 0 qubits) (e : IsConditional image s) (m : MainStatement image l s)
+  module _ {l : Layout} {qubit-starts bit-starts qubits : List ℕ} (st : ScopeContext image l qubit-starts 0 qubits) (e : IsConditional image s) (m : MainStatement image l s)
       {p r t v : ℕ} (ep : p ≡ statementAt image s) (er : r ≡ word image (p + 1)) (ev : v ≡ word image (p + 2)) (et : t ≡ word image (p + 3)) where
     register-is : r ≡ word image (statementAt image s + 1)
     register-is = er ∙ ap (λ (n : ℕ). word image (n + 1)) ep
@@ -80,7 +80,7 @@ module _ (image : List ℕ) (s : ℕ) where
 -- ---- the statements of main
 
 module _ {image : List ℕ} {l : Layout} {qubit-starts bit-starts out trace : List ℕ} {at : Position} (m : MainContext image l qubit-starts bit-starts out trace at) where
-  main-in-scope : {qubits : List ℕ} → length qubits ≡ 16 → ScopeContext image l qubit-starts bit-starts 0 qubits
+  main-in-scope : {qubits : List ℕ} → length qubits ≡ 16 → ScopeContext image l qubit-starts 0 qubits
   main-in-scope h = record { laid = m .start .laid; accepted = m .start .accepted; quantum = m .quantum; classical = m .classical; wide = h; ready = refl }
 
   -- where main's statements are run
@@ -103,7 +103,7 @@ module _ {image : List ℕ} {l : Layout} {qubit-starts bit-starts out trace : Li
 
 pub main-steps : (image : List ℕ) (levels-left : ℕ) (angles : List Value) (qubits : List ℕ) {n : ℕ} → n ≡ mainStatements image
     → inRounds n (visitStatement image (opening image levels-left) (scopeFrame image 0 angles qubits)) ≡ visitBody image (opening image levels-left) mainFrame
-unfolding visitBody scopeStatements inRounds variables formalsOf
+unfolding visitBody scopeStatements inRounds variables scopeQubits
 main-steps image levels-left angles qubits e = rw e refl
 
 -- ---- the program

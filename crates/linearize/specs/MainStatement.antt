@@ -7,7 +7,7 @@ use Rattle.model.specs.Records.{Record}
 use Rattle.model.specs.Steps.{Step, write, visitStatement, visitBody, opening, mainFrame}
 use Rattle.model.specs.Accepted.{Facts}
 use Rattle.image.specs.declared.Layout.{Layout}
-use Rattle.expression.specs.Table.{anglesIn}
+use Rattle.expression.specs.Angles.{anglesIn}
 use Rattle.argument.specs.Frames.{scopeFrame}
 use Rattle.gate.specs.RanSteps.{statementSteps}
 

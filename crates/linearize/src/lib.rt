@@ -11,7 +11,7 @@ ghost use Prim.Native.Nat.{_-_, _≤_};
 ghost use lib.ListN.{length};
 ghost use Rattle.model.specs.Check.{fine, check};
 ghost use Rattle.model.specs.Steps.{steps};
-ghost use Rattle.expression.specs.Table.{ConstantsKept};
+ghost use Rattle.expression.specs.KeptValues.{ConstantsKept};
 ghost use Rattle.gate.specs.RunContext.{RunContext};
 ghost use Rattle.gate.specs.PlainStatement.{PlainStatement};
 ghost use Rattle.gate.specs.RanSteps.{RanSteps};
@@ -507,6 +507,6 @@ pub fn run(image: &[u64], depth: u64, out: &mut [u64], trace: &mut [u64]) -> Lin
     let answer = image_check::check(image);
     match answer {
         CheckAnswer::Accepted => run_accepted(image, depth, out, trace),
-        _ => refused(LinearizeErrorKind::Rejected(answer)),
+        _ => refused(LinearizeErrorKind::Flawed(answer)),
     }
 }

@@ -12,10 +12,10 @@ use Rattle.model.specs.Image.{word, statementAt}
 use Rattle.model.specs.Steps.{visitGate, opening}
 use Rattle.argument.specs.Frames.{scopeFrame}
 use Rattle.gate.specs.RunContext.{nested}
-use Rattle.statement.proofs.LoopLaws.{Looped, looped-start, looped-next, looped-length}
+use Rattle.statement.proofs.LoopedLaws.{Looped, looped-start, looped-next, looped-length}
 use Rattle.expression.proofs.NamedExpressionLaws.{named}
-use Rattle.statement.proofs.RoundLaws.{refuses}
-use Rattle.argument.proofs.CallLaws.{call-rounds-few}
+use Rattle.record_writer.proofs.WroteStepsLaws.{refuses}
+use Rattle.argument.proofs.CallArgumentsLaws.{call-rounds-few}
 use Rattle.gate.proofs.RanStepsLaws.{wrote-ran, ran-next, ran-stop, ran-done, ran-returned, ran-refused, ran-enter, ran-lengths, ran-steps, ran-from, ran-still, wrote-steps}
 use Rattle.gate.proofs.CallStatementLaws.{known-gate, calls, named-listed, gate-given, gate-refused}
 use Rattle.gate.proofs.OpenGateLaws.{body-round, opaque-rounds, cut-steps, open-steps, bodyStatement, few-arguments}
@@ -24,14 +24,15 @@ use Prim.Native.Nat.{ℕ, _<_}
 use borrow.Fn.Kinds.{In}
 use borrow.Fn.PlainCycle.{Measures, is, falls, and}
 use Rattle.expression.proofs.parameters.Reads as parameters-reads
-use Rattle.argument.proofs.qubits_in.Reads as qubits-in-reads
+use Rattle.argument.proofs.qubits_in_round.Reads as qubits-in-round-reads
 use Rattle.statement.proofs.visit_opaque.Reads as visit-opaque-reads
 use Rattle.image.proofs.rounds_of.Reads as rounds-of-reads
 use Rattle.image.proofs.statement_at.Reads as statement-at-reads
 use Rattle.image.proofs.statements_of.Reads as statements-of-reads
 use Rattle.image.proofs.word.Reads as word-reads
-use Rattle.expression.specs.Table.{anglesIn, ConstantsKept}
-use Rattle.expression.proofs.AngleLaws.{zeros-sound}
+use Rattle.expression.specs.Angles.{anglesIn}
+use Rattle.expression.specs.KeptValues.{ConstantsKept}
+use Rattle.expression.proofs.AnglesLaws.{zeros-sound}
 use Rattle.record_writer.specs.Promise.{SoundAngles}
 use Rattle.gate.proofs.open_gate.Reads as open-gate
 use Rattle.gate.proofs.open_gate.Kinds as open-gate-kinds
@@ -45,7 +46,7 @@ use Rattle.gate.proofs.+open_gate+visit_gate+visit_rounds+visit_stateme
 use Rattle.gate.proofs.visit_statement.Reads as visit-statement
 use Rattle.gate.proofs.visit_statement.Kinds as visit-statement-kinds
 use Rattle.gate.proofs.+open_gate+visit_gate+visit_rounds+visit_statement.Lts-visit_statement as visit-statement-lts
-use Rattle.expression.proofs.values_in.Reads as values-in-reads
+use Rattle.expression.proofs.angles_in.Reads as angles-in-reads
 use Rattle.gate.proofs.with_trace_words.Reads as with-trace-words-reads
 use Rattle.gate.proofs.call_at.Reads as call-at-reads
 use Rattle.gate.proofs.write_trace_pair.Reads as write-trace-pair-reads
@@ -116,7 +117,7 @@ abbrev visit-gate-callees : ℕ → visit-gate-lts.Claims
 visit-gate-callees t = (call-at-reads.Asked, call-at-reads.Learnt, parameters-reads.Asked, parameters-reads.Learnt, visit-rounds-below t, visit-rounds.Post)
 
 abbrev visit-rounds-callees : ℕ → visit-rounds-lts.Claims
-visit-rounds-callees t = (values-in-reads.Asked, values-in-reads.Learnt, visit-opaque-reads.Asked, visit-opaque-reads.Learnt, rounds-of-reads.Asked, rounds-of-reads.Learnt, qubits-in-reads.Asked, qubits-in-reads.Learnt, with-trace-words-reads.Asked, with-trace-words-reads.Learnt, open-gate-below t, open-gate.Post, statement-at-reads.Asked, statement-at-reads.Learnt, write-trace-pair-reads.Asked, write-trace-pair-reads.Learnt)
+visit-rounds-callees t = (angles-in-reads.Asked, angles-in-reads.Learnt, visit-opaque-reads.Asked, visit-opaque-reads.Learnt, rounds-of-reads.Asked, rounds-of-reads.Learnt, qubits-in-round-reads.Asked, qubits-in-round-reads.Learnt, with-trace-words-reads.Asked, with-trace-words-reads.Learnt, open-gate-below t, open-gate.Post, statement-at-reads.Asked, statement-at-reads.Learnt, write-trace-pair-reads.Asked, write-trace-pair-reads.Learnt)
 
 abbrev visit-statement-callees : ℕ → visit-statement-lts.Claims
 visit-statement-callees t = (statement-at-reads.Asked, statement-at-reads.Learnt, word-reads.Asked, word-reads.Learnt, visit-gate-below t, visit-gate.Post, visit-primitive-reads.Asked, visit-primitive-reads.Learnt)
@@ -130,7 +131,7 @@ open-gate-μ-loop image l qubit-starts bit-starts kept-values₀ g levels-left o
 open-gate-write-cut-gate-requires : (t : ℕ) → open-gate-lts.Need-write-cut-gate-requires (open-gate-callees t) (open-gate-at t) open-gate.Post open-gate-Inv-loop open-gate-μ-loop
 open-gate-write-cut-gate-requires t c κs =
     let pre = c .before .before .before .before .before .before .before .before .before .before .pre in
-    (pre .1 .0 .context .in-scope .laid, pre .1 .0 .context .in-scope .wide, pre .1 .1, few-arguments (pre .1 .0 .context .in-scope) (pre .1 .1), pre .1 .0 .context .in-output)
+    (pre .1 .0 .context .in-scope .laid, pre .1 .1, record { sixteen = pre .1 .0 .context .in-scope .sixteen; few = few-arguments (pre .1 .0 .context .in-scope) (pre .1 .1) }, pre .1 .0 .context .in-output)
 
 open-gate-same-length : (t : ℕ) → open-gate-lts.Need-same-length (open-gate-callees t) (open-gate-at t) open-gate.Post open-gate-Inv-loop open-gate-μ-loop
 open-gate-same-length t c = c .before .before .write-cut-gate .ensures .plays .same
@@ -139,7 +140,7 @@ open-gate-returns : (t : ℕ) → open-gate-lts.Need-returns (open-gate-callees 
 open-gate-returns t c =
     let pre = c .before .before .before .before .before .before .before .before .before .before .before .before .before .pre in
     let if1 = c .before .before .before .before .if1 .taken in
-    (wrote-ran _ (wrote-steps (cut-steps _ _ _ _ _ if1) (c .before .before .write-cut-gate .ensures)), pre .1 .0 .context .constants)
+    (wrote-ran _ (wrote-steps (cut-steps _ _ _ _ _ if1) (c .before .before .write-cut-gate .ensures)), pre .1 .0 .context .with-angles .constants)
 
 open-gate-add-statements-of : (t : ℕ) → open-gate-lts.Need-add-statements-of (open-gate-callees t) (open-gate-at t) open-gate.Post open-gate-Inv-loop open-gate-μ-loop
 open-gate-add-statements-of t c =
@@ -154,7 +155,7 @@ open-gate-statements-of-requires t c κs =
 open-gate-loop-holds : (t : ℕ) → open-gate-lts.Need-loop-holds (open-gate-callees t) (open-gate-at t) open-gate.Post open-gate-Inv-loop open-gate-μ-loop
 open-gate-loop-holds t c =
     let pre = c .before .before .before .before .before .before .before .before .before .before .pre in
-    (looped-start _ _ (pre .1 .0 .context .in-output), refl, pre .1 .0 .context .constants, refl)
+    (looped-start _ _ (pre .1 .0 .context .in-output), refl, pre .1 .0 .context .with-angles .constants, refl)
 
 open-gate-add-visit-statement : (t : ℕ) → open-gate-lts.Need-add-visit-statement (open-gate-callees t) (open-gate-at t) open-gate.Post open-gate-Inv-loop open-gate-μ-loop
 open-gate-add-visit-statement t c =
@@ -252,7 +253,7 @@ visit-gate-parameters-requires t c κs =
     let pre = c .before .before .before .before .before .before .before .before .before .pre in
     let args = c .before .before .before .before .before .before .before .before .before .args in
     let call-at = c .before .before .call-at .ensures in
-    (pre .1 .0 .context .in-scope .laid, pre .1 .0 .context .sound-angles, named _ _ (anglesIn (now (args .angles))) (named-listed (pre .1 .0 .context .in-scope) _ (pre .1 .2) (pre .1 .1) call-at), pre .1 .0 .context .constants, zeros-sound 96, omega (arith, calls (pre .1 .0 .context .in-scope) _ (pre .1 .2) (pre .1 .1) call-at .few-parameters))
+    (pre .1 .0 .context .with-angles, named _ _ (anglesIn (now (args .angles))) (named-listed (pre .1 .0 .context .in-scope) _ (pre .1 .2) (pre .1 .1) call-at), zeros-sound 96, omega (arith, calls (pre .1 .0 .context .in-scope) _ (pre .1 .2) (pre .1 .1) call-at .few-parameters))
 
 visit-gate-enum-known-position : (t : ℕ) → visit-gate-lts.Need-enum-known-position (visit-gate-callees t) (visit-gate-at t) visit-gate.Post
 visit-gate-enum-known-position t c = search needs
@@ -306,13 +307,13 @@ visit-rounds-Inv-loop image l qubit-starts bit-starts kept-values₀ scope qubit
 abbrev visit-rounds-μ-loop : visit-rounds-lts.MeasureT-loop
 visit-rounds-μ-loop image l qubit-starts bit-starts kept-values₀ scope qubits call levels-left out₀ trace₀ at angles n position₀ i₀ kept-values out trace position i = n - i
 
-visit-rounds-values-in-requires : (t : ℕ) → visit-rounds-lts.Need-values-in-requires (visit-rounds-callees t) (visit-rounds-at t) visit-rounds.Post visit-rounds-Inv-loop visit-rounds-μ-loop
-visit-rounds-values-in-requires t c κs = tt
+visit-rounds-angles-in-requires : (t : ℕ) → visit-rounds-lts.Need-angles-in-requires (visit-rounds-callees t) (visit-rounds-at t) visit-rounds.Post visit-rounds-Inv-loop visit-rounds-μ-loop
+visit-rounds-angles-in-requires t c κs = tt
 
 visit-rounds-visit-opaque-requires : (t : ℕ) → visit-rounds-lts.Need-visit-opaque-requires (visit-rounds-callees t) (visit-rounds-at t) visit-rounds.Post visit-rounds-Inv-loop visit-rounds-μ-loop
 visit-rounds-visit-opaque-requires t c κs =
     let pre = c .before .before .before .before .before .before .before .before .before .before .before .pre in
-    (pre .1 .0 .context .in-scope, subst SoundAngles (sym (c .before .values-in .ensures)) (pre .1 .0 .context .sound-angles), pre .1 .1 .few-parameters, pre .1 .1 .arguments-fit, pre .1 .0 .context .in-output)
+    (pre .1 .0 .context .in-scope, record { sound = subst SoundAngles (sym (c .before .angles-in .ensures)) (pre .1 .0 .context .with-angles .sound); few = pre .1 .1 .few-parameters }, pre .1 .1 .arguments-fit, pre .1 .0 .context .in-output)
 
 visit-rounds-same-length : (t : ℕ) → visit-rounds-lts.Need-same-length (visit-rounds-callees t) (visit-rounds-at t) visit-rounds.Post visit-rounds-Inv-loop visit-rounds-μ-loop
 visit-rounds-same-length t c = c .before .before .visit-opaque .ensures .plays .same
@@ -321,8 +322,8 @@ visit-rounds-returns : (t : ℕ) → visit-rounds-lts.Need-returns (visit-rounds
 visit-rounds-returns t c =
     let pre = c .before .before .before .before .before .before .before .before .before .before .before .before .before .before .pre in
     let if1 = c .before .before .before .before .before .before .if1 .taken in
-    let values-in = c .before .before .before .before .values-in .ensures in
-    (wrote-ran _ (wrote-steps (opaque-rounds (pre .1 .0 .context .in-scope) (pre .1 .1) _ [] _ if1) (rw values-in at (c .before .before .visit-opaque .ensures))), pre .1 .0 .context .constants)
+    let angles-in = c .before .before .before .before .angles-in .ensures in
+    (wrote-ran _ (wrote-steps (opaque-rounds (pre .1 .0 .context .in-scope) (pre .1 .1) _ [] _ if1) (rw angles-in at (c .before .before .visit-opaque .ensures))), pre .1 .0 .context .with-angles .constants)
 
 visit-rounds-rounds-of-requires : (t : ℕ) → visit-rounds-lts.Need-rounds-of-requires (visit-rounds-callees t) (visit-rounds-at t) visit-rounds.Post visit-rounds-Inv-loop visit-rounds-μ-loop
 visit-rounds-rounds-of-requires t c κs =
@@ -332,10 +333,10 @@ visit-rounds-rounds-of-requires t c κs =
 visit-rounds-loop-holds : (t : ℕ) → visit-rounds-lts.Need-loop-holds (visit-rounds-callees t) (visit-rounds-at t) visit-rounds.Post visit-rounds-Inv-loop visit-rounds-μ-loop
 visit-rounds-loop-holds t c =
     let pre = c .before .before .before .before .before .before .before .before .before .pre in
-    (looped-start _ _ (pre .1 .0 .context .in-output), refl, pre .1 .0 .context .constants, refl)
+    (looped-start _ _ (pre .1 .0 .context .in-output), refl, pre .1 .0 .context .with-angles .constants, refl)
 
-visit-rounds-qubits-in-requires : (t : ℕ) → visit-rounds-lts.Need-qubits-in-requires (visit-rounds-callees t) (visit-rounds-at t) visit-rounds.Post visit-rounds-Inv-loop visit-rounds-μ-loop
-visit-rounds-qubits-in-requires t c κs =
+visit-rounds-qubits-in-round-requires : (t : ℕ) → visit-rounds-lts.Need-qubits-in-round-requires (visit-rounds-callees t) (visit-rounds-at t) visit-rounds.Post visit-rounds-Inv-loop visit-rounds-μ-loop
+visit-rounds-qubits-in-round-requires t c κs =
     let pre = c .before .before .before .before .before .before .before .before .before .before .before .pre in
     (pre .1 .0 .context .in-scope, pre .1 .1 .arguments-fit, subst (λ (m : ℕ). c .before .loop .i < m) (c .before .before .rounds-of .ensures) (c .loop-test .taken))
 
@@ -353,8 +354,8 @@ visit-rounds-open-gate-requires t c κs =
     let rounds-of = c .before .before .before .before .before .before .before .before .rounds-of .ensures in
     let loop = c .before .before .before .before .before .before .before .loop .inv in
     let loop-test = c .before .before .before .before .before .before .loop-test .taken in
-    let qubits-in = c .before .before .before .before .before .qubits-in .ensures in
-    (omega (arith, pre .0, pre .1 .1 .downward), (context-opened (pre .1 .0) (pre .1 .1) (pre .1 .0 .context .sound-angles) qubits-in rounds-of loop-test (loop .0) (loop .1) (c .with-trace-words .ensures) (loop .2), pre .1 .1 .gate-listed))
+    let round-qubits = c .before .before .before .before .before .qubits-in-round .ensures in
+    (omega (arith, pre .0, pre .1 .1 .downward), (context-opened (pre .1 .0) (pre .1 .1) (pre .1 .0 .context .with-angles .sound) round-qubits rounds-of loop-test (loop .0) (loop .1) (c .with-trace-words .ensures) (loop .2), pre .1 .1 .gate-listed))
 
 visit-rounds-enum-known-next : (t : ℕ) → visit-rounds-lts.Need-enum-known-next (visit-rounds-callees t) (visit-rounds-at t) visit-rounds.Post visit-rounds-Inv-loop visit-rounds-μ-loop
 visit-rounds-enum-known-next t c = search needs
@@ -391,12 +392,12 @@ visit-rounds-returns-2 t c =
     let rounds-of = c .before .before .before .before .before .before .before .before .before .before .before .before .before .before .before .before .before .before .before .before .before .before .before .rounds-of .ensures in
     let loop = c .before .before .before .before .before .before .before .before .before .before .before .before .before .before .before .before .before .before .before .before .before .before .loop .inv in
     let loop-test = c .before .before .before .before .before .before .before .before .before .before .before .before .before .before .before .before .before .before .before .before .before .loop-test .taken in
-    let qubits-in = c .before .before .before .before .before .before .before .before .before .before .before .before .before .before .before .before .before .before .before .before .qubits-in .ensures in
+    let round-qubits = c .before .before .before .before .before .before .before .before .before .before .before .before .before .before .before .before .before .before .before .before .qubits-in-round .ensures in
     let with-trace-words = c .before .before .before .before .before .before .before .before .before .before .before .before .before .before .before .with-trace-words .ensures in
     let open-gate = c .before .before .before .before .before .before .before .before .before .before .before .before .before .before .open-gate .ensures in
     let e = c .before .before .before .before .before .before .e in
     let statement-at = c .before .before .before .before .statement-at .ensures in
-    (ran-from (loop .1) (ran-stop _ _ (loop .0) loop-test (body-round (pre .1 .0 .context .in-scope) (pre .1 .1) qubits-in _ [] _ if1) (ran-refused (open-gate .0) with-trace-words (sym (loop .0 .level)) _ _ (e .given .1) statement-at (c .before .before .write-trace-pair .ensures)) refl rounds-of), open-gate .1)
+    (ran-from (loop .1) (ran-stop _ _ (loop .0) loop-test (body-round (pre .1 .0 .context .in-scope) (pre .1 .1) round-qubits _ [] _ if1) (ran-refused (open-gate .0) with-trace-words (sym (loop .0 .level)) _ _ (e .given .1) statement-at (c .before .before .write-trace-pair .ensures)) refl rounds-of), open-gate .1)
 
 visit-rounds-same-length-3 : (t : ℕ) → visit-rounds-lts.Need-same-length-3 (visit-rounds-callees t) (visit-rounds-at t) visit-rounds.Post visit-rounds-Inv-loop visit-rounds-μ-loop
 visit-rounds-same-length-3 t c = ran-lengths (visit-rounds-returns-2 t c .0) .0
@@ -423,11 +424,11 @@ visit-rounds-loop-again t c =
     let if1 = c .before .before .before .before .before .before .before .before .before .before .before .before .before .before .before .before .before .before .before .before .if1 .left in
     let loop = c .before .before .before .before .before .before .before .before .before .before .before .before .before .before .before .before .before .before .loop .inv in
     let loop-test = c .before .before .before .before .before .before .before .before .before .before .before .before .before .before .before .before .before .loop-test .taken in
-    let qubits-in = c .before .before .before .before .before .before .before .before .before .before .before .before .before .before .before .before .qubits-in .ensures in
+    let round-qubits = c .before .before .before .before .before .before .before .before .before .before .before .before .before .before .before .before .qubits-in-round .ensures in
     let with-trace-words = c .before .before .before .before .before .before .before .before .before .before .before .with-trace-words .ensures in
     let open-gate = c .before .before .before .before .before .before .before .before .before .before .open-gate .ensures in
     let kept-values = c .before .before .before .before .before .before .before .before .before .kept-values in
-    let w = ran-returned (open-gate .0) with-trace-words (sym (loop .0 .level)) (args .scope ∷ statementAt (now (args .image)) (args .call .statement) ∷ []) (c .before .before .next .given .1) (c .with-trace-words2 .ensures) in (looped-next _ _ (loop .0) loop-test (body-round (pre .1 .0 .context .in-scope) (pre .1 .1) qubits-in _ [] _ if1) refl (w .0), w .1 ∙ loop .1, open-gate .1, omega (arith, kept-values .given, loop .3))
+    let w = ran-returned (open-gate .0) with-trace-words (sym (loop .0 .level)) (args .scope ∷ statementAt (now (args .image)) (args .call .statement) ∷ []) (c .before .before .next .given .1) (c .with-trace-words2 .ensures) in (looped-next _ _ (loop .0) loop-test (body-round (pre .1 .0 .context .in-scope) (pre .1 .1) round-qubits _ [] _ if1) refl (w .0), w .1 ∙ loop .1, open-gate .1, omega (arith, kept-values .given, loop .3))
 
 visit-rounds-same-length-5 : (t : ℕ) → visit-rounds-lts.Need-same-length-5 (visit-rounds-callees t) (visit-rounds-at t) visit-rounds.Post visit-rounds-Inv-loop visit-rounds-μ-loop
 visit-rounds-same-length-5 t c = c .before .loop .inv .3
@@ -538,13 +539,13 @@ pub +open-gate+visit-gate+visit-rounds+visit-statement-spec : {M : Type 1} → s
     visit-rounds.Post
     visit-rounds-Inv-loop
     visit-rounds-μ-loop
-    (visit-rounds-values-in-requires t)
+    (visit-rounds-angles-in-requires t)
     (visit-rounds-visit-opaque-requires t)
     (visit-rounds-same-length t)
     (visit-rounds-returns t)
     (visit-rounds-rounds-of-requires t)
     (visit-rounds-loop-holds t)
-    (visit-rounds-qubits-in-requires t)
+    (visit-rounds-qubits-in-round-requires t)
     (visit-rounds-add-with-trace-words t)
     (visit-rounds-with-trace-words-requires t)
     (visit-rounds-open-gate-requires t)

@@ -1,6 +1,6 @@
 -- A statement that opens no gate writes what the definition says of its kind.
 use denote.Ref.{now}
-use Rattle.expression.specs.Table.{anglesIn}
+use Rattle.expression.specs.Angles.{anglesIn}
 use native.Mathlib.Omega.{arith}
 use borrow.Author.Needs.{needs}
 use Rattle.gate.proofs.PrimitiveStatementLaws.{near-statement, u-needs, cx-needs, barrier-needs, measure-needs, reset-needs, u-wrote, cx-wrote, barrier-wrote, measure-wrote, reset-wrote}
@@ -55,7 +55,7 @@ visit-u-requires c κs =
     let word2 = c .before .before .before .before .before .word2 .ensures in
     let word3 = c .before .before .before .before .word3 .ensures in
     let n = u-needs (pre .0 .in-scope) (args .s) statement-at word word2 word3 (pre .1) (c .before .before .before .match .keys1) (c .before .word4 .ensures) in
-    (pre .0 .in-scope, pre .0 .constants, pre .0 .sound-angles, n .0, n .1, n .2, pre .0 .in-output)
+    (pre .0 .in-scope, pre .0 .with-angles, n, pre .0 .in-output)
 
 visit-cx-requires : tie.Need-visit-cx-requires
 visit-cx-requires c κs =
@@ -64,7 +64,7 @@ visit-cx-requires c κs =
     let statement-at = c .before .before .before .before .before .statement-at .ensures in
     let word = c .before .before .before .before .word .ensures in
     let n = cx-needs (pre .0 .in-scope) (args .s) statement-at word (c .before .before .before .word2 .ensures) (c .before .before .word3 .ensures) (pre .1) (c .before .match .keys2) in
-    (pre .0 .in-scope, n .0, n .1, n .2, n .3, n .4, pre .0 .in-output)
+    (pre .0 .in-scope, n, pre .0 .in-output)
 
 visit-barrier-requires : tie.Need-visit-barrier-requires
 visit-barrier-requires c κs =
@@ -73,7 +73,7 @@ visit-barrier-requires c κs =
     let statement-at = c .before .before .before .before .before .statement-at .ensures in
     let word = c .before .before .before .before .word .ensures in
     let n = barrier-needs (pre .0 .in-scope) (args .s) statement-at word (c .before .before .before .word2 .ensures) (c .before .before .word3 .ensures) (pre .1) (c .before .match .keys3) in
-    (pre .0 .in-scope, n .0, n .1, pre .0 .in-output)
+    (pre .0 .in-scope, n, pre .0 .in-output)
 
 visit-measure-requires : tie.Need-visit-measure-requires
 visit-measure-requires c κs =
@@ -82,7 +82,7 @@ visit-measure-requires c κs =
     let statement-at = c .before .before .before .before .before .statement-at .ensures in
     let word = c .before .before .before .before .word .ensures in
     let n = measure-needs (pre .0 .in-scope) (args .s) statement-at word (c .before .before .before .word2 .ensures) (c .before .before .word3 .ensures) (pre .1) (c .before .match .keys4) in
-    (pre .0 .in-scope, n .0, n .1, n .2, n .3, n .4, pre .0 .in-output)
+    (pre .0 .in-scope, pre .0 .with-bits, n, pre .0 .in-output)
 
 visit-reset-requires : tie.Need-visit-reset-requires
 visit-reset-requires c κs =
@@ -92,7 +92,7 @@ visit-reset-requires c κs =
     let word = c .before .before .before .before .word .ensures in
     let k = c .before .match .rest in
     let n = reset-needs (pre .0 .in-scope) (args .s) statement-at word (c .before .before .before .word2 .ensures) (c .before .before .word3 .ensures) (pre .1) (k .0 .0 .0 .1) (k .0 .0 .1) (pre .2) (k .0 .1) (k .1) in
-    (pre .0 .in-scope, n .0, n .1, pre .0 .in-output)
+    (pre .0 .in-scope, n, pre .0 .in-output)
 
 same-length : tie.Need-same-length
 same-length c = omega (arith, c .before .before .before .kept-values .given)
@@ -125,7 +125,7 @@ returns-2 c =
     let word2 = c .before .before .before .before .before .before .word2 .ensures in
     let word3 = c .before .before .before .before .before .word3 .ensures in
     let match = c .before .before .before .before .match in
-    (cx-wrote (pre .0 .in-scope) (args .s) statement-at word word2 word3 (pre .1) (anglesIn (now (args .angles))) (match .keys2) (c .before .before .visit-cx .ensures), pre .0 .constants)
+    (cx-wrote (pre .0 .in-scope) (args .s) statement-at word word2 word3 (pre .1) (anglesIn (now (args .angles))) (match .keys2) (c .before .before .visit-cx .ensures), pre .0 .with-angles .constants)
 
 same-length-4 : tie.Need-same-length-4
 same-length-4 c = c .before .before .visit-barrier .ensures .plays .same
@@ -139,7 +139,7 @@ returns-3 c =
     let word2 = c .before .before .before .before .before .before .word2 .ensures in
     let word3 = c .before .before .before .before .before .word3 .ensures in
     let match = c .before .before .before .before .match in
-    (barrier-wrote (pre .0 .in-scope) (args .s) statement-at word word2 word3 (pre .1) (anglesIn (now (args .angles))) (match .keys3) (c .before .before .visit-barrier .ensures), pre .0 .constants)
+    (barrier-wrote (pre .0 .in-scope) (args .s) statement-at word word2 word3 (pre .1) (anglesIn (now (args .angles))) (match .keys3) (c .before .before .visit-barrier .ensures), pre .0 .with-angles .constants)
 
 same-length-5 : tie.Need-same-length-5
 same-length-5 c = c .before .before .visit-measure .ensures .plays .same
@@ -153,7 +153,7 @@ returns-4 c =
     let word2 = c .before .before .before .before .before .before .word2 .ensures in
     let word3 = c .before .before .before .before .before .word3 .ensures in
     let match = c .before .before .before .before .match in
-    (measure-wrote (pre .0 .in-scope) (args .s) statement-at word word2 word3 (pre .1) (anglesIn (now (args .angles))) (match .keys4) (c .before .before .visit-measure .ensures), pre .0 .constants)
+    (measure-wrote (pre .0 .in-scope) (args .s) statement-at word word2 word3 (pre .1) (anglesIn (now (args .angles))) (match .keys4) (c .before .before .visit-measure .ensures), pre .0 .with-angles .constants)
 
 same-length-6 : tie.Need-same-length-6
 same-length-6 c = c .before .before .visit-reset .ensures .plays .same
@@ -167,7 +167,7 @@ returns-5 c =
     let word2 = c .before .before .before .before .before .before .word2 .ensures in
     let word3 = c .before .before .before .before .before .word3 .ensures in
     let match = c .before .before .before .before .match in
-    (let k = match .rest in reset-wrote (pre .0 .in-scope) (args .s) statement-at word word2 word3 (pre .1) (anglesIn (now (args .angles))) (k .0 .0 .0 .1) (k .0 .0 .1) (pre .2) (k .0 .1) (k .1) (c .before .before .visit-reset .ensures), pre .0 .constants)
+    (let k = match .rest in reset-wrote (pre .0 .in-scope) (args .s) statement-at word word2 word3 (pre .1) (anglesIn (now (args .angles))) (k .0 .0 .0 .1) (k .0 .0 .1) (pre .2) (k .0 .1) (k .1) (c .before .before .visit-reset .ensures), pre .0 .with-angles .constants)
 
 pub visit-primitive-spec : {M : Type 1} → statement M
 visit-primitive-spec =

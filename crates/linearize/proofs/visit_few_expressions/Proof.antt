@@ -2,7 +2,7 @@
 use native.Mathlib.Omega.{arith}
 use borrow.Author.Needs.{needs}
 use denote.Ref.{now}
-use Rattle.expression.proofs.TableLaws.{fixed-none}
+use Rattle.expression.proofs.KeptValuesLaws.{no-constants}
 use Rattle.linearize.proofs.visit_few_expressions.Statement.{statement}
 use Rattle.linearize.proofs.visit_few_expressions.Tie as tie
 
@@ -13,7 +13,7 @@ visit-program-requires : tie.Need-visit-program-requires
 visit-program-requires c κs =
     let pre = c .before .before .before .before .before .before .before .before .pre in
     let laid = pre .0 .start .laid in
-    (pre .0, fixed-none (now (c .before .before .before .before .before .before .before .before .args .image)) 896 (omega (arith, pre .1, laid .expressions-is)))
+    (pre .0, no-constants (now (c .before .before .before .before .before .before .before .before .args .image)) 896 (omega (arith, pre .1, laid .expressions-is)))
 
 same-length : tie.Need-same-length
 same-length c = search needs

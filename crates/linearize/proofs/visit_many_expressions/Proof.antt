@@ -2,7 +2,7 @@
 use native.Mathlib.Omega.{arith}
 use borrow.Author.Needs.{needs}
 use denote.Ref.{now}
-use Rattle.expression.proofs.TableLaws.{fixed-none}
+use Rattle.expression.proofs.KeptValuesLaws.{no-constants}
 use Rattle.linearize.proofs.visit_many_expressions.Statement.{statement}
 use Rattle.linearize.proofs.visit_many_expressions.Tie as tie
 
@@ -13,7 +13,7 @@ visit-program-requires : tie.Need-visit-program-requires
 visit-program-requires c κs =
     let pre = c .before .before .before .before .before .before .before .before .pre in
     let laid = pre .start .laid in
-    (pre, fixed-none (now (c .before .before .before .before .before .before .before .before .args .image)) 19096 (omega (arith, laid .whole, laid .short)))
+    (pre, no-constants (now (c .before .before .before .before .before .before .before .before .args .image)) 19096 (omega (arith, laid .whole, laid .short)))
 
 same-length : tie.Need-same-length
 same-length c = search needs

@@ -5,13 +5,14 @@ use mathlib.Core.Path.{_≡_, refl, ap, _∙_}
 use borrow.Author.Needs.{needs}
 use denote.Ref.{now}
 use lib.ListN.{length}
-use Rattle.statement.proofs.LoopLaws.{Looped, looped-start, looped-length}
+use Rattle.statement.proofs.LoopedLaws.{Looped, looped-start, looped-length}
 use Rattle.gate.proofs.RanStepsLaws.{ran-next, ran-stop, ran-done, ran-lengths, ran-steps, ran-from, ran-still}
 use Rattle.gate.proofs.RunContextLaws.{context-on}
 use Rattle.linearize.proofs.MainContextLaws.{main-context, main-steps, main-statement}
 use Rattle.model.specs.Steps.{visitStatement, opening}
 use Rattle.argument.specs.Frames.{scopeFrame}
-use Rattle.expression.specs.Table.{anglesIn, ConstantsKept}
+use Rattle.expression.specs.Angles.{anglesIn}
+use Rattle.expression.specs.KeptValues.{ConstantsKept}
 use Rattle.linearize.proofs.visit_program.Statement.{statement}
 use Rattle.linearize.proofs.visit_program.Tie as tie
 
