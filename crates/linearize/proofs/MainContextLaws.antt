@@ -22,7 +22,7 @@ use Rattle.record_writer.specs.declared.Linearized.{Linearized}
 use Rattle.record_writer.specs.declared.Linearized.the-variants as linearized
 use Rattle.record_writer.proofs.WroteStepsLaws.{wrote-open}
 use Rattle.image.proofs.KindLaws.{if-at, plain-facts-at}
-use Rattle.argument.specs.Frames.{scopeFrame, scopeQubits, ScopeContext}
+use Rattle.argument.specs.Frames.{scopeFrame, scopeQubits, ScopeContext, BitContext}
 use Rattle.expression.specs.KeptValues.{ConstantsKept}
 use Rattle.expression.proofs.AnglesLaws.{zeros-sound}
 use Rattle.record_writer.specs.declared.Position.{Position}
@@ -32,7 +32,7 @@ use Rattle.gate.specs.PlainStatement.{PlainStatement}
 use Rattle.gate.specs.RanSteps.{plainSteps}
 use Rattle.linearize.specs.MainContext.{StartContext, MainContext}
 use Rattle.linearize.specs.MainStatement.{MainStatement, IsConditional}
-use Rattle.argument.proofs.ArgumentLaws.{few-classical, count-sum}
+use Rattle.argument.proofs.ArgumentLaws.{few-quantum, few-classical}
 
 -- ---- a main statement by its kind
 
@@ -47,32 +47,32 @@ module _ (image : List ℕ) (s : ℕ) where
   plain-in-main h m = record { listed = m .listed; facts = plain-facts-at image 0 s (statementAt image s) (word image (statementAt image s)) refl refl h (m .facts) }
 
   -- a conditional's steps: its start, its inner statement, its end
-  module _ {l : Layout} {qubit-starts bit-starts qubits : List ℕ} (st : ScopeContext image l qubit-starts 0 qubits) (e : IsConditional image s) (m : MainStatement image l s)
+  module _ {l : Layout} {bit-starts : List ℕ} (bits : BitContext image l bit-starts) (e : IsConditional image s) (m : MainStatement image l s)
       {p r t v : ℕ} (ep : p ≡ statementAt image s) (er : r ≡ word image (p + 1)) (ev : v ≡ word image (p + 2)) (et : t ≡ word image (p + 3)) where
     register-is : r ≡ word image (statementAt image s + 1)
     register-is = er ∙ ap (λ (n : ℕ). word image (n + 1)) ep
 
     pub register-listed : r < 4096
-    register-listed = omega (arith, if-facts e (m .facts) .1, few-classical st, register-is)
+    register-listed = omega (arith, if-facts e (m .facts) .1, few-classical (bits .accepted), register-is)
 
     pub register-in-table : r < length bit-starts
-    register-in-table = omega (arith, if-facts e (m .facts) .1, st .classical .fits, register-is)
+    register-in-table = omega (arith, if-facts e (m .facts) .1, bits .starts .fits, register-is)
 
     pub inner-listed : PlainStatement image l 0 t
     inner-listed =
         let h : t ≡ word image (statementAt image s + 3) = et ∙ ap (λ (n : ℕ). word image (n + 3)) ep in
         record {
-          listed = omega (arith, if-facts e (m .facts) .3, h, st .laid .all-is);
+          listed = omega (arith, if-facts e (m .facts) .3, h, bits .laid .all-is);
           facts = subst (λ (n : ℕ). PlainFacts image 0 (statement image n)) (sym h) (if-facts e (m .facts) .5);
         }
 
-    pub conditional-steps : (levels-left : ℕ) (angles : List Value) {first size : ℕ} → first ≡ getD bit-starts r 0 → {q : ℕ} → size ≡ word image (9 + q + r) → q ≡ l .quantum
+    pub conditional-steps : (levels-left : ℕ) (angles : List Value) (qubits : List ℕ) {first size : ℕ} → first ≡ getD bit-starts r 0 → {q : ℕ} → size ≡ word image (9 + q + r) → q ≡ l .quantum
         → (write [] (Record.ConditionalStart first size v) ∷ []) ++ (plainSteps image levels-left (scopeFrame image 0 angles qubits) t ++ write [] Record.ConditionalEnd ∷ [])
         ≡ visitStatement image (opening image levels-left) (scopeFrame image 0 angles qubits) s
     unfolding visitStatement visitPlain visitConditional firstBit
-    conditional-steps levels-left angles {first} {size} ef {q} ez eq =
-        let a : first ≡ firstBit image (word image (statementAt image s + 1)) = ef ∙ ap (λ (n : ℕ). getD bit-starts n 0) register-is ∙ st .classical .each _ (if-facts e (m .facts) .1) in
-        let b : size ≡ classicalSize image (word image (statementAt image s + 1)) = ez ∙ ap₂ (λ (m n : ℕ). word image (9 + m + n)) (eq ∙ st .laid .quantum-is) register-is in
+    conditional-steps levels-left angles qubits {first} {size} ef {q} ez eq =
+        let a : first ≡ firstBit image (word image (statementAt image s + 1)) = ef ∙ ap (λ (n : ℕ). getD bit-starts n 0) register-is ∙ bits .starts .each _ (if-facts e (m .facts) .1) in
+        let b : size ≡ classicalSize image (word image (statementAt image s + 1)) = ez ∙ ap₂ (λ (m n : ℕ). word image (9 + m + n)) (eq ∙ bits .laid .quantum-is) register-is in
         let c : v ≡ word image (statementAt image s + 2) = ev ∙ ap (λ (n : ℕ). word image (n + 2)) ep in
         let d : t ≡ word image (statementAt image s + 3) = et ∙ ap (λ (n : ℕ). word image (n + 3)) ep in
         sym (rw (is-if e, ← a, ← b, ← c, ← d) refl)
@@ -81,13 +81,18 @@ module _ (image : List ℕ) (s : ℕ) where
 
 module _ {image : List ℕ} {l : Layout} {qubit-starts bit-starts out trace : List ℕ} {at : Position} (m : MainContext image l qubit-starts bit-starts out trace at) where
   main-in-scope : {qubits : List ℕ} → length qubits ≡ 16 → ScopeContext image l qubit-starts 0 qubits
-  main-in-scope h = record { laid = m .start .laid; accepted = m .start .accepted; quantum = m .quantum; classical = m .classical; wide = h; ready = refl }
+  main-in-scope h = record { laid = m .start .laid; accepted = m .start .accepted; starts = m .quantum; sixteen = h; frame = refl }
 
   -- where main's statements are run
   pub main-context : {kept-values qubits : List ℕ} → ConstantsKept image kept-values → length qubits ≡ 16 → RunContext image l qubit-starts bit-starts kept-values 0 (replicate 96 0) qubits out trace at
   main-context f h =
       record {
-        context = record { in-scope = main-in-scope h; constants = f; sound-angles = zeros-sound 96; in-output = m .start .in-output };
+        context = record {
+          in-scope = main-in-scope h;
+          with-bits = record { laid = m .start .laid; accepted = m .start .accepted; starts = m .classical };
+          with-angles = record { laid = m .start .laid; sound = zeros-sound 96; constants = f };
+          in-output = m .start .in-output;
+        };
         trace-length = m .start .trace-length;
         trace-room = omega (arith, m .start .no-calls);
       }
@@ -129,12 +134,12 @@ module _ {image : List ℕ} {l : Layout} {out trace : List ℕ} {at : Position} 
   pub quantum-fits : (l .quantum ≤ 4096) × (sum (map (λ i. word image (9 + i)) (range 0 (l .quantum))) ≤ 4096)
   unfolding firstQubit
   quantum-fits =
-      rw (laid .quantum-is) (omega (arith, count-sum (quantumSize image) 0 (quantumRegisters image) (λ r p q. acc .qsizes r (omega arith)), acc .fewQubits), acc .fewQubits)
+      rw (laid .quantum-is) (few-quantum acc, acc .fewQubits)
 
   pub classical-fits : (9 + l .quantum ≤ 16384) × (l .classical ≤ 4096) × (sum (map (λ i. word image (9 + l .quantum + i)) (range 0 (l .classical))) ≤ 4096)
   unfolding firstBit
   classical-fits =
-      rw (laid .quantum-is, laid .classical-is) (omega (arith, laid .whole, laid .short), omega (arith, count-sum (classicalSize image) 0 (classicalRegisters image) (λ r p q. acc .csizes r (omega arith)), acc .fewBits), acc .fewBits)
+      rw (laid .quantum-is, laid .classical-is) (omega (arith, laid .whole, laid .short), few-classical acc, acc .fewBits)
 
   pub with-starts : {qubit-starts bit-starts : List ℕ} → RegisterStarts (λ i. word image (9 + i)) (l .quantum) qubit-starts → RegisterStarts (λ i. word image (9 + l .quantum + i)) (l .classical) bit-starts → MainContext image l qubit-starts bit-starts out trace at
   with-starts q b = record { start = start; quantum = rw (laid .quantum-is) at q; classical = rw (laid .quantum-is, laid .classical-is) at b }

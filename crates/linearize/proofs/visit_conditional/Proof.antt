@@ -23,7 +23,7 @@ add-word-2 c = search needs
 add-word-3 : tie.Need-add-word-3
 add-word-3 c =
     let pre = c .before .before .before .before .before .before .before .before .before .pre in
-    record { fits = omega (arith, pre .0 .context .in-scope .laid .quantum-is, pre .0 .context .in-scope .laid .whole, pre .0 .context .in-scope .laid .short, register-listed _ _ (pre .0 .context .in-scope) (pre .2) (pre .1) (c .before .before .statement-at .ensures) (c .before .word .ensures) refl refl) }
+    record { fits = omega (arith, pre .0 .context .in-scope .laid .quantum-is, pre .0 .context .in-scope .laid .whole, pre .0 .context .in-scope .laid .short, register-listed _ _ (pre .0 .context .with-bits) (pre .2) (pre .1) (c .before .before .statement-at .ensures) (c .before .word .ensures) refl refl) }
 
 word-requires-2 : tie.Need-word-requires-2
 word-requires-2 c κs = search needs
@@ -31,13 +31,13 @@ word-requires-2 c κs = search needs
 mul-first : tie.Need-mul-first
 mul-first c =
     let pre = c .before .before .before .before .before .before .before .before .before .before .pre in
-    record { fits = omega (arith, register-listed _ _ (pre .0 .context .in-scope) (pre .2) (pre .1) (c .before .before .before .statement-at .ensures) (c .before .before .word .ensures) refl refl) }
+    record { fits = omega (arith, register-listed _ _ (pre .0 .context .with-bits) (pre .2) (pre .1) (c .before .before .before .statement-at .ensures) (c .before .before .word .ensures) refl refl) }
 
 shared-slice-read-first : tie.Need-shared-slice-read-first
 shared-slice-read-first c =
     let pre = c .before .before .before .before .before .before .before .before .before .before .before .pre in
     let statement-at = c .before .before .before .before .statement-at .ensures in
-    register-in-table _ _ (pre .0 .context .in-scope) (pre .2) (pre .1) statement-at (c .before .before .before .word .ensures) refl refl
+    register-in-table _ _ (pre .0 .context .with-bits) (pre .2) (pre .1) statement-at (c .before .before .before .word .ensures) refl refl
 
 add-word-4 : tie.Need-add-word-4
 add-word-4 c = search needs
@@ -66,7 +66,7 @@ visit-inner-statement-requires c κs =
     let statement-at = c .before .before .before .before .before .before .before .before .before .before .before .before .before .before .before .before .statement-at .ensures in
     let write-conditional-start = c .before .before .before .before .before .before .before .before .before .write-conditional-start .ensures in
     let next = c .before .before .before .before .before .next in
-    let h = inner-listed _ _ (pre .0 .context .in-scope) (pre .2) (pre .1) statement-at refl refl (c .before .before .word4 .ensures) in (context-wrote (pre .0) write-conditional-start (next .given .1), h)
+    let h = inner-listed _ _ (pre .0 .context .with-bits) (pre .2) (pre .1) statement-at refl refl (c .before .before .word4 .ensures) in (context-wrote (pre .0) write-conditional-start (next .given .1), h)
 
 enum-known-e : tie.Need-enum-known-e
 enum-known-e c = search needs
@@ -91,7 +91,7 @@ returns c =
     let next = c .before .before .before .before .before .before .before .before .before .before .before .before .next in
     let word4 = c .before .before .before .before .before .before .before .before .before .word4 .ensures in
     let visit-inner-statement = c .before .before .before .before .before .before .visit-inner-statement .ensures in
-    (ran-steps (conditional-steps _ _ (pre .0 .context .in-scope) (pre .2) (pre .1) statement-at word word3 word4 _ _ refl word2 refl) (wrote-then write-conditional-start (next .given .1) (visit-inner-statement .0)), visit-inner-statement .1)
+    (ran-steps (conditional-steps _ _ (pre .0 .context .with-bits) (pre .2) (pre .1) statement-at word word3 word4 _ _ _ refl word2 refl) (wrote-then write-conditional-start (next .given .1) (visit-inner-statement .0)), visit-inner-statement .1)
 
 same-length-4 : tie.Need-same-length-4
 same-length-4 c = search needs
@@ -104,7 +104,7 @@ returns-2 c =
     let word2 = c .before .before .before .before .before .before .before .before .before .word2 .ensures in
     let word3 = c .before .before .before .before .before .before .word3 .ensures in
     let write-conditional-start = c .before .before .before .before .before .write-conditional-start .ensures in
-    (ran-steps (conditional-steps _ _ (pre .0 .context .in-scope) (pre .2) (pre .1) statement-at word word3 refl _ _ refl word2 refl) (wrote-stops _ _ write-conditional-start (c .before .e .given .1)), pre .0 .context .constants)
+    (ran-steps (conditional-steps _ _ (pre .0 .context .with-bits) (pre .2) (pre .1) statement-at word word3 refl _ _ _ refl word2 refl) (wrote-stops _ _ write-conditional-start (c .before .e .given .1)), pre .0 .context .with-angles .constants)
 
 pub visit-conditional-spec : {M : Type 1} → statement M
 visit-conditional-spec =
