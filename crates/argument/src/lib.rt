@@ -72,7 +72,7 @@ pub fn resolve_creg(
     ensures { λ r. ⌜ r ≡ classicalArgument (now (image .entry)) a ⌝ }
 {
     let at = image::argument_at(image, l, a);
-    register_part(image, bits, 9 + l.quantum, at)
+    register_part(image, bits, 9 + l.quantum_registers, at)
 }
 
 // The qubit or bit of an argument in a round: size-1 arguments stay.

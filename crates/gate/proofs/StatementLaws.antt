@@ -53,8 +53,8 @@ known-gate image {p} {q} {g} {n} e f h = subst (λ (x : ℕ). x < n) (sym (read-
 
 -- an entry ends within the image
 module _ {image : List ℕ} {l : Layout} (laid : LayoutOf image l) where
-  pub near-statement : (s : ℕ) {p : ℕ} → s < l .all → p ≡ statementAt image s → p + 5 ≤ 8192
-  near-statement s h e = omega (arith, laid .all-is, laid .whole, laid .short)
+  pub near-statement : (s : ℕ) {p : ℕ} → s < l .statements → p ≡ statementAt image s → p + 5 ≤ 8192
+  near-statement s h e = omega (arith, laid .statements-is, laid .whole, laid .short)
 
   pub near-gate : (g : ℕ) {at : ℕ} → g < l .gates → at ≡ gateAt image g → at + 5 ≤ 8192
   near-gate g h e = omega (arith, laid .gates-is, laid .whole, laid .short)
@@ -120,7 +120,7 @@ module _ {image : List ℕ} {l : Layout} {qs bs : List ℕ} {scope : ℕ} {forma
 
   -- what its acceptance says
 
-  pub u-needs : {q : ℕ} → s < l .all → k ≡ 1 → q ≡ word image (p + 4) → ListedExpressions image (variables image scope) (p + 1) 3 × (q < l .arguments) × T (argumentOk image scope q)
+  pub u-needs : {q : ℕ} → s < l .statements → k ≡ 1 → q ≡ word image (p + 4) → ListedExpressions image (variables image scope) (p + 1) 3 × (q < l .arguments) × T (argumentOk image scope q)
   u-needs h e eq =
       let g = known (u-statement e eq) in (
         record {

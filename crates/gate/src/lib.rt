@@ -65,7 +65,7 @@ fn visit_leaf(
     out: &mut [u64],
     at: Position,
 ) -> Linearized
-    requires { ⌜ ScopeContext (now image) l (now qubits) (now bits) scope (now formals) × ConstantsKept (now image) (now table) × SoundAngles (anglesIn (now variables)) × (s < l .all) × PlainFacts (now image) scope (statement (now image) s) × ¬ (word (now image) (statementAt (now image) s) ≡ 3) × InOutput (now out) at ⌝ }
+    requires { ⌜ ScopeContext (now image) l (now qubits) (now bits) scope (now formals) × ConstantsKept (now image) (now table) × SoundAngles (anglesIn (now variables)) × (s < l .statements) × PlainFacts (now image) scope (statement (now image) s) × ¬ (word (now image) (statementAt (now image) s) ≡ 3) × InOutput (now out) at ⌝ }
     ensures { λ r. ⌜ WroteSteps (plainSteps (now (image .entry)) 0 (scopeFrame (now (image .entry)) scope (anglesIn (now (variables .entry))) (now (formals .entry))) s) (now (out .entry)) at r (now (out .exit)) × ConstantsKept (now (image .entry)) (now (table .exit)) ⌝ }
 {
     let place = image::statement_at(image, l, s);
@@ -107,7 +107,7 @@ pub struct Call {
 
 // The call that is statement s.
 fn call_at(image: &[u64], l: Layout, s: u64) -> Call
-    requires { ⌜ LayoutOf (now image) l × (s < l .all) × (word (now image) (statementAt (now image) s + 1) < l .gates) × (word (now image) (statementAt (now image) s + 2) ≤ 8192) ⌝ }
+    requires { ⌜ LayoutOf (now image) l × (s < l .statements) × (word (now image) (statementAt (now image) s + 1) < l .gates) × (word (now image) (statementAt (now image) s + 2) ≤ 8192) ⌝ }
     ensures { λ r. ⌜ r ≡ callOf (now (image .entry)) s ⌝ }
 {
     let place = image::statement_at(image, l, s);
@@ -151,7 +151,7 @@ pub fn visit_statement(
     trace: &mut [u64],
     at: Position,
 ) -> Linearized
-    requires { ⌜ RunContext (now image) l (now qubits) (now bits) (now table) scope (now variables) (now formals) (now out) (now trace) at × (s < l .all) × PlainFacts (now image) scope (statement (now image) s) ⌝ }
+    requires { ⌜ RunContext (now image) l (now qubits) (now bits) (now table) scope (now variables) (now formals) (now out) (now trace) at × (s < l .statements) × PlainFacts (now image) scope (statement (now image) s) ⌝ }
     ensures { λ r. ⌜ RanSteps (plainSteps (now (image .entry)) left (scopeFrame (now (image .entry)) scope (anglesIn (now (variables .entry))) (now (formals .entry))) s) (now (out .entry)) at (now (trace .entry)) r (now (out .exit)) (now (trace .exit)) × ConstantsKept (now (image .entry)) (now (table .exit)) ⌝ }
 {
     if image::word(image, image::statement_at(image, l, s)) == 3 {
@@ -202,7 +202,7 @@ fn visit_gate(
     trace: &mut [u64],
     at: Position,
 ) -> Linearized
-    requires { ⌜ RunContext (now image) l (now qubits) (now bits) (now table) scope (now variables) (now formals) (now out) (now trace) at × (s < l .all) × PlainFacts (now image) scope (statement (now image) s) × (word (now image) (statementAt (now image) s) ≡ 3) ⌝ }
+    requires { ⌜ RunContext (now image) l (now qubits) (now bits) (now table) scope (now variables) (now formals) (now out) (now trace) at × (s < l .statements) × PlainFacts (now image) scope (statement (now image) s) × (word (now image) (statementAt (now image) s) ≡ 3) ⌝ }
     ensures { λ r. ⌜ RanSteps (plainSteps (now (image .entry)) left (scopeFrame (now (image .entry)) scope (anglesIn (now (variables .entry))) (now (formals .entry))) s) (now (out .entry)) at (now (trace .entry)) r (now (out .exit)) (now (trace .exit)) × ConstantsKept (now (image .entry)) (now (table .exit)) ⌝ }
 {
     let call = call_at(image, l, s);

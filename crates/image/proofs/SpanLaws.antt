@@ -11,12 +11,12 @@ use Rattle.model.proofs.All.{test}
 use Rattle.image.specs.declared.Layout.{Layout}
 use Rattle.image.specs.Layout.{LayoutOf, GatesAccepted, StatementsOf}
 
-pub holds-main : (image : List ℕ) (l : Layout) (scope : ℕ) → LayoutOf image l → scope ≡ 0 → StatementsOf image l scope (record { first = 0; count = l .main })
+pub holds-main : (image : List ℕ) (l : Layout) (scope : ℕ) → LayoutOf image l → scope ≡ 0 → StatementsOf image l scope (record { first = 0; count = l .«main_statements» })
 unfolding scopeStatements
 holds-main image l scope laid z =
     record {
-      statements-are = rw z (ap (range 0) (sym (laid .main-is)));
-      listed = omega (arith, laid .main-is, laid .all-is);
+      statements-are = rw z (ap (range 0) (sym (laid .main-statements-is)));
+      listed = omega (arith, laid .main-statements-is, laid .statements-is);
     }
 
 pub holds-body : (image : List ℕ) (l : Layout) (scope p a b : ℕ) → LayoutOf image l → GatesAccepted image → scope ≤ l .gates → ¬ (scope ≡ 0) → p ≡ gateAt image (scope - 1) → a ≡ word image (p + 3) → b ≡ word image (p + 4) → StatementsOf image l scope (record { first = a; count = b })
@@ -30,5 +30,5 @@ holds-body image l (suc g) p a b laid known h z ep ea eb =
     let inside : bodyStart image g + bodyLength image g ≤ allStatements image = leb→le _ _ (test 3 _ (known .each g (omega (arith, laid .gates-is)))) in
     record {
       statements-are = rw (start, size) refl;
-      listed = omega (arith, laid .all-is);
+      listed = omega (arith, laid .statements-is);
     }

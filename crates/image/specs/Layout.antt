@@ -15,11 +15,11 @@ use Rattle.image.specs.declared.Contents.the-variants as contents
 
 -- the layout has the image's counts, and the image is as long as they say
 pub record LayoutOf (image : List ℕ) (l : Layout) : Type 0 where
-  pub quantum-is : l .quantum ≡ quantumRegisters image
-  pub classical-is : l .classical ≡ classicalRegisters image
+  pub quantum-registers-is : l .«quantum_registers» ≡ quantumRegisters image
+  pub classical-registers-is : l .«classical_registers» ≡ classicalRegisters image
   pub gates-is : l .gates ≡ gates image
-  pub main-is : l .main ≡ mainStatements image
-  pub all-is : l .all ≡ allStatements image
+  pub main-statements-is : l .«main_statements» ≡ mainStatements image
+  pub statements-is : l .statements ≡ allStatements image
   pub arguments-is : l .arguments ≡ arguments image
   pub parameters-is : l .parameters ≡ parameters image
   pub expressions-is : l .expressions ≡ expressions image
@@ -38,4 +38,4 @@ pub record GatesAccepted (image : List ℕ) : Type 0 where
 -- the statements of a scope, each of which the image has
 pub record StatementsOf (image : List ℕ) (l : Layout) (scope : ℕ) (r : Span) : Type 0 where
   pub statements-are : scopeStatements image scope ≡ range (r .first) (r .count)
-  pub listed : r .first + r .count ≤ l .all
+  pub listed : r .first + r .count ≤ l .statements

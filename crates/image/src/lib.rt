@@ -9,13 +9,13 @@ ghost use Rattle.image.specs.Answer.{answerFlaw, numberIn, placeIn};
 ghost use Rattle.image.specs.Layout.{LayoutOf, ReadAs, GatesAccepted, StatementsOf};
 ghost use Rattle.image.specs.Firsts.{RegisterStarts};
 
-// The counts of an image.
+// The counts of an image; its statements are main's and the further ones.
 pub struct Layout {
-    pub quantum: u64,
-    pub classical: u64,
+    pub quantum_registers: u64,
+    pub classical_registers: u64,
     pub gates: u64,
-    pub main: u64,
-    pub all: u64,
+    pub main_statements: u64,
+    pub statements: u64,
     pub arguments: u64,
     pub parameters: u64,
     pub expressions: u64,
@@ -103,11 +103,11 @@ pub fn read_contents(image: &[u64]) -> Contents
         return Contents::Wrong;
     }
     Contents::Right(Layout {
-        quantum,
-        classical,
+        quantum_registers: quantum,
+        classical_registers: classical,
         gates,
-        main,
-        all,
+        main_statements: main,
+        statements: all,
         arguments,
         parameters,
         expressions,
@@ -119,7 +119,7 @@ pub fn gate_at(image: &[u64], l: Layout, g: u64) -> u64
     requires { ⌜ LayoutOf (now image) l × (g ≤ 8192) ⌝ }
     ensures { λ r. ⌜ r ≡ gateAt (now (image .entry)) g ⌝ }
 {
-    9 + l.quantum + l.classical + 5 * g
+    9 + l.quantum_registers + l.classical_registers + 5 * g
 }
 
 // The place of a statement.
@@ -127,7 +127,7 @@ pub fn statement_at(image: &[u64], l: Layout, s: u64) -> u64
     requires { ⌜ LayoutOf (now image) l × (s ≤ 8192) ⌝ }
     ensures { λ r. ⌜ r ≡ statementAt (now (image .entry)) s ⌝ }
 {
-    9 + l.quantum + l.classical + 5 * l.gates + 5 * s
+    9 + l.quantum_registers + l.classical_registers + 5 * l.gates + 5 * s
 }
 
 // The place of an argument.
@@ -135,7 +135,7 @@ pub fn argument_at(image: &[u64], l: Layout, a: u64) -> u64
     requires { ⌜ LayoutOf (now image) l × (a ≤ 8192) ⌝ }
     ensures { λ r. ⌜ r ≡ argumentAt (now (image .entry)) a ⌝ }
 {
-    9 + l.quantum + l.classical + 5 * l.gates + 5 * l.all + 2 * a
+    9 + l.quantum_registers + l.classical_registers + 5 * l.gates + 5 * l.statements + 2 * a
 }
 
 // The place of a parameter.
@@ -143,7 +143,7 @@ pub fn parameter_at(image: &[u64], l: Layout, p: u64) -> u64
     requires { ⌜ LayoutOf (now image) l × (p ≤ 8192) ⌝ }
     ensures { λ r. ⌜ r ≡ parameterAt (now (image .entry)) p ⌝ }
 {
-    9 + l.quantum + l.classical + 5 * l.gates + 5 * l.all + 2 * l.arguments + p
+    9 + l.quantum_registers + l.classical_registers + 5 * l.gates + 5 * l.statements + 2 * l.arguments + p
 }
 
 // The place of an expression.
@@ -151,7 +151,7 @@ pub fn expression_at(image: &[u64], l: Layout, e: u64) -> u64
     requires { ⌜ LayoutOf (now image) l × (e ≤ 8192) ⌝ }
     ensures { λ r. ⌜ r ≡ expressionAt (now (image .entry)) e ⌝ }
 {
-    9 + l.quantum + l.classical + 5 * l.gates + 5 * l.all + 2 * l.arguments + l.parameters + 3 * e
+    9 + l.quantum_registers + l.classical_registers + 5 * l.gates + 5 * l.statements + 2 * l.arguments + l.parameters + 3 * e
 }
 
 // ---- tables
@@ -202,7 +202,7 @@ pub fn classical_argument_size(image: &[u64], l: Layout, a: u64) -> u64
     if word(image, at + 1) != 0 {
         return 1;
     }
-    word_after(image, 9 + l.quantum, word(image, at))
+    word_after(image, 9 + l.quantum_registers, word(image, at))
 }
 
 // The larger of two numbers. Other crates use it too.
@@ -245,7 +245,7 @@ pub fn statements_of(image: &[u64], l: Layout, scope: u64) -> Span
     if scope == 0 {
         return Span {
             first: 0,
-            count: l.main,
+            count: l.main_statements,
         };
     }
     let at = gate_at(image, l, scope - 1);

@@ -31,14 +31,14 @@ fault-next v w e = sym (rw e refl)
 -- the registers, as the code reads them
 module _ (image : List ℕ) (l : Layout) where
   abbrev pub quantumPart : Flaw
-  quantumPart = firstBad (registerFlaw (λ i. word image (9 + i))) (λ i. 9 + i) (range 0 (l .quantum))
+  quantumPart = firstBad (registerFlaw (λ i. word image (9 + i))) (λ i. 9 + i) (range 0 (l .«quantum_registers»))
 
   abbrev pub classicalPart : Flaw
-  classicalPart = firstBad (registerFlaw (λ i. word image (9 + l .quantum + i))) (λ i. 9 + l .quantum + i) (range 0 (l .classical))
+  classicalPart = firstBad (registerFlaw (λ i. word image (9 + l .«quantum_registers» + i))) (λ i. 9 + l .«quantum_registers» + i) (range 0 (l .«classical_registers»))
 
   registers-read : LayoutOf image l → registers image ≡ orElse quantumPart classicalPart
   unfolding registers quantumRegisterFlaw classicalRegisterFlaw registerFlaw firstQubit firstBit
-  registers-read h = sym (rw (h .quantum-is, h .classical-is) refl)
+  registers-read h = sym (rw (h .quantum-registers-is, h .classical-registers-is) refl)
 
   -- the four parts in their turn
   pub in-turn : LayoutOf image l → orElse quantumPart (orElse classicalPart (orElse (gateEntries image) (statementEntries image))) ≡ orElse (registers image) (orElse (gateEntries image) (statementEntries image))

@@ -306,13 +306,13 @@ fn conditional_flaw(
     if !image_entries::unused_after(image, l, s, 4) {
         return 4;
     }
-    if l.classical <= r {
+    if l.classical_registers <= r {
         return 4;
     }
-    if t < l.main {
+    if t < l.main_statements {
         return 4;
     }
-    if l.all <= t {
+    if l.statements <= t {
         return 4;
     }
     if !held(image, l, t) {
@@ -425,11 +425,11 @@ fn first_fault(image: &[u64], l: Layout) -> Fault
     requires { ⌜ LayoutOf (now image) l ⌝ }
     ensures { λ r. ⌜ verdictOfFault r ≡ orElse (registers (now (image .entry))) (orElse (gateEntries (now (image .entry))) (statementEntries (now (image .entry)))) ⌝ }
 {
-    let quantum = image_entries::register_fault(image, 9, l.quantum);
+    let quantum = image_entries::register_fault(image, 9, l.quantum_registers);
     if quantum.number != 0 {
         return quantum;
     }
-    let classical = image_entries::register_fault(image, 9 + l.quantum, l.classical);
+    let classical = image_entries::register_fault(image, 9 + l.quantum_registers, l.classical_registers);
     if classical.number != 0 {
         return classical;
     }

@@ -101,8 +101,8 @@ fn gate_ok(image: &[u64], l: Layout, g: u64) -> bool
         image::word(image, at + 2),
         image::word(image, at + 3),
         image::word(image, at + 4),
-        l.main,
-        l.all,
+        l.main_statements,
+        l.statements,
     )
 }
 
@@ -304,7 +304,7 @@ pub fn argument_ok(image: &[u64], l: Layout, scope: u64, a: u64) -> bool
     let register = image::word(image, at);
     let index = image::word(image, at + 1);
     if scope == 0 {
-        if register < l.quantum {
+        if register < l.quantum_registers {
             return index <= image::word(image, 9 + register);
         }
         return false;
@@ -321,8 +321,8 @@ pub fn classical_argument_ok(image: &[u64], l: Layout, a: u64) -> bool
 {
     let at = image::argument_at(image, l, a);
     let register = image::word(image, at);
-    if register < l.classical {
-        return image::word(image, at + 1) <= image::word(image, 9 + l.quantum + register);
+    if register < l.classical_registers {
+        return image::word(image, at + 1) <= image::word(image, 9 + l.quantum_registers + register);
     }
     false
 }

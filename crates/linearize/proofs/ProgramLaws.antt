@@ -55,18 +55,18 @@ module _ (image : List ℕ) (s : ℕ) where
     pub register-tabled : r < length bs
     register-tabled = omega (arith, if-facts e f .1, st .classical .fits, register-is)
 
-    pub held-listed : (t < l .all) × PlainFacts image 0 (statement image t)
+    pub held-listed : (t < l .statements) × PlainFacts image 0 (statement image t)
     held-listed =
         let h : t ≡ word image (statementAt image s + 3) = et ∙ ap (λ (n : ℕ). word image (n + 3)) ep in
-        (omega (arith, if-facts e f .3, h, st .laid .all-is), subst (λ (n : ℕ). PlainFacts image 0 (statement image n)) (sym h) (if-facts e f .5))
+        (omega (arith, if-facts e f .3, h, st .laid .statements-is), subst (λ (n : ℕ). PlainFacts image 0 (statement image n)) (sym h) (if-facts e f .5))
 
-    pub conditional-steps : (left : ℕ) (angles : List Value) {first size : ℕ} → first ≡ getD bs r 0 → {q : ℕ} → size ≡ word image (9 + q + r) → q ≡ l .quantum
+    pub conditional-steps : (left : ℕ) (angles : List Value) {first size : ℕ} → first ≡ getD bs r 0 → {q : ℕ} → size ≡ word image (9 + q + r) → q ≡ l .«quantum_registers»
         → (write [] (Record.ConditionalStart first size v) ∷ []) ++ (plainSteps image left (scopeFrame image 0 angles formals) t ++ write [] Record.ConditionalEnd ∷ [])
         ≡ visitStatement image (opening image left) (scopeFrame image 0 angles formals) s
     unfolding visitStatement visitPlain visitConditional firstBit
     conditional-steps left angles {first} {size} ef {q} ez eq =
         let a : first ≡ firstBit image (word image (statementAt image s + 1)) = ef ∙ ap (λ (n : ℕ). getD bs n 0) register-is ∙ st .classical .each _ (if-facts e f .1) in
-        let b : size ≡ classicalSize image (word image (statementAt image s + 1)) = ez ∙ ap₂ (λ (m n : ℕ). word image (9 + m + n)) (eq ∙ st .laid .quantum-is) register-is in
+        let b : size ≡ classicalSize image (word image (statementAt image s + 1)) = ez ∙ ap₂ (λ (m n : ℕ). word image (9 + m + n)) (eq ∙ st .laid .quantum-registers-is) register-is in
         let c : v ≡ word image (statementAt image s + 2) = ev ∙ ap (λ (n : ℕ). word image (n + 2)) ep in
         let d : t ≡ word image (statementAt image s + 3) = et ∙ ap (λ (n : ℕ). word image (n + 3)) ep in
         sym (rw (is-if e, ← a, ← b, ← c, ← d) refl)
@@ -98,26 +98,26 @@ pub main-ready : {image : List ℕ} {l : Layout} {qs bs table formals out trace 
     → RunContext image l qs bs table 0 (replicate 96 0) formals out trace at
 main-ready t f h o r z = record { stands = main-stands t h; fixed = f; angles = zeros-sound 96; opens = o; room = r; deep = omega arith }
 
-pub main-facts : {image : List ℕ} {l : Layout} {qs bs : List ℕ} {s : ℕ} → MainContext image l qs bs → s < l .main → Facts image 0 (statement image s)
+pub main-facts : {image : List ℕ} {l : Layout} {qs bs : List ℕ} {s : ℕ} → MainContext image l qs bs → s < l .«main_statements» → Facts image 0 (statement image s)
 unfolding scopeStatements
 main-facts {image} {s = s} t h =
-    subst (λ (n : ℕ). Facts image 0 (statement image n)) (zero-add s) (run-facts image (t .accepted) 0 0 (mainStatements image) s zero-le refl (omega (arith, h, t .laid .main-is)))
+    subst (λ (n : ℕ). Facts image 0 (statement image n)) (zero-add s) (run-facts image (t .accepted) 0 0 (mainStatements image) s zero-le refl (omega (arith, h, t .laid .main-statements-is)))
 
 -- ---- the tables of where registers start
 
 module _ {image : List ℕ} {l : Layout} (laid : LayoutOf image l) (acc : Accepted image) where
-  pub quantum-fits : (l .quantum ≤ 4096) × (sum (map (λ i. word image (9 + i)) (range 0 (l .quantum))) ≤ 4096)
+  pub quantum-fits : (l .«quantum_registers» ≤ 4096) × (sum (map (λ i. word image (9 + i)) (range 0 (l .«quantum_registers»))) ≤ 4096)
   unfolding firstQubit
   quantum-fits =
-      rw (laid .quantum-is) (omega (arith, count-sum (quantumSize image) 0 (quantumRegisters image) (λ r p q. acc .qsizes r (omega arith)), acc .fewQubits), acc .fewQubits)
+      rw (laid .quantum-registers-is) (omega (arith, count-sum (quantumSize image) 0 (quantumRegisters image) (λ r p q. acc .qsizes r (omega arith)), acc .fewQubits), acc .fewQubits)
 
-  pub classical-fits : (9 + l .quantum ≤ 16384) × (l .classical ≤ 4096) × (sum (map (λ i. word image (9 + l .quantum + i)) (range 0 (l .classical))) ≤ 4096)
+  pub classical-fits : (9 + l .«quantum_registers» ≤ 16384) × (l .«classical_registers» ≤ 4096) × (sum (map (λ i. word image (9 + l .«quantum_registers» + i)) (range 0 (l .«classical_registers»))) ≤ 4096)
   unfolding firstBit
   classical-fits =
-      rw (laid .quantum-is, laid .classical-is) (omega (arith, laid .whole, laid .short), omega (arith, count-sum (classicalSize image) 0 (classicalRegisters image) (λ r p q. acc .csizes r (omega arith)), acc .fewBits), acc .fewBits)
+      rw (laid .quantum-registers-is, laid .classical-registers-is) (omega (arith, laid .whole, laid .short), omega (arith, count-sum (classicalSize image) 0 (classicalRegisters image) (λ r p q. acc .csizes r (omega arith)), acc .fewBits), acc .fewBits)
 
-  pub tabled : {qs bs : List ℕ} → RegisterStarts (λ i. word image (9 + i)) (l .quantum) qs → RegisterStarts (λ i. word image (9 + l .quantum + i)) (l .classical) bs → MainContext image l qs bs
-  tabled {qs} {bs} q b = record { laid = laid; accepted = acc; quantum = rw (laid .quantum-is) at q; classical = rw (laid .quantum-is, laid .classical-is) at b }
+  pub tabled : {qs bs : List ℕ} → RegisterStarts (λ i. word image (9 + i)) (l .«quantum_registers») qs → RegisterStarts (λ i. word image (9 + l .«quantum_registers» + i)) (l .«classical_registers») bs → MainContext image l qs bs
+  tabled {qs} {bs} q b = record { laid = laid; accepted = acc; quantum = rw (laid .quantum-registers-is) at q; classical = rw (laid .quantum-registers-is, laid .classical-registers-is) at b }
 
 -- nothing to do
 pub wrote-nothing : {out : List ℕ} {at : Position} → InOutput out at → WroteSteps [] out at (linearized.Done at) out

@@ -38,7 +38,7 @@ fn visit_held(
     trace: &mut [u64],
     at: Position,
 ) -> Linearized
-    requires { ⌜ RunContext (now image) l (now qubits) (now bits) (now table) 0 (now variables) (now formals) (now out) (now trace) at × (t < l .all) × PlainFacts (now image) 0 (statement (now image) t) ⌝ }
+    requires { ⌜ RunContext (now image) l (now qubits) (now bits) (now table) 0 (now variables) (now formals) (now out) (now trace) at × (t < l .statements) × PlainFacts (now image) 0 (statement (now image) t) ⌝ }
     ensures { λ r. ⌜ RanSteps (plainSteps (now (image .entry)) left (scopeFrame (now (image .entry)) 0 (anglesIn (now (variables .entry))) (now (formals .entry))) t ++ write [] Record.ConditionalEnd ∷ []) (now (out .entry)) at (now (trace .entry)) r (now (out .exit)) (now (trace .exit)) × ConstantsKept (now (image .entry)) (now (table .exit)) ⌝ }
 {
     match gate::visit_statement(
@@ -76,12 +76,12 @@ fn visit_conditional(
     trace: &mut [u64],
     at: Position,
 ) -> Linearized
-    requires { ⌜ RunContext (now image) l (now qubits) (now bits) (now table) 0 (now variables) (now formals) (now out) (now trace) at × (s < l .all) × Facts (now image) 0 (statement (now image) s) × (word (now image) (statementAt (now image) s) ≡ 7) ⌝ }
+    requires { ⌜ RunContext (now image) l (now qubits) (now bits) (now table) 0 (now variables) (now formals) (now out) (now trace) at × (s < l .statements) × Facts (now image) 0 (statement (now image) s) × (word (now image) (statementAt (now image) s) ≡ 7) ⌝ }
     ensures { λ r. ⌜ RanSteps (visitStatement (now (image .entry)) (opening (now (image .entry)) left) (scopeFrame (now (image .entry)) 0 (anglesIn (now (variables .entry))) (now (formals .entry))) s) (now (out .entry)) at (now (trace .entry)) r (now (out .exit)) (now (trace .exit)) × ConstantsKept (now (image .entry)) (now (table .exit)) ⌝ }
 {
     let place = image::statement_at(image, l, s);
     let register = image::word(image, place + 1);
-    let size = image::word(image, 9 + l.quantum + register);
+    let size = image::word(image, 9 + l.quantum_registers + register);
     let first = bits[register as usize];
     match record_writer::write_conditional_start(out, at, first, size, image::word(image, place + 2)) {
         Linearized::Done(next) => visit_held(
@@ -117,7 +117,7 @@ fn visit_main(
     trace: &mut [u64],
     at: Position,
 ) -> Linearized
-    requires { ⌜ RunContext (now image) l (now qubits) (now bits) (now table) 0 (now variables) (now formals) (now out) (now trace) at × (s < l .all) × Facts (now image) 0 (statement (now image) s) ⌝ }
+    requires { ⌜ RunContext (now image) l (now qubits) (now bits) (now table) 0 (now variables) (now formals) (now out) (now trace) at × (s < l .statements) × Facts (now image) 0 (statement (now image) s) ⌝ }
     ensures { λ r. ⌜ RanSteps (visitStatement (now (image .entry)) (opening (now (image .entry)) left) (scopeFrame (now (image .entry)) 0 (anglesIn (now (variables .entry))) (now (formals .entry))) s) (now (out .entry)) at (now (trace .entry)) r (now (out .exit)) (now (trace .exit)) × ConstantsKept (now (image .entry)) (now (table .exit)) ⌝ }
 {
     if image::word(image, image::statement_at(image, l, s)) == 7 {
@@ -170,7 +170,7 @@ fn visit_program(
 {
     let variables = [0u64; 96];
     let formals = [0u64; 16];
-    let n = l.main;
+    let n = l.main_statements;
     let mut now = at;
     let mut s = 0u64;
     while s < n {
@@ -272,13 +272,13 @@ fn visit_few_registers(
     trace: &mut [u64],
     at: Position,
 ) -> Linearized
-    requires { ⌜ LayoutOf (now image) l × Accepted (now image) × InOutput (now out) at × (256 ≤ length (now trace)) × (at .trace ≡ 0) × (l .quantum ≤ 64) × (l .classical ≤ 64) ⌝ }
+    requires { ⌜ LayoutOf (now image) l × Accepted (now image) × InOutput (now out) at × (256 ≤ length (now trace)) × (at .trace ≡ 0) × (l .«quantum_registers» ≤ 64) × (l .«classical_registers» ≤ 64) ⌝ }
     ensures { λ r. ⌜ RanSteps (visitBody (now (image .entry)) (opening (now (image .entry)) left) mainFrame) (now (out .entry)) at (now (trace .entry)) r (now (out .exit)) (now (trace .exit)) ⌝ }
 {
     let mut qubits = [0u64; 64];
-    image::first_of_each(image, 9, l.quantum, &mut qubits);
+    image::first_of_each(image, 9, l.quantum_registers, &mut qubits);
     let mut bits = [0u64; 64];
-    image::first_of_each(image, 9 + l.quantum, l.classical, &mut bits);
+    image::first_of_each(image, 9 + l.quantum_registers, l.classical_registers, &mut bits);
     visit_tabled(image, l, &qubits, &bits, left, out, trace, at)
 }
 
@@ -295,9 +295,9 @@ fn visit_many_registers(
     ensures { λ r. ⌜ RanSteps (visitBody (now (image .entry)) (opening (now (image .entry)) left) mainFrame) (now (out .entry)) at (now (trace .entry)) r (now (out .exit)) (now (trace .exit)) ⌝ }
 {
     let mut qubits = [0u64; 4096];
-    image::first_of_each(image, 9, l.quantum, &mut qubits);
+    image::first_of_each(image, 9, l.quantum_registers, &mut qubits);
     let mut bits = [0u64; 4096];
-    image::first_of_each(image, 9 + l.quantum, l.classical, &mut bits);
+    image::first_of_each(image, 9 + l.quantum_registers, l.classical_registers, &mut bits);
     visit_tabled(image, l, &qubits, &bits, left, out, trace, at)
 }
 
@@ -313,7 +313,7 @@ fn visit_statements(
     requires { ⌜ LayoutOf (now image) l × Accepted (now image) × InOutput (now out) at × (256 ≤ length (now trace)) × (at .trace ≡ 0) ⌝ }
     ensures { λ r. ⌜ RanSteps (visitBody (now (image .entry)) (opening (now (image .entry)) left) mainFrame) (now (out .entry)) at (now (trace .entry)) r (now (out .exit)) (now (trace .exit)) ⌝ }
 {
-    if image::larger(l.quantum, l.classical) <= 64 {
+    if image::larger(l.quantum_registers, l.classical_registers) <= 64 {
         return visit_few_registers(image, l, left, out, trace, at);
     }
     visit_many_registers(image, l, left, out, trace, at)
@@ -331,7 +331,7 @@ fn run_laid(
     requires { ⌜ LayoutOf (now image) l × Accepted (now image) × InOutput (now out) at × (256 ≤ length (now trace)) × (at .trace ≡ 0) ⌝ }
     ensures { λ r. ⌜ RanSteps (steps (now (image .entry)) depth) (now (out .entry)) at (now (trace .entry)) r (now (out .exit)) (now (trace .exit)) ⌝ }
 {
-    if l.main == 0 {
+    if l.main_statements == 0 {
         return Linearized::Done(at);
     }
     match long_record::write_head(out, at, image, l) {

@@ -39,13 +39,13 @@ module _ (image : List ℕ) where
   body-is scope first count j n r run er = rw run (omega arith)
 
   -- ---- in all
-  pub head-is : (l : Layout) → AcceptedLayout image l → (q c : ℕ) → q ≡ capped (sum (map (λ i. word image (9 + i)) (range 0 (l .quantum)))) → c ≡ capped (sum (map (λ i. word image (9 + l .quantum + i)) (range 0 (l .classical)))) → (q ≡ qubits image) × (c ≡ bits image)
+  pub head-is : (l : Layout) → AcceptedLayout image l → (q c : ℕ) → q ≡ capped (sum (map (λ i. word image (9 + i)) (range 0 (l .«quantum_registers»)))) → c ≡ capped (sum (map (λ i. word image (9 + l .«quantum_registers» + i)) (range 0 (l .«classical_registers»)))) → (q ≡ qubits image) × (c ≡ bits image)
   unfolding firstQubit firstBit
   head-is l ready q c eq ec =
       let laid = ready .laid in
       let a = accepts image (ready .accepted) in
-      let eq′ : q ≡ capped (qubits image) = rw (← laid .quantum-is) eq in
-      let ec′ : c ≡ capped (bits image) = ec ∙ ap (λ (k : ℕ). capped (sum (map (λ i. word image (9 + k + i)) (range 0 (l .classical))))) (laid .quantum-is) ∙ ap (λ (k : ℕ). capped (sum (map (λ i. word image (9 + quantumRegisters image + i)) (range 0 k)))) (laid .classical-is) in
+      let eq′ : q ≡ capped (qubits image) = rw (← laid .quantum-registers-is) eq in
+      let ec′ : c ≡ capped (bits image) = ec ∙ ap (λ (k : ℕ). capped (sum (map (λ i. word image (9 + k + i)) (range 0 (l .«classical_registers»))))) (laid .quantum-registers-is) ∙ ap (λ (k : ℕ). capped (sum (map (λ i. word image (9 + quantumRegisters image + i)) (range 0 k)))) (laid .classical-registers-is) in
       (omega (arith, a .fewQubits), omega (arith, a .fewBits))
 
   total-cases : (f : ℕ → ℕ) (main w statements head r : ℕ) → statements ≡ capped (sum (map f (range 0 main))) → head ≡ cond (eqb main 0) 0 w → r ≡ capped (statements + head) → r ≡ capped (cond (eqb main 0) 0 (w + sum (map f (range 0 main))))

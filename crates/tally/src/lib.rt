@@ -356,8 +356,8 @@ fn head_words(image: &[u64], l: Layout) -> u64
     requires { ⌜ AcceptedLayout (now image) l ⌝ }
     ensures { λ r. ⌜ r ≡ 3 + 2 * (qubits (now (image .entry)) + bits (now (image .entry))) ⌝ }
 {
-    let quantum = size_of_all(image, 9, l.quantum);
-    let classical = size_of_all(image, 9 + l.quantum, l.classical);
+    let quantum = size_of_all(image, 9, l.quantum_registers);
+    let classical = size_of_all(image, 9 + l.quantum_registers, l.classical_registers);
     3 + 2 * (quantum + classical)
 }
 
@@ -372,7 +372,7 @@ fn total_figure(image: &[u64], l: Layout, table: &[u64; 1152], n: u64, j: u64) -
     requires { ⌜ AcceptedLayout (now image) l × FigureTable (now image) n (gates (now image)) (now table) × (j < 9) ⌝ }
     ensures { λ r. ⌜ r ≡ capped (weightTally (now (image .entry)) (weightOf j) (entryOf j) (n + 1)) ⌝ }
 {
-    let main = l.main;
+    let main = l.main_statements;
     let head = weight(j, 0, head_words(image, l));
     let statements = body_figure(image, l, table, n, 0, j);
     cut_sum(statements, if_any(main, head))

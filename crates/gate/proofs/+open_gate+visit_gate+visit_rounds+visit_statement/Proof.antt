@@ -148,7 +148,7 @@ open-gate-add-visit-statement : (t : ℕ) → open-gate-lts.Need-add-visit-state
 open-gate-add-visit-statement t c = record { fits = omega (arith, c .before .before .before .before .before .before .before .before .before .before .before .before .before .pre .1 .1, c .before .before .before .before .before .before .before .before .before .before .before .before .before .pre .1 .0 .stands .laid .gates-is, c .before .before .before .before .before .before .before .before .before .before .before .before .before .pre .1 .0 .stands .laid .few-gates) }
 
 open-gate-add-visit-statement-2 : (t : ℕ) → open-gate-lts.Need-add-visit-statement-2 (open-gate-callees t) (open-gate-at t) open-gate.Post open-gate-Inv-loop open-gate-μ-loop
-open-gate-add-visit-statement-2 t c = record { fits = omega (arith, c .before .before .before .loop-test .taken, c .before .before .before .before .before .statements-of .ensures .listed, c .before .before .before .before .before .before .before .before .before .before .before .before .before .before .before .pre .1 .0 .stands .laid .all-is, c .before .before .before .before .before .before .before .before .before .before .before .before .before .before .before .pre .1 .0 .stands .laid .whole, c .before .before .before .before .before .before .before .before .before .before .before .before .before .before .before .pre .1 .0 .stands .laid .short) }
+open-gate-add-visit-statement-2 t c = record { fits = omega (arith, c .before .before .before .loop-test .taken, c .before .before .before .before .before .statements-of .ensures .listed, c .before .before .before .before .before .before .before .before .before .before .before .before .before .before .before .pre .1 .0 .stands .laid .statements-is, c .before .before .before .before .before .before .before .before .before .before .before .before .before .before .before .pre .1 .0 .stands .laid .whole, c .before .before .before .before .before .before .before .before .before .before .before .before .before .before .before .pre .1 .0 .stands .laid .short) }
 
 open-gate-sub-visit-statement : (t : ℕ) → open-gate-lts.Need-sub-visit-statement (open-gate-callees t) (open-gate-at t) open-gate.Post open-gate-Inv-loop open-gate-μ-loop
 open-gate-sub-visit-statement t c = omega (arith, c .before .before .before .before .before .before .if1 .left)
@@ -175,7 +175,7 @@ open-gate-same-length-4 : (t : ℕ) → open-gate-lts.Need-same-length-4 (open-g
 open-gate-same-length-4 t c = ran-lengths (open-gate-returns-2 t c .0) .1
 
 open-gate-add-i : (t : ℕ) → open-gate-lts.Need-add-i (open-gate-callees t) (open-gate-at t) open-gate.Post open-gate-Inv-loop open-gate-μ-loop
-open-gate-add-i t c = record { fits = omega (arith, c .before .before .before .before .before .before .before .before .before .before .before .before .before .before .before .loop-test .taken, c .before .before .before .before .before .before .before .before .before .before .before .before .before .before .before .before .before .statements-of .ensures .listed, c .before .before .before .before .before .before .before .before .before .before .before .before .before .before .before .before .before .before .before .before .before .before .before .before .before .before .before .pre .1 .0 .stands .laid .all-is, c .before .before .before .before .before .before .before .before .before .before .before .before .before .before .before .before .before .before .before .before .before .before .before .before .before .before .before .pre .1 .0 .stands .laid .whole, c .before .before .before .before .before .before .before .before .before .before .before .before .before .before .before .before .before .before .before .before .before .before .before .before .before .before .before .pre .1 .0 .stands .laid .short) }
+open-gate-add-i t c = record { fits = omega (arith, c .before .before .before .before .before .before .before .before .before .before .before .before .before .before .before .loop-test .taken, c .before .before .before .before .before .before .before .before .before .before .before .before .before .before .before .before .before .statements-of .ensures .listed, c .before .before .before .before .before .before .before .before .before .before .before .before .before .before .before .before .before .before .before .before .before .before .before .before .before .before .before .pre .1 .0 .stands .laid .statements-is, c .before .before .before .before .before .before .before .before .before .before .before .before .before .before .before .before .before .before .before .before .before .before .before .before .before .before .before .pre .1 .0 .stands .laid .whole, c .before .before .before .before .before .before .before .before .before .before .before .before .before .before .before .before .before .before .before .before .before .before .before .before .before .before .before .pre .1 .0 .stands .laid .short) }
 
 open-gate-loop-less : (t : ℕ) → open-gate-lts.Need-loop-less (open-gate-callees t) (open-gate-at t) open-gate.Post open-gate-Inv-loop open-gate-μ-loop
 open-gate-loop-less t c = omega (arith, c .before .before .before .before .before .before .before .before .before .before .before .before .before .before .before .loop-test .taken)
@@ -313,7 +313,7 @@ visit-rounds-returns-3 : (t : ℕ) → visit-rounds-lts.Need-returns-3 (visit-ro
 visit-rounds-returns-3 t c = (ran-still (c .before .loop .inv .1) (ran-done _ _ (c .before .loop .inv .0) (c .loop-test .left) (c .before .before .rounds-of .ensures)), c .before .loop .inv .2)
 
 visit-statement-statement-at-requires : (t : ℕ) → visit-statement-lts.Need-statement-at-requires (visit-statement-callees t) (visit-statement-at t) visit-statement.Post
-visit-statement-statement-at-requires t c κs = (c .before .before .before .before .before .before .pre .1 .0 .stands .laid, omega (arith, c .before .before .before .before .before .before .pre .1 .1, c .before .before .before .before .before .before .pre .1 .0 .stands .laid .all-is, c .before .before .before .before .before .before .pre .1 .0 .stands .laid .whole, c .before .before .before .before .before .before .pre .1 .0 .stands .laid .short))
+visit-statement-statement-at-requires t c κs = (c .before .before .before .before .before .before .pre .1 .0 .stands .laid, omega (arith, c .before .before .before .before .before .before .pre .1 .1, c .before .before .before .before .before .before .pre .1 .0 .stands .laid .statements-is, c .before .before .before .before .before .before .pre .1 .0 .stands .laid .whole, c .before .before .before .before .before .before .pre .1 .0 .stands .laid .short))
 
 visit-statement-word-requires : (t : ℕ) → visit-statement-lts.Need-word-requires (visit-statement-callees t) (visit-statement-at t) visit-statement.Post
 visit-statement-word-requires t c κs = tt

@@ -6,7 +6,7 @@ use Rattle.gate.proofs.call_at.Statement.{statement}
 use Rattle.gate.proofs.call_at.Tie as tie
 
 statement-at-requires : tie.Need-statement-at-requires
-statement-at-requires c κs = (c .before .pre .0, omega (arith, c .before .pre .1, c .before .pre .0 .all-is, c .before .pre .0 .whole, c .before .pre .0 .short))
+statement-at-requires c κs = (c .before .pre .0, omega (arith, c .before .pre .1, c .before .pre .0 .statements-is, c .before .pre .0 .whole, c .before .pre .0 .short))
 
 add-word : tie.Need-add-word
 add-word c = record { fits = omega (arith, near-statement (c .before .before .pre .0) _ (c .before .before .pre .1) (c .statement-at .ensures)) }

@@ -7,7 +7,7 @@ use Rattle.gate.proofs.visit_leaf.Statement.{statement}
 use Rattle.gate.proofs.visit_leaf.Tie as tie
 
 statement-at-requires : tie.Need-statement-at-requires
-statement-at-requires c κs = (c .before .before .before .before .before .pre .0 .laid, omega (arith, c .before .before .before .before .before .pre .3, c .before .before .before .before .before .pre .0 .laid .all-is, c .before .before .before .before .before .pre .0 .laid .whole, c .before .before .before .before .before .pre .0 .laid .short))
+statement-at-requires c κs = (c .before .before .before .before .before .pre .0 .laid, omega (arith, c .before .before .before .before .before .pre .3, c .before .before .before .before .before .pre .0 .laid .statements-is, c .before .before .before .before .before .pre .0 .laid .whole, c .before .before .before .before .before .pre .0 .laid .short))
 
 word-requires : tie.Need-word-requires
 word-requires c κs = search needs

@@ -33,7 +33,7 @@ returns-2 c =
     let m = c .before .before .before .before in
     let p = m .before .before .before in
     classical-size-whole (now (p .args .image)) _ _ _ (m .before .argument-at .ensures) (m .word .ensures) _ _ _
-    (c .before .before .before .if1 .left) (p .pre .0 .quantum-is) (c .before .word2 .ensures) (c .word-after .ensures)
+    (c .before .before .before .if1 .left) (p .pre .0 .quantum-registers-is) (c .before .word2 .ensures) (c .word-after .ensures)
 
 pub classical-argument-size-spec : {M : Type 1} → statement M
 classical-argument-size-spec =

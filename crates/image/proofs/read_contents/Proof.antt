@@ -101,7 +101,7 @@ unfolding contentsOk every
 returns-6 c =
     let k = right (now (c .before .before .before .before .before .before .before .before .before .before .before .before .before .before .before .args .image)) (c .before .before .before .before .before .before .before .before .before .before .before .before .before .count .result) (c .before .before .before .before .before .before .before .before .before .before .before .before .count2 .result) (c .before .before .before .before .before .before .before .before .before .before .before .count3 .result) (c .before .before .before .before .before .before .before .before .before .before .count4 .result) _ (c .before .before .before .before .before .before .before .before .count6 .result) (c .before .before .before .before .before .before .before .count7 .result) (c .before .before .before .before .before .before .count8 .result) (c .before .before .before .before .before .before .before .before .before .before .before .before .before .count .ensures) (c .before .before .before .before .before .before .before .before .before .before .before .before .count2 .ensures) (c .before .before .before .before .before .before .before .before .before .before .before .count3 .ensures) (c .before .before .before .before .before .before .before .before .before .before .count4 .ensures) (ap (λ (z : ℕ). (c .before .before .before .before .before .before .before .before .before .before .count4 .result) + z) (c .before .before .before .before .before .before .before .before .before .count5 .ensures)) (c .before .before .before .before .before .before .before .before .count6 .ensures) (c .before .before .before .before .before .before .before .count7 .ensures) (c .before .before .before .before .before .before .count8 .ensures) _ refl (c .before .before .before .before .if2 .left) (c .before .if4 .left) in (
       rw (le-leb 9 _ (c .before .before .before .before .before .if1 .left), le-leb _ 8192 (c .before .before .before .before .if2 .left), eq-eqb _ _ (sym (c .before .before .before .word .ensures) ∙ c .before .before .if3 .left), eq-eqb _ _ (k .1), le-leb (gates (now (c .before .before .before .before .before .before .before .before .before .before .before .before .before .before .before .args .image))) 128 (omega (arith, c .if5 .left, k .0 .g-is))) refl,
-      record { quantum-is = k .0 .q-is; classical-is = k .0 .c-is; gates-is = k .0 .g-is; main-is = k .0 .m-is; all-is = k .0 .s-is; arguments-is = k .0 .a-is; parameters-is = k .0 .p-is; expressions-is = k .0 .e-is; whole = k .1; short = c .before .before .before .before .if2 .left; few-gates = omega (arith, c .if5 .left, k .0 .g-is) },
+      record { quantum-registers-is = k .0 .q-is; classical-registers-is = k .0 .c-is; gates-is = k .0 .g-is; main-statements-is = k .0 .m-is; statements-is = k .0 .s-is; arguments-is = k .0 .a-is; parameters-is = k .0 .p-is; expressions-is = k .0 .e-is; whole = k .1; short = c .before .before .before .before .if2 .left; few-gates = omega (arith, c .if5 .left, k .0 .g-is) },
     )
 
 pub read-contents-spec : {M : Type 1} → statement M

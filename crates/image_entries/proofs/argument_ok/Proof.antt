@@ -27,12 +27,12 @@ returns c =
     let m = c .before .before .before .before in
     let s = c .before .before .before .before .before .before .before .before in
     argument-main (now (s .args .image)) _ _ _ (m .before .before .argument-at .ensures) (m .before .word .ensures) _ _ _ _
-    (c .before .before .before .if1 .taken) (m .word2 .ensures) (s .pre .0 .quantum-is) (c .before .if2 .taken) (c .word3 .ensures)
+    (c .before .before .before .if1 .taken) (m .word2 .ensures) (s .pre .0 .quantum-registers-is) (c .before .if2 .taken) (c .word3 .ensures)
 
 returns-2 : tie.Need-returns-2
 returns-2 c =
     let s = c .before .before .before .before .before .before .before in
-    argument-none (now (s .args .image)) _ _ _ (c .before .before .before .before .before .argument-at .ensures) (c .before .before .before .before .word .ensures) _ _ (c .before .before .if1 .taken) (s .pre .0 .quantum-is) (c .if2 .left)
+    argument-none (now (s .args .image)) _ _ _ (c .before .before .before .before .before .argument-at .ensures) (c .before .before .before .before .word .ensures) _ _ (c .before .before .if1 .taken) (s .pre .0 .quantum-registers-is) (c .if2 .left)
 
 sub-gate-at : tie.Need-sub-gate-at
 sub-gate-at c = search needs

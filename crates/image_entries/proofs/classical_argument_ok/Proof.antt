@@ -30,13 +30,13 @@ returns c =
     let m = c .before .before .before .before .before in
     let p = m .before .before .before in
     classical-is (now (p .args .image)) _ _ _ (m .before .argument-at .ensures) (m .word .ensures)
-    _ _ _ _ (p .pre .0 .classical-is) (c .before .before .before .if1 .taken) (c .before .before .word2 .ensures) (p .pre .0 .quantum-is) (c .word3 .ensures)
+    _ _ _ _ (p .pre .0 .classical-registers-is) (c .before .before .before .if1 .taken) (c .before .before .word2 .ensures) (p .pre .0 .quantum-registers-is) (c .word3 .ensures)
 
 returns-2 : tie.Need-returns-2
 returns-2 c =
     let m = c .before .before in
     let p = m .before .before .before in
-    classical-none (now (p .args .image)) _ _ _ (m .before .argument-at .ensures) (m .word .ensures) _ (p .pre .0 .classical-is) (c .if1 .left)
+    classical-none (now (p .args .image)) _ _ _ (m .before .argument-at .ensures) (m .word .ensures) _ (p .pre .0 .classical-registers-is) (c .if1 .left)
 
 pub classical-argument-ok-spec : {M : Type 1} → statement M
 classical-argument-ok-spec =

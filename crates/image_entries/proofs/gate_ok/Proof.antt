@@ -60,7 +60,7 @@ returns-3 c =
     let at-plus : (k : ℕ) (r : ℕ) → r ≡ word (now (a .args .image)) (c .before .before .before .before .before .before .before .before .gate-at .result + k) → r ≡ word (now (a .args .image)) (gateAt (now (a .args .image)) (a .args .g) + k) = λ k r e. e ∙ ap (λ (z : ℕ). word (now (a .args .image)) (z + k)) at in
     c .gate-words-ok .ensures
     ∙ sym (rw (le-leb _ 16 (subst (λ (z : ℕ). z ≤ 16) (c .before .before .before .before .before .before .before .word .ensures ∙ ap (word (now (a .args .image))) at) (c .before .before .before .before .before .before .if1 .left)), le-leb _ 16 (subst (λ (z : ℕ). z ≤ 16) (at-plus 1 _ (c .before .before .before .before .before .word2 .ensures)) (c .before .before .before .before .if2 .left)))
-    (sym (rw (at-plus 2 _ (c .before .before .before .word3 .ensures), at-plus 3 _ (c .before .before .word4 .ensures), at-plus 4 _ (c .before .word5 .ensures), a .pre .0 .main-is, a .pre .0 .all-is) refl)))
+    (sym (rw (at-plus 2 _ (c .before .before .before .word3 .ensures), at-plus 3 _ (c .before .before .word4 .ensures), at-plus 4 _ (c .before .word5 .ensures), a .pre .0 .main-statements-is, a .pre .0 .statements-is) refl)))
 
 pub gate-ok-spec : {M : Type 1} → statement M
 gate-ok-spec =

@@ -20,7 +20,7 @@ add-word-2 : tie.Need-add-word-2
 add-word-2 c = search needs
 
 add-word-3 : tie.Need-add-word-3
-add-word-3 c = record { fits = omega (arith, c .before .before .before .before .before .before .before .before .before .pre .0 .stands .laid .quantum-is, c .before .before .before .before .before .before .before .before .before .pre .0 .stands .laid .whole, c .before .before .before .before .before .before .before .before .before .pre .0 .stands .laid .short, register-listed _ _ (c .before .before .before .before .before .before .before .before .before .pre .0 .stands) (c .before .before .before .before .before .before .before .before .before .pre .3) (c .before .before .before .before .before .before .before .before .before .pre .2) (c .before .before .statement-at .ensures) (c .before .word .ensures) refl refl) }
+add-word-3 c = record { fits = omega (arith, c .before .before .before .before .before .before .before .before .before .pre .0 .stands .laid .quantum-registers-is, c .before .before .before .before .before .before .before .before .before .pre .0 .stands .laid .whole, c .before .before .before .before .before .before .before .before .before .pre .0 .stands .laid .short, register-listed _ _ (c .before .before .before .before .before .before .before .before .before .pre .0 .stands) (c .before .before .before .before .before .before .before .before .before .pre .3) (c .before .before .before .before .before .before .before .before .before .pre .2) (c .before .before .statement-at .ensures) (c .before .word .ensures) refl refl) }
 
 word-requires-2 : tie.Need-word-requires-2
 word-requires-2 c κs = search needs
@@ -44,7 +44,7 @@ enum-known-next : tie.Need-enum-known-next
 enum-known-next c = search needs
 
 add-word-5 : tie.Need-add-word-5
-add-word-5 c = record { fits = omega (arith, c .before .before .before .before .before .before .before .before .before .before .before .before .before .statement-at .ensures, c .before .before .before .before .before .before .before .before .before .before .before .before .before .before .before .before .before .before .before .before .pre .1, c .before .before .before .before .before .before .before .before .before .before .before .before .before .before .before .before .before .before .before .before .pre .0 .stands .laid .all-is, c .before .before .before .before .before .before .before .before .before .before .before .before .before .before .before .before .before .before .before .before .pre .0 .stands .laid .whole, c .before .before .before .before .before .before .before .before .before .before .before .before .before .before .before .before .before .before .before .before .pre .0 .stands .laid .short) }
+add-word-5 c = record { fits = omega (arith, c .before .before .before .before .before .before .before .before .before .before .before .before .before .statement-at .ensures, c .before .before .before .before .before .before .before .before .before .before .before .before .before .before .before .before .before .before .before .before .pre .1, c .before .before .before .before .before .before .before .before .before .before .before .before .before .before .before .before .before .before .before .before .pre .0 .stands .laid .statements-is, c .before .before .before .before .before .before .before .before .before .before .before .before .before .before .before .before .before .before .before .before .pre .0 .stands .laid .whole, c .before .before .before .before .before .before .before .before .before .before .before .before .before .before .before .before .before .before .before .before .pre .0 .stands .laid .short) }
 
 word-requires-4 : tie.Need-word-requires-4
 word-requires-4 c κs = search needs

@@ -24,7 +24,7 @@ loop-holds : tie.Need-loop-holds Inv-loop μ-loop
 loop-holds c = (looped-start _ _ (c .before .before .before .before .before .before .pre .2), refl, c .before .before .before .before .before .before .pre .1, refl)
 
 visit-main-requires : tie.Need-visit-main-requires Inv-loop μ-loop
-visit-main-requires c κs = (ready-on (main-ready (c .before .before .before .before .before .before .before .before .before .before .before .before .before .pre .0) (c .before .before .before .before .before .before .before .before .before .before .before .before .before .pre .1) refl (c .before .before .before .before .before .before .before .before .before .before .before .before .before .pre .2) (c .before .before .before .before .before .before .before .before .before .before .before .before .before .pre .3) (c .before .before .before .before .before .before .before .before .before .before .before .before .before .pre .4)) (c .before .before .before .before .before .before .loop .inv .0) (c .before .before .before .before .before .before .loop .inv .1) (c .before .before .before .before .before .before .loop .inv .2), omega (arith, c .before .before .before .before .before .loop-test .taken, c .before .before .before .before .before .before .before .before .before .before .before .before .before .pre .0 .laid .main-is, c .before .before .before .before .before .before .before .before .before .before .before .before .before .pre .0 .laid .all-is), main-facts (c .before .before .before .before .before .before .before .before .before .before .before .before .before .pre .0) (c .before .before .before .before .before .loop-test .taken))
+visit-main-requires c κs = (ready-on (main-ready (c .before .before .before .before .before .before .before .before .before .before .before .before .before .pre .0) (c .before .before .before .before .before .before .before .before .before .before .before .before .before .pre .1) refl (c .before .before .before .before .before .before .before .before .before .before .before .before .before .pre .2) (c .before .before .before .before .before .before .before .before .before .before .before .before .before .pre .3) (c .before .before .before .before .before .before .before .before .before .before .before .before .before .pre .4)) (c .before .before .before .before .before .before .loop .inv .0) (c .before .before .before .before .before .before .loop .inv .1) (c .before .before .before .before .before .before .loop .inv .2), omega (arith, c .before .before .before .before .before .loop-test .taken, c .before .before .before .before .before .before .before .before .before .before .before .before .before .pre .0 .laid .main-statements-is, c .before .before .before .before .before .before .before .before .before .before .before .before .before .pre .0 .laid .statements-is), main-facts (c .before .before .before .before .before .before .before .before .before .before .before .before .before .pre .0) (c .before .before .before .before .before .loop-test .taken))
 
 enum-known-next : tie.Need-enum-known-next Inv-loop μ-loop
 enum-known-next c = search needs
@@ -36,7 +36,7 @@ same-length : tie.Need-same-length Inv-loop μ-loop
 same-length c = omega (arith, c .before .before .before .before .before .before .before .before .table .given, c .before .before .before .before .before .before .before .before .before .before .before .before .before .before .before .before .loop .inv .3)
 
 returns : tie.Need-returns Inv-loop μ-loop
-returns c = ran-steps (main-steps _ _ _ _ (c .before .before .before .before .before .before .before .before .before .before .before .before .before .before .before .before .before .before .before .before .before .before .before .pre .0 .laid .main-is)) (ran-from (c .before .before .before .before .before .before .before .before .before .before .before .before .before .before .before .before .loop .inv .1) (ran-stop _ _ (c .before .before .before .before .before .before .before .before .before .before .before .before .before .before .before .before .loop .inv .0) (c .before .before .before .before .before .before .before .before .before .before .before .before .before .before .before .loop-test .taken) refl (c .before .before .before .before .before .before .before .before .before .visit-main .ensures .0) (c .before .e .given .1) refl))
+returns c = ran-steps (main-steps _ _ _ _ (c .before .before .before .before .before .before .before .before .before .before .before .before .before .before .before .before .before .before .before .before .before .before .before .pre .0 .laid .main-statements-is)) (ran-from (c .before .before .before .before .before .before .before .before .before .before .before .before .before .before .before .before .loop .inv .1) (ran-stop _ _ (c .before .before .before .before .before .before .before .before .before .before .before .before .before .before .before .before .loop .inv .0) (c .before .before .before .before .before .before .before .before .before .before .before .before .before .before .before .loop-test .taken) refl (c .before .before .before .before .before .before .before .before .before .visit-main .ensures .0) (c .before .e .given .1) refl))
 
 same-length-2 : tie.Need-same-length-2 Inv-loop μ-loop
 same-length-2 c = ran-lengths (returns c) .0
@@ -45,7 +45,7 @@ same-length-3 : tie.Need-same-length-3 Inv-loop μ-loop
 same-length-3 c = ran-lengths (returns c) .1
 
 add-s : tie.Need-add-s Inv-loop μ-loop
-add-s c = record { fits = omega (arith, c .before .before .before .before .before .before .before .before .before .before .before .before .before .before .before .loop-test .taken, c .before .before .before .before .before .before .before .before .before .before .before .before .before .before .before .before .before .before .before .before .before .before .before .pre .0 .laid .main-is, c .before .before .before .before .before .before .before .before .before .before .before .before .before .before .before .before .before .before .before .before .before .before .before .pre .0 .laid .whole, c .before .before .before .before .before .before .before .before .before .before .before .before .before .before .before .before .before .before .before .before .before .before .before .pre .0 .laid .short) }
+add-s c = record { fits = omega (arith, c .before .before .before .before .before .before .before .before .before .before .before .before .before .before .before .loop-test .taken, c .before .before .before .before .before .before .before .before .before .before .before .before .before .before .before .before .before .before .before .before .before .before .before .pre .0 .laid .main-statements-is, c .before .before .before .before .before .before .before .before .before .before .before .before .before .before .before .before .before .before .before .before .before .before .before .pre .0 .laid .whole, c .before .before .before .before .before .before .before .before .before .before .before .before .before .before .before .before .before .before .before .before .before .before .before .pre .0 .laid .short) }
 
 loop-less : tie.Need-loop-less Inv-loop μ-loop
 loop-less c = omega (arith, c .before .before .before .before .before .before .before .before .before .before .before .before .before .before .before .loop-test .taken)
@@ -63,7 +63,7 @@ same-length-6 : tie.Need-same-length-6 Inv-loop μ-loop
 same-length-6 c = ap length (c .before .loop .inv .1)
 
 returns-2 : tie.Need-returns-2 Inv-loop μ-loop
-returns-2 c = ran-steps (main-steps _ _ _ _ (c .before .before .before .before .before .before .before .before .pre .0 .laid .main-is)) (ran-still (c .before .loop .inv .1) (ran-done _ _ (c .before .loop .inv .0) (c .loop-test .left) refl))
+returns-2 c = ran-steps (main-steps _ _ _ _ (c .before .before .before .before .before .before .before .before .pre .0 .laid .main-statements-is)) (ran-still (c .before .loop .inv .1) (ran-done _ _ (c .before .loop .inv .0) (c .loop-test .left) refl))
 
 pub visit-program-spec : {M : Type 1} → statement M
 visit-program-spec =

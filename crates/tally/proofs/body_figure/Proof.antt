@@ -34,7 +34,7 @@ add-statement-figure c =
     let s = c .before .before in
     let laid = s .before .before .pre .0 .laid in
     let few = statements-few _ _ laid in
-    omega (arith, s .statements-of .ensures .listed, laid .all-is)
+    omega (arith, s .statements-of .ensures .listed, laid .statements-is)
 
 statement-figure-requires : tie.Need-statement-figure-requires Inv-loop μ-loop
 statement-figure-requires c κs =
@@ -44,7 +44,7 @@ statement-figure-requires c κs =
     let laid = pre .0 .laid in
     let few = statements-few _ _ laid in
     let within : a .scope ≤ gates (now (a .image)) = omega (arith, laid .gates-is, pre .2) in
-    (pre .0, pre .1, body-facts (now (a .image)) (pre .0 .accepted) (a .scope) _ _ _ within (s .statements-of .ensures .statements-are) (c .loop-test .taken), omega (arith, s .statements-of .ensures .listed, laid .all-is), pre .3)
+    (pre .0, pre .1, body-facts (now (a .image)) (pre .0 .accepted) (a .scope) _ _ _ within (s .statements-of .ensures .statements-are) (c .loop-test .taken), omega (arith, s .statements-of .ensures .listed, laid .statements-is), pre .3)
 
 cut-sum-requires : tie.Need-cut-sum-requires Inv-loop μ-loop
 cut-sum-requires c κs = search needs
