@@ -1,11 +1,12 @@
 -- Sizes of arguments: that of one, and the largest.
 use Prim.Native.Nat.{ℕ, zero, suc, _+_, _≤_, max}
 use native.Mathlib.Omega.{arith}
+use native.Mathlib.Nat.{add-zero}
 use mathlib.Core.Path.{_≡_, refl, sym, ap, _∙_}
 use mathlib.Core.List.{List, map}
 use borrow.Author.Tests.{eq-eqb, ne-eqb}
 use Rattle.model.specs.Lists.{range, largest}
-use Rattle.model.specs.Image.{word, quantumRegisters, argumentAt, argumentSize, classicalArgumentSize}
+use Rattle.model.specs.Image.{word, quantumRegisters, quantumRegisterAt, classicalRegisterAt, argumentAt, argumentSize, classicalArgumentSize}
 use Rattle.model.proofs.Ranges.{largest-next}
 
 -- ---- the size of one
@@ -20,17 +21,17 @@ module _ (image : List ℕ) where
     unfolding argumentSize
     size-index scope z h = rw (z, ← at-is, ← index-is, ne-eqb i 0 h) refl
 
-    pub size-whole : (scope r w : ℕ) → scope ≡ 0 → i ≡ 0 → r ≡ word image p → w ≡ word image (9 + r) → w ≡ argumentSize image scope a
+    pub size-whole : (scope f r w : ℕ) → scope ≡ 0 → i ≡ 0 → f ≡ quantumRegisterAt image 0 → r ≡ word image p → w ≡ word image (f + r) → w ≡ argumentSize image scope a
     unfolding argumentSize
-    size-whole scope r w z h er ew = rw (z, ← at-is, ← index-is, ← er, ← ew, eq-eqb i 0 h) refl
+    size-whole scope f r w z h ef er ew = rw (z, ← at-is, ← index-is, ← er, ← ef, ← ew, eq-eqb i 0 h) refl
 
     pub classical-size-index : ¬ (i ≡ 0) → 1 ≡ classicalArgumentSize image a
     unfolding classicalArgumentSize
     classical-size-index h = rw (← at-is, ← index-is, ne-eqb i 0 h) refl
 
-    pub classical-size-whole : (q r w : ℕ) → i ≡ 0 → q ≡ quantumRegisters image → r ≡ word image p → w ≡ word image (9 + q + r) → w ≡ classicalArgumentSize image a
+    pub classical-size-whole : (f r w : ℕ) → i ≡ 0 → f ≡ classicalRegisterAt image 0 → r ≡ word image p → w ≡ word image (f + r) → w ≡ classicalArgumentSize image a
     unfolding classicalArgumentSize
-    classical-size-whole q r w h eq er ew = rw (← at-is, ← index-is, ← er, ← eq, ← ew, eq-eqb i 0 h) refl
+    classical-size-whole f r w h ef er ew = rw (← at-is, ← index-is, ← er, ← add-zero (quantumRegisterAt image (quantumRegisters image)), ← ef, ← ew, eq-eqb i 0 h) refl
 
 -- ---- the largest of some numbers
 module _ (f : ℕ → ℕ) where
