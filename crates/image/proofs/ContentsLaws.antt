@@ -27,14 +27,15 @@ module _ (image : List ℕ) (l : Layout) (c : CappedCounts image l) where
   capped-limits =
       record {
         small =
-          go (bound _ _ (c .quantum-registers-is)) (bound _ _ (c .classical-registers-is)) (bound _ _ (c .gates-is))
-          (bound _ _ (c .arguments-is)) (bound _ _ (c .parameters-is)) (bound _ _ (c .expressions-is));
+            λ e h. go e (bound _ _ (c .quantum-registers-is)) (bound _ _ (c .classical-registers-is)) (bound _ _ (c .gates-is))
+            (bound _ _ (c .arguments-is)) (bound _ _ (c .parameters-is)) (omega (arith, h, bound (word image 8) _ (c .expressions-is)));
       }
     where
       statements : l .statements ≤ 16386
       statements = omega (arith, c .statements-is)
-      go : {q k g a p e : ℕ} → q ≤ 8193 → k ≤ 8193 → g ≤ 8193 → a ≤ 8193 → p ≤ 8193 → e ≤ 8193 → Small (expressionAt (0 ∷ q ∷ k ∷ g ∷ l .statements ∷ 0 ∷ a ∷ p ∷ e ∷ []) e)
-      go h1 h2 h3 h4 h5 h6 = omega (arith, statements)
+
+      go : {q k g a p : ℕ} (e : ℕ) → q ≤ 8193 → k ≤ 8193 → g ≤ 8193 → a ≤ 8193 → p ≤ 8193 → e ≤ 8193 → Small (expressionAt (0 ∷ q ∷ k ∷ g ∷ l .statements ∷ 0 ∷ a ∷ p ∷ []) e)
+      go e h1 h2 h3 h4 h5 h6 = omega (arith, statements)
 
   -- where the capped counts add up to no more than an image, none was capped
   module _ (n : ℕ) (h : n ≤ 8192) (t : expressionAt (contentsWith l) (l .expressions) ≡ n) where

@@ -1,6 +1,7 @@
+pub mod ArgumentSizeLaws
 pub mod ContentsLaws
-pub mod FirstLaws
 pub mod KindLaws
 pub mod PlaceLaws
-pub mod SizeLaws
-pub mod SpanLaws
+pub mod QubitsLaws
+pub mod RegisterStartsLaws
+pub mod StatementsOfLaws

@@ -10,7 +10,7 @@ use lib.Seq.{getD-set-same, getD-set-other}
 use Rattle.model.specs.Lists.{range, sum}
 use Rattle.model.proofs.Ranges.{sum-next}
 use Rattle.model.proofs.StepsSound.{sum-below}
-use Rattle.image.specs.Firsts.{RegisterStarts}
+use Rattle.image.specs.RegisterStarts.{RegisterStarts}
 
 module _ (size : ℕ → ℕ) where
   pub firsts-none : (table : List ℕ) → RegisterStarts size 0 table

@@ -19,13 +19,17 @@ contentsWith l =
     0 ∷ l .«quantum_registers» ∷ l .«classical_registers» ∷ l .gates ∷ l .statements ∷ 0
     ∷ l .arguments ∷ l .parameters ∷ l .expressions ∷ []
 
--- a number or a place so small that no sum with it wraps
+-- a number so small that no place worked out from it wraps
 abbrev pub Small : ℕ → Type 0
 Small n = n ≤ 262144
 
--- counts with which the place past the last entry is small
+-- a place so small that no place near it wraps
+abbrev pub SmallPlace : ℕ → Type 0
+SmallPlace at = at ≤ 4294967296
+
+-- counts with which each place up to the image's end is a small number
 pub record WithinLimits (l : Layout) : Type 0 where
-  pub small : Small (expressionAt (contentsWith l) (l .expressions))
+  pub small : (e : ℕ) → e ≤ l .expressions → Small (expressionAt (contentsWith l) e)
 
 -- the layout has the image's counts, and the image is as long as they say
 pub record LayoutOf (image : List ℕ) (l : Layout) : Type 0 where
@@ -44,8 +48,9 @@ pub record LayoutOf (image : List ℕ) (l : Layout) : Type 0 where
 
 -- r is the place of entry i: `at` says of which list, as gateAt
 pub record PlaceIs (l : Layout) (at : List ℕ → ℕ → ℕ) (i r : ℕ) : Type 0 where
+  pub small : SmallPlace r
   -- by the counts alone
-  pub counted : r ≡ at (contentsWith l) i
+  pub counted : (w : List ℕ) → w ≡ contentsWith l → r ≡ at w i
   -- in each image that has them
   pub in-image : (image : List ℕ) → LayoutOf image l → r ≡ at image i
 

@@ -6,8 +6,8 @@ ghost use Prim.Native.Nat.{_+_, _<_, _≤_, min, max};
 ghost use Rattle.model.specs.Lists.{range, sum};
 ghost use Rattle.model.specs.Image.{word, quantumRegisterAt, classicalRegisterAt, gateAt, statementAt, argumentAt, parameterAt, expressionAt, argumentSize, classicalArgumentSize, rounds};
 ghost use Rattle.image.specs.Answer.{refusalFlaw, answerFlaw, numberIn, placeIn};
-ghost use Rattle.image.specs.Layout.{CappedCounts, LayoutOf, WithinLimits, Small, PlaceIs, ReadAs, GatesAccepted, StatementsOf};
-ghost use Rattle.image.specs.Firsts.{RegisterStarts};
+ghost use Rattle.image.specs.Layout.{CappedCounts, LayoutOf, WithinLimits, Small, SmallPlace, PlaceIs, ReadAs, GatesAccepted, StatementsOf};
+ghost use Rattle.image.specs.RegisterStarts.{RegisterStarts};
 
 // The numbers of refusals.
 pub mod refusal;
@@ -19,10 +19,15 @@ pub const CONTENTS_WORDS: u64 = 9;
 
 // The words of an entry of each list.
 pub const REGISTER_WORDS: u64 = 1;
+
 pub const GATE_WORDS: u64 = 5;
+
 pub const STATEMENT_WORDS: u64 = 5;
+
 pub const ARGUMENT_WORDS: u64 = 2;
+
 pub const PARAMETER_WORDS: u64 = 1;
+
 pub const EXPRESSION_WORDS: u64 = 3;
 
 // The most words of an image.
@@ -33,6 +38,7 @@ pub const MOST_GATES: u64 = 128;
 
 // The most parameters, and the most arguments, of a gate.
 pub const MOST_PARAMETERS: u64 = 16;
+
 pub const MOST_ARGUMENTS: u64 = 16;
 
 // The most levels of an expression.
@@ -253,7 +259,7 @@ pub fn first_of_each(image: &[u64], at: u64, n: u64, firsts: &mut [u64])
 
 // The sizes of n registers added up, which stand from a place on.
 pub fn size_in_all(image: &[u64], at: u64, n: u64) -> u64
-    requires { ⌜ (at + n ≤ 16384) × (sum (map (λ i. word (now image) (at + i)) (range 0 n)) ≤ 4096) ⌝ }
+    requires { ⌜ SmallPlace at × (n ≤ 8192) × (sum (map (λ i. word (now image) (at + i)) (range 0 n)) ≤ 4096) ⌝ }
     ensures { λ r. ⌜ r ≡ sum (map (λ i. word (now (image .entry)) (at + i)) (range 0 n)) ⌝ }
 {
     let mut total = 0u64;

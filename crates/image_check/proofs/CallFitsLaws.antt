@@ -12,17 +12,17 @@ use Rattle.image.specs.Layout.{LayoutOf}
 use Rattle.image_check.specs.Statements.{callFits}
 
 module _ (image : List ℕ) (l : Layout) (s g p a : ℕ) (laid : LayoutOf image l) (ok : callFits image s g p a ≡ true) where
-  told : T (callFits image s g p a)
-  told = subst T (sym ok) tt
+  fitting : T (callFits image s g p a)
+  fitting = subst T (sym ok) tt
 
   pub call-gate : g ≤ 8192
-  call-gate = omega (arith, ltb→lt g (gates image) (test 1 _ told))
+  call-gate = omega (arith, ltb→lt g (gates image) (test 1 _ fitting))
 
   pub call-parameters : (m : ℕ) → m ≡ gateParameters image g → p + m ≤ 8192
-  call-parameters m e = omega (arith, leb→le (p + gateParameters image g) (parameters image) (test 2 _ told))
+  call-parameters m e = omega (arith, leb→le (p + gateParameters image g) (parameters image) (test 2 _ fitting))
 
   pub call-arguments : (n : ℕ) → n ≡ gateArguments image g → a + n ≤ 8192
-  call-arguments n e = omega (arith, leb→le (a + gateArguments image g) (arguments image) (test 3 _ told))
+  call-arguments n e = omega (arith, leb→le (a + gateArguments image g) (arguments image) (test 3 _ fitting))
 
 -- the counts of a gate by its place
 module _ (image : List ℕ) (g at : ℕ) (at-is : at ≡ gateAt image g) where

@@ -10,13 +10,13 @@ use Rattle.model.specs.Lists.{range}
 use Rattle.model.specs.Image.{gates, statementAt, scopeStatements}
 use Rattle.model.specs.Check.{Flaw, fine, bad, firstBad, orElse, flaw, everyStatement, statementEntries}
 use Rattle.model.proofs.Ranges.{one-more, bad-next, bad-here, bad-none}
-use Rattle.image_entries.specs.declared.Fault.{Fault}
-use Rattle.image_entries.specs.Faults.{verdictOfFault}
-use Rattle.image_check.proofs.AnswerLaws.{fault-none}
+use Rattle.image_entries.specs.declared.Flaw as code
+use Rattle.image_entries.specs.Flaws.{flawOf}
+use Rattle.image_check.proofs.FlawOfLaws.{flaw-none}
 
--- ---- a fault as a verdict
-pub fault-is : (k p : ℕ) → ¬ (k ≡ 0) → cond (eqb k 0) fine (bad k p) ≡ bad k p
-fault-is k p n = rw (ne-eqb k 0 n) refl
+-- ---- a number that is not 0 is a flaw
+pub flaw-is : (k p : ℕ) → ¬ (k ≡ 0) → cond (eqb k 0) fine (bad k p) ≡ bad k p
+flaw-is k p n = rw (ne-eqb k 0 n) refl
 
 -- ---- the first bad statement of a scope, from s on
 module _ (number place : ℕ → ℕ) (v : Flaw) where
@@ -32,7 +32,7 @@ module _ (number place : ℕ → ℕ) (v : Flaw) where
   from-next s n k h j e z = sym (bad-next number place s n j (sym e ∙ z)) ∙ h
 
   pub from-here : (s n k p : ℕ) → From s n → s < n → k ≡ number s → ¬ (k ≡ 0) → p ≡ place s → cond (eqb k 0) fine (bad k p) ≡ v
-  from-here s n k p h j e z ep = fault-is k p z ∙ ap (bad k) ep ∙ sym (bad-here number place s n k j (sym e) z) ∙ h
+  from-here s n k p h j e z ep = flaw-is k p z ∙ ap (bad k) ep ∙ sym (bad-here number place s n k j (sym e) z) ∙ h
 
   pub from-end : (s n : ℕ) → From s n → n ≤ s → fine ≡ v
   from-end s n h j = sym (bad-none number place s n j) ∙ h
@@ -58,24 +58,24 @@ module _ (image : List ℕ) where
   abbrev pub scopeFlaw : ℕ → Flaw
   scopeFlaw scope = firstBad (λ s. flaw image scope s) (statementAt image) (scopeStatements image scope)
 
-  abbrev flawOf : ℕ × ℕ → ℕ
-  flawOf x = flaw image (x .0) (x .1)
+  abbrev numberAt : ℕ × ℕ → ℕ
+  numberAt x = flaw image (x .0) (x .1)
 
-  abbrev placeOf : ℕ × ℕ → ℕ
-  placeOf x = statementAt image (x .1)
+  abbrev placeAt : ℕ × ℕ → ℕ
+  placeAt x = statementAt image (x .1)
 
   abbrev entriesOf : ℕ → List (ℕ × ℕ)
   entriesOf scope = map (λ s. (scope, s)) (scopeStatements image scope)
 
   abbrev scopesFrom : ℕ → ℕ → Flaw
-  scopesFrom i n = firstBad flawOf placeOf (flatMap entriesOf (range i (n - i)))
+  scopesFrom i n = firstBad numberAt placeAt (flatMap entriesOf (range i (n - i)))
 
   step : (i n : ℕ) → i < n → scopesFrom i n ≡ orElse (scopeFlaw i) (scopesFrom (i + 1) n)
   unfolding flatMap
   step i n h =
-      ap (λ (l : List ℕ). firstBad flawOf placeOf (flatMap entriesOf l)) (one-more i n h)
-      ∙ bad-append flawOf placeOf (entriesOf i) (flatMap entriesOf (range (i + 1) (n - (i + 1))))
-      ∙ ap (λ (v : Flaw). orElse v (scopesFrom (i + 1) n)) (bad-map flawOf placeOf (λ s. (i, s)) (scopeStatements image i))
+      ap (λ (l : List ℕ). firstBad numberAt placeAt (flatMap entriesOf l)) (one-more i n h)
+      ∙ bad-append numberAt placeAt (entriesOf i) (flatMap entriesOf (range (i + 1) (n - (i + 1))))
+      ∙ ap (λ (v : Flaw). orElse v (scopesFrom (i + 1) n)) (bad-map numberAt placeAt (λ s. (i, s)) (scopeStatements image i))
 
   -- what is left to find is what all of them hold
   abbrev pub Scopes : ℕ → ℕ → Type 0
@@ -85,19 +85,19 @@ module _ (image : List ℕ) where
   unfolding statementEntries everyStatement
   scopes-start n e =
       let size : n + 1 - 0 ≡ suc (gates image) = omega arith in
-      ap (λ (k : ℕ). firstBad flawOf placeOf (flatMap entriesOf (range 0 k))) size
+      ap (λ (k : ℕ). firstBad numberAt placeAt (flatMap entriesOf (range 0 k))) size
 
-  pub scopes-next : (i n : ℕ) (f : Fault) → Scopes i n → i ≤ n → verdictOfFault f ≡ scopeFlaw i → f .number ≡ 0 → Scopes (i + 1) n
+  pub scopes-next : (i n : ℕ) (f : code.Flaw) → Scopes i n → i ≤ n → flawOf f ≡ scopeFlaw i → f .number ≡ 0 → Scopes (i + 1) n
   scopes-next i n f h j e z =
-      sym (step i (n + 1) (omega arith) ∙ ap (λ (v : Flaw). orElse v (scopesFrom (i + 1) (n + 1))) (fault-none f (scopeFlaw i) e z)) ∙ h
+      sym (step i (n + 1) (omega arith) ∙ ap (λ (v : Flaw). orElse v (scopesFrom (i + 1) (n + 1))) (flaw-none f (scopeFlaw i) e z)) ∙ h
 
-  pub scopes-here : (i n : ℕ) (f : Fault) → Scopes i n → i ≤ n → verdictOfFault f ≡ scopeFlaw i → ¬ (f .number ≡ 0) → verdictOfFault f ≡ statementEntries image
+  pub scopes-here : (i n : ℕ) (f : code.Flaw) → Scopes i n → i ≤ n → flawOf f ≡ scopeFlaw i → ¬ (f .number ≡ 0) → flawOf f ≡ statementEntries image
   scopes-here i n f h j e z =
-      let b = fault-is (f .number) (f .place) z in
+      let b = flaw-is (f .number) (f .place) z in
       b ∙ sym (step i (n + 1) (omega arith) ∙ ap (λ (v : Flaw). orElse v (scopesFrom (i + 1) (n + 1))) (sym e ∙ b)) ∙ h
 
   pub scopes-end : (i n : ℕ) → Scopes i n → n < i → fine ≡ statementEntries image
   unfolding flatMap firstBad range
   scopes-end i n h j =
       let none : n + 1 - i ≡ 0 = omega arith in
-      sym (ap (λ (k : ℕ). firstBad flawOf placeOf (flatMap entriesOf (range i k))) none) ∙ h
+      sym (ap (λ (k : ℕ). firstBad numberAt placeAt (flatMap entriesOf (range i k))) none) ∙ h

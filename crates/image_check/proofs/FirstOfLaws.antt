@@ -64,8 +64,8 @@ module _ (p : ℕ → Bool) (x y z : ℕ) where
   three-third e f g = rw (e, f) (g ∙ sym (and-true (p z)))
 
 -- whether some entries are in a list, as the code asks it
-pub run-told : {f : Bool} (a : ℕ) {n k m j : ℕ} → f ≡ leb (a + n) m → n ≡ k → m ≡ j → leb (a + k) j ≡ f
-run-told a h e d = sym (rw (e, d) at h)
+pub run-fits : {f : Bool} (a : ℕ) {n k m j : ℕ} → f ≡ leb (a + n) m → n ≡ k → m ≡ j → leb (a + k) j ≡ f
+run-fits a h e d = sym (rw (e, d) at h)
 
 -- a number from a count on
 pub from : {x e n : ℕ} → e ≡ n → e ≤ x → leb n x ≡ true

@@ -7,7 +7,7 @@ use mathlib.Core.List.{List}
 use lib.Dec.{leb, eqb}
 use borrow.Author.Tests.{lt-ltb, le-ltb}
 use Rattle.model.specs.Lists.{every}
-use Rattle.model.specs.Image.{word, quantumRegisters, classicalRegisters, gateAt, argumentAt, quantumSize, variables}
+use Rattle.model.specs.Image.{word, quantumRegisters, classicalRegisters, gateAt, argumentAt, quantumSize, classicalSize, variables}
 use Rattle.model.specs.Check.{argumentOk, classicalArgumentOk}
 
 module _ (image : List ℕ) where
@@ -48,10 +48,10 @@ module _ (image : List ℕ) where
         let at : g ≡ gateAt image k = eg ∙ ap (gateAt image) e in
         rw (← at-is, ← register-is, ← at, ← ew, le-ltb r w h) refl
 
-    pub classical-is : (n q i w : ℕ) → n ≡ classicalRegisters image → r < n → i ≡ word image (p + 1) → q ≡ quantumRegisters image → w ≡ word image (9 + q + r) → leb i w ≡ classicalArgumentOk image a
+    pub classical-is : (n i w : ℕ) → n ≡ classicalRegisters image → r < n → i ≡ word image (p + 1) → w ≡ classicalSize image r → leb i w ≡ classicalArgumentOk image a
     unfolding classicalArgumentOk every
-    classical-is n q i w en h ei eq ew =
-        rw (← at-is, ← register-is, ← ei, ← eq, ← ew, ← en, lt-ltb r n h) (sym (and-true (leb i w)))
+    classical-is n i w en h ei ew =
+        rw (← at-is, ← register-is, ← ei, ← ew, ← en, lt-ltb r n h) (sym (and-true (leb i w)))
 
     pub classical-none : (n : ℕ) → n ≡ classicalRegisters image → n ≤ r → false ≡ classicalArgumentOk image a
     unfolding classicalArgumentOk every

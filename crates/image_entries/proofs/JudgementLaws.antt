@@ -1,4 +1,4 @@
--- What the parts of the pass over the expressions show: an entry's level and reach tell of it what the definition says.
+-- The levels and the variables that the pass over the expressions finds tell of an entry what the definition says.
 use Prim.Native.Nat.{ℕ, zero, suc, _+_, _-_, _≤_, _<_, max, zero-le}
 use native.Mathlib.Nat.{eq-or-lt-of-le}
 use native.Mathlib.Numerals.{add-one}
@@ -19,7 +19,7 @@ use Rattle.model.specs.All.{All, nil, cons}
 use Rattle.image_entries.specs.Judging.{accepts, JudgementTables, leafFits, wordsOk, JudgementIs}
 use Rattle.image.proofs.KindLaws.{entry-is}
 
--- ---- what a level and a reach accept
+-- ---- what the levels and the variables accept
 
 same-test : (a b : Bool) → (T a → T b) → (T b → T a) → a ≡ b
 same-test true true p q = refl
@@ -27,33 +27,33 @@ same-test true false p q = absurd (p tt)
 same-test false true p q = absurd (q tt)
 same-test false false p q = refl
 
-accepted : (level reach v k : ℕ) → T (accepts level reach v k) → (1 ≤ level) × (level ≤ k) × (reach ≤ v)
-accepted level reach v k t =
+accepted : (level variables v k : ℕ) → T (accepts level variables v k) → (1 ≤ level) × (level ≤ k) × (variables ≤ v)
+accepted level variables v k t =
     let s = and-T (leb 1 level) _ t in
     let u = and-T (leb level k) _ (s .1) in
-    (leb→le 1 level (s .0), leb→le level k (u .0), leb→le reach v (u .1))
+    (leb→le 1 level (s .0), leb→le level k (u .0), leb→le variables v (u .1))
 
-accepting : (level reach v k : ℕ) → 1 ≤ level → level ≤ k → reach ≤ v → T (accepts level reach v k)
-accepting level reach v k p q r = T-and (leb 1 level) _ (le→leb 1 level p) (T-and (leb level k) _ (le→leb level k q) (le→leb reach v r))
+accepting : (level variables v k : ℕ) → 1 ≤ level → level ≤ k → variables ≤ v → T (accepts level variables v k)
+accepting level variables v k p q r = T-and (leb 1 level) _ (le→leb 1 level p) (T-and (leb level k) _ (le→leb level k q) (le→leb variables v r))
 
--- a test that nothing passes, where the level and the reach accept nothing
-neither : (level reach v k : ℕ) (ok : Bool) → (T ok → ⊥) → (1 ≤ level → level ≤ k → reach ≤ v → ⊥) → ok ≡ accepts level reach v k
-neither level reach v k ok h g =
-    same-test ok (accepts level reach v k)
+-- a test that nothing passes, where the levels and the variables accept nothing
+neither : (level variables v k : ℕ) (ok : Bool) → (T ok → ⊥) → (1 ≤ level → level ≤ k → variables ≤ v → ⊥) → ok ≡ accepts level variables v k
+neither level variables v k ok h g =
+    same-test ok (accepts level variables v k)
     (λ t. absurd (h t))
-    (λ t. let s = accepted level reach v k t in absurd (g (s .0) (s .1) (s .2)))
+    (λ t. let s = accepted level variables v k t in absurd (g (s .0) (s .1) (s .2)))
 
 -- ---- an entry over two operands
 module _ (x p y q : ℕ) where
   both-facts : (v k : ℕ) → T (accepts x p v k && accepts y q v k) → ((1 ≤ x) × (x ≤ k) × (p ≤ v)) × ((1 ≤ y) × (y ≤ k) × (q ≤ v))
   both-facts v k t = let s = and-T (accepts x p v k) _ t in (accepted x p v k (s .0), accepted y q v k (s .1))
 
-  over-none : (level reach : ℕ) → level ≡ 0 → ((k : ℕ) → k < 32 → 1 ≤ x → x ≤ k → 1 ≤ y → y ≤ k → ⊥)
-      → JudgementIs level reach (λ v k. accepts x p v k && accepts y q v k)
-  over-none level reach z h =
+  over-none : (level variables : ℕ) → level ≡ 0 → ((k : ℕ) → k < 32 → 1 ≤ x → x ≤ k → 1 ≤ y → y ≤ k → ⊥)
+      → JudgementIs level variables (λ v k. accepts x p v k && accepts y q v k)
+  over-none level variables z h =
       record {
         right = λ v k hv hk.
-            neither level reach v (suc k) (accepts x p v k && accepts y q v k)
+            neither level variables v (suc k) (accepts x p v k && accepts y q v k)
             (λ t. let f = both-facts v k t in h k hk (f .0 .0) (f .0 .1) (f .1 .0) (f .1 .1))
             (λ i j m. omega arith);
       }
@@ -69,14 +69,14 @@ module _ (x p y q : ℕ) where
   pub over-deep : (level : ℕ) → level ≡ max x y → 32 ≤ level → JudgementIs 0 0 (λ v k. accepts x p v k && accepts y q v k)
   over-deep level d l = over-none 0 0 refl (λ k h i j m n. omega arith)
 
-  pub over-joined : (level reach : ℕ) → level ≡ max x y → reach ≡ max p q → (x ≡ 0 → ⊥) → (y ≡ 0 → ⊥)
-      → JudgementIs (level + 1) reach (λ v k. accepts x p v k && accepts y q v k)
-  over-joined level reach d e h g =
+  pub over-joined : (level variables : ℕ) → level ≡ max x y → variables ≡ max p q → (x ≡ 0 → ⊥) → (y ≡ 0 → ⊥)
+      → JudgementIs (level + 1) variables (λ v k. accepts x p v k && accepts y q v k)
+  over-joined level variables d e h g =
       record {
         right = λ v k hv hk.
-            same-test (accepts x p v k && accepts y q v k) (accepts (level + 1) reach v (suc k))
-            (λ t. let f = both-facts v k t in accepting (level + 1) reach v (suc k) (omega arith) (omega arith) (omega arith))
-            (λ t. let f = accepted (level + 1) reach v (suc k) t in
+            same-test (accepts x p v k && accepts y q v k) (accepts (level + 1) variables v (suc k))
+            (λ t. let f = both-facts v k t in accepting (level + 1) variables v (suc k) (omega arith) (omega arith) (omega arith))
+            (λ t. let f = accepted (level + 1) variables v (suc k) t in
             T-and (accepts x p v k) (accepts y q v k)
             (accepting x p v k (omega arith) (omega arith) (omega arith))
             (accepting y q v k (omega arith) (omega arith) (omega arith)));
@@ -216,8 +216,8 @@ module _ (image : List ℕ) (e : ℕ) where
           ∙ entry-words (expressionAt image e) v (operandOk v k) (ap (λ (p : ℕ). word image (p + 1)) (sym at-is) ∙ sym a-is) (ap (λ (p : ℕ). word image (p + 2)) (sym at-is) ∙ sym b-is) (expression image e)
           ∙ ap (entryOk (kind ∷ a ∷ b ∷ []) v (operandOk v k) 0) its-words)
 
-      pub judged-leaf : (level reach : ℕ) → kind < 4 → JudgementIs level reach (λ v k. wordsOk kind a b v (λ i. false)) → JudgementIs level reach (λ v k. expressionOk image v (suc k) e)
-      judged-leaf level reach h t = record { right = λ v k hv hk. by-words v k ∙ leaf-kind a b v (operandOk v k) kind h ∙ t .right v k hv hk }
+      pub judged-leaf : (level variables : ℕ) → kind < 4 → JudgementIs level variables (λ v k. wordsOk kind a b v (λ i. false)) → JudgementIs level variables (λ v k. expressionOk image v (suc k) e)
+      judged-leaf level variables h t = record { right = λ v k hv hk. by-words v k ∙ leaf-kind a b v (operandOk v k) kind h ∙ t .right v k hv hk }
 
       pub judged-unknown : 16 ≤ kind → JudgementIs 0 0 (λ v k. expressionOk image v (suc k) e)
       judged-unknown h = record { right = λ v k hv hk. by-words v k ∙ unknown-kind a b v (operandOk v k) kind h }
@@ -230,74 +230,74 @@ module _ (image : List ℕ) (e : ℕ) where
           }
 
       -- over operands that the tables tell of
-      module _ (levels reaches : List ℕ) (told : JudgementTables image e levels reaches) where
+      module _ (levels variable-counts : List ℕ) (tables : JudgementTables image e levels variable-counts) where
         abbrev leveled : ℕ → ℕ
         leveled i = cond (ltb i e) (getD levels i 0) 0
 
-        abbrev reached : ℕ → ℕ
-        reached i = cond (ltb i e) (getD reaches i 0) 0
+        abbrev counted : ℕ → ℕ
+        counted i = cond (ltb i e) (getD variable-counts i 0) 0
 
-        operand-told : (i v k : ℕ) → v ≤ 16 → k < 32 → operandOk v k i ≡ accepts (leveled i) (reached i) v k
+        operand-is : (i v k : ℕ) → v ≤ 16 → k < 32 → operandOk v k i ≡ accepts (leveled i) (counted i) v k
         unfolding every
-        operand-told i v k hv hk = go (ltb i e) refl
+        operand-is i v k hv hk = go (ltb i e) refl
           where
-            go : (t : Bool) → ltb i e ≡ t → (t && (expressionOk image v k i && true)) ≡ accepts (cond t (getD levels i 0) 0) (cond t (getD reaches i 0) 0) v k
-            go true t = and-true _ ∙ told .right i (ltb-true i e t) v k hv (omega arith)
+            go : (t : Bool) → ltb i e ≡ t → (t && (expressionOk image v k i && true)) ≡ accepts (cond t (getD levels i 0) 0) (cond t (getD variable-counts i 0) 0) v k
+            go true t = and-true _ ∙ tables .right i (ltb-true i e t) v k hv (omega arith)
             go false t = refl
 
-        pub judged-binary : (x p y q level reach : ℕ) → 4 ≤ kind → kind < 9 → x ≡ leveled a → p ≡ reached a → y ≡ leveled b → q ≡ reached b
-            → JudgementIs level reach (λ v k. accepts x p v k && accepts y q v k) → JudgementIs level reach (λ v k. expressionOk image v (suc k) e)
+        pub judged-binary : (x p y q level variables : ℕ) → 4 ≤ kind → kind < 9 → x ≡ leveled a → p ≡ counted a → y ≡ leveled b → q ≡ counted b
+            → JudgementIs level variables (λ v k. accepts x p v k && accepts y q v k) → JudgementIs level variables (λ v k. expressionOk image v (suc k) e)
         unfolding every
-        judged-binary x p y q level reach l h x-is p-is y-is q-is t =
+        judged-binary x p y q level variables l h x-is p-is y-is q-is t =
             record {
               right = λ v k hv hk.
                   by-words v k ∙ binary-kind a b v (operandOk v k) kind l h
-                  ∙ rw (and-true (operandOk v k b), operand-told a v k hv hk, operand-told b v k hv hk, ← x-is, ← p-is, ← y-is, ← q-is) (t .right v k hv hk);
+                  ∙ rw (and-true (operandOk v k b), operand-is a v k hv hk, operand-is b v k hv hk, ← x-is, ← p-is, ← y-is, ← q-is) (t .right v k hv hk);
             }
 
-        pub judged-unary : (x p level reach : ℕ) → 9 ≤ kind → kind < 16 → b ≡ 0 → x ≡ leveled a → p ≡ reached a
-            → JudgementIs level reach (λ v k. accepts x p v k && accepts x p v k) → JudgementIs level reach (λ v k. expressionOk image v (suc k) e)
+        pub judged-unary : (x p level variables : ℕ) → 9 ≤ kind → kind < 16 → b ≡ 0 → x ≡ leveled a → p ≡ counted a
+            → JudgementIs level variables (λ v k. accepts x p v k && accepts x p v k) → JudgementIs level variables (λ v k. expressionOk image v (suc k) e)
         unfolding every
-        judged-unary x p level reach l h z x-is p-is t =
+        judged-unary x p level variables l h z x-is p-is t =
             record {
               right = λ v k hv hk.
                   by-words v k ∙ unary-kind a b v (operandOk v k) kind l h
-                  ∙ rw (eq-eqb b 0 z, and-true (operandOk v k a), operand-told a v k hv hk, ← x-is, ← p-is) (sym (and-self (accepts x p v k)) ∙ t .right v k hv hk);
+                  ∙ rw (eq-eqb b 0 z, and-true (operandOk v k a), operand-is a v k hv hk, ← x-is, ← p-is) (sym (and-self (accepts x p v k)) ∙ t .right v k hv hk);
             }
 
 -- ---- the tables
-pub judged-none : (image levels reaches : List ℕ) → JudgementTables image 0 levels reaches
-judged-none image levels reaches = record { levels-fit = zero-le; reaches-fit = zero-le; right = λ e h. absurd (omega arith) }
+pub judged-none : (image levels variable-counts : List ℕ) → JudgementTables image 0 levels variable-counts
+judged-none image levels variable-counts = record { levels-fit = zero-le; variable-counts-fit = zero-le; right = λ e h. absurd (omega arith) }
 
 -- one entry more
-pub judged-next : (image : List ℕ) (e level reach : ℕ) (levels reaches : List ℕ) → e < length levels → e < length reaches → JudgementTables image e levels reaches
-    → JudgementIs level reach (λ v k. expressionOk image v (suc k) e) → JudgementTables image (e + 1) (set levels e level) (set reaches e reach)
+pub judged-next : (image : List ℕ) (e level variables : ℕ) (levels variable-counts : List ℕ) → e < length levels → e < length variable-counts → JudgementTables image e levels variable-counts
+    → JudgementIs level variables (λ v k. expressionOk image v (suc k) e) → JudgementTables image (e + 1) (set levels e level) (set variable-counts e variables)
 unfolding expressionOk
-judged-next image e level reach levels reaches hl hr j t =
+judged-next image e level variables levels variable-counts hl hr j t =
     record {
       levels-fit = omega (arith, length-set levels e level);
-      reaches-fit = omega (arith, length-set reaches e reach);
+      variable-counts-fit = omega (arith, length-set variable-counts e variables);
       right = λ i h v k hv hk. go i (eq-or-lt-of-le (omega arith)) v k hv hk;
     }
   where
-    this : (v k : ℕ) → v ≤ 16 → k ≤ 32 → expressionOk image v k e ≡ accepts level reach v k
-    this v zero hv hk = neither level reach v 0 false (λ z. z) (λ p q r. omega arith)
+    this : (v k : ℕ) → v ≤ 16 → k ≤ 32 → expressionOk image v k e ≡ accepts level variables v k
+    this v zero hv hk = neither level variables v 0 false (λ z. z) (λ p q r. omega arith)
     this v (suc k) hv hk = t .right v k hv (omega arith)
 
-    go : (i : ℕ) → (i ≡ e) ⊎ (i < e) → (v k : ℕ) → v ≤ 16 → k ≤ 32 → expressionOk image v k i ≡ accepts (getD (set levels e level) i 0) (getD (set reaches e reach) i 0) v k
-    go i (inl d) v k hv hk = rw (d, getD-set-same levels e level 0 hl, getD-set-same reaches e reach 0 hr) (this v k hv hk)
+    go : (i : ℕ) → (i ≡ e) ⊎ (i < e) → (v k : ℕ) → v ≤ 16 → k ≤ 32 → expressionOk image v k i ≡ accepts (getD (set levels e level) i 0) (getD (set variable-counts e variables) i 0) v k
+    go i (inl d) v k hv hk = rw (d, getD-set-same levels e level 0 hl, getD-set-same variable-counts e variables 0 hr) (this v k hv hk)
     go i (inr l) v k hv hk =
-        rw (getD-set-other levels e i level 0 (λ d. omega arith), getD-set-other reaches e i reach 0 (λ d. omega arith)) (j .right i l v k hv hk)
+        rw (getD-set-other levels e i level 0 (λ d. omega arith), getD-set-other variable-counts e i variables 0 (λ d. omega arith)) (j .right i l v k hv hk)
 
 -- what the tables tell of one entry
-module _ (image : List ℕ) (v e n : ℕ) (levels reaches : List ℕ) (told : JudgementTables image n levels reaches) (few : v ≤ 16) (inside : e < n) where
-  pub told-reach : 1 ≤ getD levels e 0 → getD levels e 0 ≤ 32 → leb (getD reaches e 0) v ≡ expressionOk image v 32 e
-  told-reach p q = sym (told .right e inside v 32 few (omega arith) ∙ rw (le-leb 1 (getD levels e 0) p, le-leb (getD levels e 0) 32 q) refl)
+module _ (image : List ℕ) (v e n : ℕ) (levels variable-counts : List ℕ) (tables : JudgementTables image n levels variable-counts) (few : v ≤ 16) (inside : e < n) where
+  pub judged-ok : 1 ≤ getD levels e 0 → getD levels e 0 ≤ 32 → leb (getD variable-counts e 0) v ≡ expressionOk image v 32 e
+  judged-ok p q = sym (tables .right e inside v 32 few (omega arith) ∙ rw (le-leb 1 (getD levels e 0) p, le-leb (getD levels e 0) 32 q) refl)
 
-  pub told-none : (1 ≤ getD levels e 0 → getD levels e 0 ≤ 32 → ⊥) → false ≡ expressionOk image v 32 e
-  told-none h =
-      neither (getD levels e 0) (getD reaches e 0) v 32 false (λ z. z) (λ p q r. h p q)
-      ∙ sym (told .right e inside v 32 few (omega arith))
+  pub judged-bad : (1 ≤ getD levels e 0 → getD levels e 0 ≤ 32 → ⊥) → false ≡ expressionOk image v 32 e
+  judged-bad h =
+      neither (getD levels e 0) (getD variable-counts e 0) v 32 false (λ z. z) (λ p q r. h p q)
+      ∙ sym (tables .right e inside v 32 few (omega arith))
 
 -- an expression past the last
 pub past-none : (image : List ℕ) (v k e : ℕ) → expressions image ≤ e → false ≡ expressionOk image v k e

@@ -9,8 +9,8 @@ use lib.Dec.{leb}
 use borrow.Author.Tests.{le-leb, lt-leb}
 use Rattle.model.specs.Lists.{range, sum, every}
 use Rattle.model.specs.Check.{firstOf, firstBad, gateOk, gateFlaw}
-use Rattle.image_entries.specs.Faults.{registerFlaw}
-use Rattle.image.proofs.FirstLaws.{total-next}
+use Rattle.image_entries.specs.Flaws.{registerFlaw}
+use Rattle.image.proofs.RegisterStartsLaws.{total-next}
 
 -- the whole range is the one from 0 on
 pub bad-all : (number place : ℕ → ℕ) (n : ℕ) → firstBad number place (range 0 n) ≡ firstBad number place (range 0 (n - 0))

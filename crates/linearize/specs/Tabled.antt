@@ -5,7 +5,7 @@ use Rattle.model.specs.Image.{quantumSize, quantumRegisters, classicalSize, cla
 use Rattle.model.specs.Accepted.{Accepted}
 use Rattle.image.specs.declared.Layout.{Layout}
 use Rattle.image.specs.Layout.{LayoutOf}
-use Rattle.image.specs.Firsts.{RegisterStarts}
+use Rattle.image.specs.RegisterStarts.{RegisterStarts}
 
 -- an accepted image with the tables of where its registers start
 pub record MainContext (image : List ℕ) (l : Layout) (qubits bits : List ℕ) : Type 0 where

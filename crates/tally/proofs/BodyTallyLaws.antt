@@ -1,4 +1,4 @@
--- What is known of a scope's statements, and what they come to.
+-- What is known of a scope's statements, what they come to, and what the whole image comes to.
 use Prim.Native.Nat.{ℕ, zero, suc, _+_, _-_, _*_, _≤_, _<_}
 use native.Mathlib.Omega.{arith}
 use mathlib.Core.Path.{_≡_, ap, _∙_}
@@ -7,16 +7,15 @@ use mathlib.Core.List.{List, map}
 use lib.Dec.{eqb}
 use borrow.Author.Tests.{ne-eqb}
 use Rattle.model.specs.Lists.{range, sum}
-use Rattle.model.specs.Image.{statement, word, gates, mainStatements, statementAt, quantumRegisters, qubits, bits, firstQubit, firstBit, scopeStatements}
+use Rattle.model.specs.Image.{statement, word, gates, mainStatements, statementAt, qubits, bits, scopeStatements}
 use Rattle.model.specs.Check.{fine, check}
 use Rattle.model.specs.Tally.{plainTally, conditionalTally, statementTally, bodyTally, weightTally}
 use Rattle.model.proofs.Accepted.{accepts}
 use Rattle.model.proofs.Facts.{run-facts}
 use Rattle.model.specs.Accepted.{PlainFacts, Facts}
-use Rattle.image.specs.declared.Layout.{Layout}
 use Rattle.image.proofs.KindLaws.{if-at}
-use Rattle.tally.specs.Weights.{weightOf, entryOf, capped, openingFor, AcceptedLayout}
-use Rattle.tally.proofs.StatementKinds.{plain-any}
+use Rattle.tally.specs.Weights.{weightOf, entryOf, capped, openingFor}
+use Rattle.tally.proofs.PlainTallyLaws.{plain-any}
 
 module _ (image : List ℕ) where
   -- ---- one statement
@@ -39,15 +38,6 @@ module _ (image : List ℕ) where
   body-is scope first count j n r run er = rw run (omega arith)
 
   -- ---- in all
-  pub head-is : (l : Layout) → AcceptedLayout image l → (q c : ℕ) → q ≡ capped (sum (map (λ i. word image (9 + i)) (range 0 (l .«quantum_registers»)))) → c ≡ capped (sum (map (λ i. word image (9 + l .«quantum_registers» + i)) (range 0 (l .«classical_registers»)))) → (q ≡ qubits image) × (c ≡ bits image)
-  unfolding firstQubit firstBit
-  head-is l ready q c eq ec =
-      let laid = ready .laid in
-      let a = accepts image (ready .accepted) in
-      let eq′ : q ≡ capped (qubits image) = rw (← laid .quantum-registers-is) eq in
-      let ec′ : c ≡ capped (bits image) = ec ∙ ap (λ (k : ℕ). capped (sum (map (λ i. word image (9 + k + i)) (range 0 (l .«classical_registers»))))) (laid .quantum-registers-is) ∙ ap (λ (k : ℕ). capped (sum (map (λ i. word image (9 + quantumRegisters image + i)) (range 0 k)))) (laid .classical-registers-is) in
-      (omega (arith, a .fewQubits), omega (arith, a .fewBits))
-
   total-cases : (f : ℕ → ℕ) (main w statements head r : ℕ) → statements ≡ capped (sum (map f (range 0 main))) → head ≡ cond (eqb main 0) 0 w → r ≡ capped (statements + head) → r ≡ capped (cond (eqb main 0) 0 (w + sum (map f (range 0 main))))
   unfolding range sum
   total-cases f zero w statements head r es eh er = omega arith

@@ -1,4 +1,4 @@
--- Sums and products of figures that are cut, and what a record weighs.
+-- Sums and products of capped figures, and what a record weighs.
 use Prim.Native.Nat.{ℕ, suc, _+_, _*_, _^_, _≤_, _<_}
 use native.Mathlib.Nat.{mul-zero}
 use native.Mathlib.Numerals.{add-one}
@@ -32,9 +32,9 @@ module _ (j kind n : ℕ) where
   weight-none h e = rw (le-ltb j 7 h, ne-eqb j 8 e) refl
 
   -- the words may be cut
-  pub weight-cut : capped (1 * weightOf j kind (capped n)) ≡ capped (weightOf j kind n)
+  pub weight-capped : capped (1 * weightOf j kind (capped n)) ≡ capped (weightOf j kind n)
   unfolding weightOf
-  weight-cut = go (ltb j 7) (eqb j 8) (cond (eqb kind (suc j)) 1 0)
+  weight-capped = go (ltb j 7) (eqb j 8) (cond (eqb kind (suc j)) 1 0)
     where
       go : (s t : Bool) (m : ℕ) → capped (1 * cond s m (cond t (capped n) 0)) ≡ capped (cond s m (cond t n 0))
       go true t m = omega arith

@@ -1,11 +1,9 @@
--- The nine figures are those of the nine weights, and what is cut off them does not change the answer.
+-- The nine figures are those of the nine weights, and that they are capped does not change the answer.
 use Prim.Native.Nat.{ℕ, _+_, _-_, _^_, _≤_, _<_, min}
 use native.Mathlib.Omega.{arith}
-use mathlib.Core.Path.{_≡_, refl, sym, ap, ap₂, _∙_}
+use mathlib.Core.Path.{_≡_, refl, sym, ap, ap₂, subst, _∙_}
 use mathlib.Core.Bool.{Bool, true, false, _&&_}
 use mathlib.Core.List.{List, [], _∷_, map}
-use types.Run.{OneOf, miss}
-use denote.Enum.Declared.{tagOf}
 use lib.Dec.{ltb, leb}
 use borrow.Author.Tests.{ltb-true, ltb-false, le-leb, lt-leb}
 use Rattle.model.specs.Lists.{range, largest, all}
@@ -15,10 +13,12 @@ use Rattle.model.specs.Tally.{weightTally, recordFigure, entryFigure, wordBound
 use Rattle.model.proofs.Accepted.{accepts}
 use Rattle.model.specs.Accepted.{Accepted}
 use Rattle.model.proofs.Deep.{deep-figures}
-use Rattle.image.specs.declared.CheckAnswer.{CheckAnswer}
-use Rattle.image.proofs.CheckAnswer.{the-type}
-use Rattle.image.specs.Answer.{answerFlaw}
-use Rattle.image.specs.declared.CheckAnswer.the-variants as answer
+use Rattle.image.specs.declared.CheckRefusal.{CheckRefusal}
+use Rattle.image.specs.declared.CheckRefusal.the-variants as refusal
+use Rattle.image.specs.Answer.{refusalFlaw}
+use Rattle.image_check.specs.declared.LayoutAnswer.{LayoutAnswer}
+use Rattle.image_check.specs.declared.LayoutAnswer.the-variants as answer
+use Rattle.image_check.specs.Answer.{LayoutAnswerOf}
 use Rattle.tally.specs.Weights.{weightOf, entryOf, capped, refusedAs}
 
 module _ (image : List ℕ) where
@@ -26,11 +26,11 @@ module _ (image : List ℕ) where
   unfolding figures recordFigure entryFigure wordBound range weightOf entryOf
   figures-by-weight depth = refl
 
-  pub nine-cut : (d u cx opaque barrier measure reset conditional entries words : ℕ) → let W : ℕ → ℕ = λ j. capped (weightTally image (weightOf j) (entryOf j) d) in
+  pub nine-capped : (d u cx opaque barrier measure reset conditional entries words : ℕ) → let W : ℕ → ℕ = λ j. capped (weightTally image (weightOf j) (entryOf j) d) in
       u ≡ W 0 → cx ≡ W 1 → opaque ≡ W 2 → barrier ≡ W 3 → measure ≡ W 4 → reset ≡ W 5 → conditional ≡ W 6 → entries ≡ W 7 → words ≡ W 8
       → (u ∷ cx ∷ opaque ∷ barrier ∷ measure ∷ reset ∷ conditional ∷ entries ∷ words ∷ []) ≡ map capped (figures image d)
   unfolding range
-  nine-cut d u cx opaque barrier measure reset conditional entries words e₀ e₁ e₂ e₃ e₄ e₅ e₆ e₇ e₈ =
+  nine-capped d u cx opaque barrier measure reset conditional entries words e₀ e₁ e₂ e₃ e₄ e₅ e₆ e₇ e₈ =
       rw (e₀, e₁, e₂, e₃, e₄, e₅, e₆, e₇, e₈) (sym (ap (map capped) (figures-by-weight d)))
 
   -- ---- only the levels opened enter, up to the number of gates
@@ -49,10 +49,10 @@ module _ (image : List ℕ) where
       go false p = let h = ltb-false (gates image) depth p in level-same depth (n + 1) (omega arith)
 
 -- ---- figures that are cut
-uncut : (l : List ℕ) → largest (map capped l) < 2 ^ 32 → map capped l ≡ l
+uncapped : (l : List ℕ) → largest (map capped l) < 2 ^ 32 → map capped l ≡ l
 unfolding largest
-uncut [] h = refl
-uncut (x ∷ l) h = ap₂ _∷_ (omega arith) (uncut l (omega arith))
+uncapped [] h = refl
+uncapped (x ∷ l) h = ap₂ _∷_ (omega arith) (uncapped l (omega arith))
 
 small : (l : List ℕ) → largest l < 2 ^ 32 → all (λ n. leb n 4294967295) l ≡ true
 unfolding largest all
@@ -73,11 +73,11 @@ module _ (image : List ℕ) (depth n m : ℕ) (nine : List ℕ) (ok : check imag
   same : figures image depth ≡ figures image (n + 1)
   same = levels-enough image (accepts image ok) depth n (rw (← gates-are) levels-are)
 
-  pub tally-told : m < 2 ^ 32 → tallied nine ≡ tally image depth
+  pub tally-figures : m < 2 ^ 32 → tallied nine ≡ tally image depth
   unfolding tally ifAccepted
-  tally-told h =
+  tally-figures h =
       let e : largest (map capped (figures image (n + 1))) ≡ m = sym (most-is ∙ ap largest nine-are) in
-      let u = uncut (figures image (n + 1)) (omega arith) in
+      let u = uncapped (figures image (n + 1)) (omega arith) in
       let s = small (figures image (n + 1)) (omega (arith, ap largest u)) in
       rw (ok, same, s, nine-are, u) refl
 
@@ -88,14 +88,19 @@ module _ (image : List ℕ) (depth n m : ℕ) (nine : List ℕ) (ok : check imag
       rw (ok, same, passing (figures image (n + 1)) (omega arith)) refl
 
 -- an image that is refused
-pub not-accepted : (v : CheckAnswer) (a : TallyAnswer) → OneOf (1 ∷ 2 ∷ 3 ∷ 4 ∷ 5 ∷ 6 ∷ 7 ∷ 8 ∷ []) (tagOf the-type v) → refusedAs (answerFlaw v) ≡ ifAccepted (answerFlaw v) a
+refused-tally : (r : CheckRefusal) (a : TallyAnswer) → refusedAs (refusalFlaw r) ≡ ifAccepted (refusalFlaw r) a
 unfolding ifAccepted
-not-accepted answer.Accepted a k = absurd (miss (1 ∷ 2 ∷ 3 ∷ 4 ∷ 5 ∷ 6 ∷ 7 ∷ 8 ∷ []) 0 tt k)
-not-accepted answer.Contents a k = refl
-not-accepted (answer.Register p) a k = refl
-not-accepted (answer.GateEntry p) a k = refl
-not-accepted (answer.Form p) a k = refl
-not-accepted (answer.Argument p) a k = refl
-not-accepted (answer.Expression p) a k = refl
-not-accepted (answer.Sizes p) a k = refl
-not-accepted (answer.Upward p) a k = refl
+refused-tally refusal.Contents a = refl
+refused-tally (refusal.Register p) a = refl
+refused-tally (refusal.GateEntry p) a = refl
+refused-tally (refusal.Form p) a = refl
+refused-tally (refusal.Argument p) a = refl
+refused-tally (refusal.Expression p) a = refl
+refused-tally (refusal.Sizes p) a = refl
+refused-tally (refusal.Upward p) a = refl
+
+pub tally-refused : (image : List ℕ) (depth : ℕ) (a : LayoutAnswer) (r : CheckRefusal) → a ≡ answer.Refused r → LayoutAnswerOf image a → refusedAs (refusalFlaw r) ≡ tally image depth
+unfolding tally
+tally-refused image depth a r e h =
+    let f : refusalFlaw r ≡ check image = subst (LayoutAnswerOf image) e h in
+    rw (← f) (refused-tally r _)

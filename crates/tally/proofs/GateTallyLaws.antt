@@ -11,7 +11,7 @@ use Rattle.model.specs.Tally.{openGateTally, gateTally, openingTally}
 use Rattle.model.proofs.Accepted as accepted
 use Rattle.model.proofs.Accepted.{accepts}
 use Rattle.tally.specs.Weights.{weightOf, entryOf, capped, openingFor, body, FigureTable}
-use Rattle.tally.proofs.Cuts.{rounds-of-body}
+use Rattle.tally.proofs.CappedLaws.{rounds-of-body}
 
 module _ (image : List ℕ) (j g at k : ℕ) (at-is : at ≡ gateAt image g) where
   pub gate-opaque : (n p q b r : ℕ) → p ≡ word image at → q ≡ word image (at + 1) → b ≡ word image (at + 2) → b ≡ 0 → r ≡ capped (k * weightOf j 3 (4 + 4 * p + q)) → r ≡ capped (k * gateTally image (weightOf j) (entryOf j) (openingFor image j n) g)

@@ -1,5 +1,5 @@
 use denote.Ref.{now}
-use Rattle.image.proofs.SizeLaws.{size-one, size-index, size-whole}
+use Rattle.image.proofs.ArgumentSizeLaws.{size-one, size-index, size-whole}
 use borrow.Author.Needs.{needs}
 use Rattle.image.proofs.argument_size.Statement.{statement}
 use Rattle.image.proofs.argument_size.Tie as tie

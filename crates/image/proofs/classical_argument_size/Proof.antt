@@ -1,5 +1,5 @@
 use denote.Ref.{now}
-use Rattle.image.proofs.SizeLaws.{classical-size-index, classical-size-whole}
+use Rattle.image.proofs.ArgumentSizeLaws.{classical-size-index, classical-size-whole}
 use borrow.Author.Needs.{needs}
 use Rattle.image.proofs.classical_argument_size.Statement.{statement}
 use Rattle.image.proofs.classical_argument_size.Tie as tie

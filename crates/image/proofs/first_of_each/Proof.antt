@@ -7,9 +7,9 @@ use denote.Ref.{now}
 use borrow.Author.Needs.{needs}
 use Rattle.model.specs.Lists.{range, sum}
 use Rattle.model.specs.Image.{word}
-use Rattle.image.specs.Firsts.{RegisterStarts}
-use Rattle.image.proofs.FirstLaws.{firsts-none, firsts-next, total-within}
-use Rattle.image.proofs.FirstLaws.{total-next}
+use Rattle.image.specs.RegisterStarts.{RegisterStarts}
+use Rattle.image.proofs.RegisterStartsLaws.{firsts-none, firsts-next, total-within}
+use Rattle.image.proofs.RegisterStartsLaws.{total-next}
 use Rattle.image.proofs.first_of_each.Statement.{statement}
 use Rattle.image.proofs.first_of_each.Tie as tie
 

@@ -33,7 +33,7 @@ counts-requires c κs = search needs
 expression-at-requires : tie.Need-expression-at-requires
 expression-at-requires c κs =
     let limits = capped-limits _ _ (c .counts .ensures) in
-    (limits, omega (arith, limits .small))
+    (limits, omega (arith, limits .small (c .counts .result .expressions) (omega arith)))
 
 returns-4 : tie.Need-returns-4
 unfolding contentsOk every
@@ -41,7 +41,7 @@ returns-4 c =
     let read = c .before .before in
     let tests = read .before in
     let short = tests .before .before .if2 .left in
-    let long : ¬ _ = λ e. c .if4 .taken (c .before .expression-at .ensures .counted ∙ adds-up-capped _ _ (read .counts .ensures) short e) in
+    let long : ¬ _ = λ e. c .if4 .taken (c .before .expression-at .ensures .counted _ refl ∙ adds-up-capped _ _ (read .counts .ensures) short e) in
     rw (le-leb 9 _ (tests .before .before .before .if1 .left), le-leb _ 8192 short, eq-eqb _ _ (sym (tests .before .word .ensures) ∙ tests .if3 .left), ne-eqb _ _ long) refl
 
 returns-5 : tie.Need-returns-5
@@ -51,7 +51,7 @@ returns-5 c =
     let read = sum .before .before in
     let tests = read .before in
     let short = tests .before .before .if2 .left in
-    let total = sym (sum .before .expression-at .ensures .counted) ∙ sum .if4 .left in
+    let total = sym (sum .before .expression-at .ensures .counted _ refl) ∙ sum .if4 .left in
     let image = now (tests .before .before .before .before .before .args .image) in
     rw (le-leb 9 _ (tests .before .before .before .if1 .left), le-leb _ 8192 short, eq-eqb _ _ (sym (tests .before .word .ensures) ∙ tests .if3 .left), eq-eqb _ _ (whole-is _ _ (read .counts .ensures) _ short total), lt-leb (gates image) 128 (omega (arith, c .if5 .taken, gates-are _ _ (read .counts .ensures) _ short total))) refl
 
@@ -62,7 +62,7 @@ returns-6 c =
     let read = sum .before .before in
     let tests = read .before in
     let short = tests .before .before .if2 .left in
-    let total = sym (sum .before .expression-at .ensures .counted) ∙ sum .if4 .left in
+    let total = sym (sum .before .expression-at .ensures .counted _ refl) ∙ sum .if4 .left in
     let image = now (tests .before .before .before .before .before .args .image) in (
       rw (le-leb 9 _ (tests .before .before .before .if1 .left), le-leb _ 8192 short, eq-eqb _ _ (sym (tests .before .word .ensures) ∙ tests .if3 .left), eq-eqb _ _ (whole-is _ _ (read .counts .ensures) _ short total), le-leb (gates image) 128 (omega (arith, c .if5 .left, gates-are _ _ (read .counts .ensures) _ short total))) refl,
       adds-up _ _ (read .counts .ensures) _ short total refl (c .if5 .left),

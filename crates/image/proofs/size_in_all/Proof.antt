@@ -5,7 +5,7 @@ use mathlib.Core.Path.{_≡_, refl, sym, ap, _∙_}
 use mathlib.Core.List.{map}
 use denote.Ref.{now}
 use borrow.Author.Needs.{needs}
-use Rattle.image.proofs.FirstLaws.{total-next, total-within}
+use Rattle.image.proofs.RegisterStartsLaws.{total-next, total-within}
 use Rattle.model.specs.Lists.{range, sum}
 use Rattle.model.specs.Image.{word}
 use Rattle.image.proofs.size_in_all.Statement.{statement}
@@ -31,7 +31,7 @@ add-total : tie.Need-add-total Inv-loop μ-loop
 add-total c =
     let l = c .before .before in
     let s = l .before .before in
-    record { fits = omega (arith, c .word .ensures, total-within (λ (i : ℕ). word (now (s .args .image)) (s .args .at + i)) (l .loop .r) (s .args .n) (l .loop .total) (c .before .loop-test .taken) (l .loop .inv .1) (s .pre .1)) }
+    record { fits = omega (arith, c .word .ensures, total-within (λ (i : ℕ). word (now (s .args .image)) (s .args .at + i)) (l .loop .r) (s .args .n) (l .loop .total) (c .before .loop-test .taken) (l .loop .inv .1) (s .pre .2)) }
 
 add-r : tie.Need-add-r Inv-loop μ-loop
 add-r c = search needs

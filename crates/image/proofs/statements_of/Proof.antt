@@ -1,5 +1,5 @@
 use denote.Ref.{now}
-use Rattle.image.proofs.SpanLaws.{holds-main, holds-body}
+use Rattle.image.proofs.StatementsOfLaws.{holds-main, holds-body}
 use borrow.Author.Needs.{needs}
 use Rattle.image.proofs.statements_of.Statement.{statement}
 use Rattle.image.proofs.statements_of.Tie as tie

@@ -6,7 +6,7 @@ use denote.Ref.{now}
 use Rattle.model.specs.Image.{classicalRegisters, mainStatements, allStatements}
 use Rattle.model.specs.Check.{unused, conditionalOk}
 use Rattle.image_check.proofs.FlawLaws.{if-wrong, if-right}
-use Rattle.image_check.proofs.TestLaws.{out, then, whole, below, beyond, from, short}
+use Rattle.image_check.proofs.FirstOfLaws.{out, then, whole, below, beyond, from, short}
 use borrow.Author.Needs.{needs}
 use Rattle.image_check.proofs.conditional_flaw.Statement.{statement}
 use Rattle.image_check.proofs.conditional_flaw.Tie as tie
@@ -61,15 +61,15 @@ returns-5 c v =
     if-wrong (now (a .image)) (a .scope) (a .s) (a .r) v (a .t)
     (then _ (main (c .before .before .before .before .before .before .before .before)) (then _ (rest (c .before .before .before .before .before .before)) (then _ (register (c .before .before .before .before)) (then _ (further (c .before .before)) (out _ (beyond (c .before .before .before .before .before .before .before .before .before .before .before .before .pre .0 .laid .statements-is) (c .if5 .taken)))))))
 
-held-requires : tie.Need-held-requires
-held-requires c κs = search needs
+in-conditional-requires : tie.Need-in-conditional-requires
+in-conditional-requires c κs = search needs
 
 returns-6 : tie.Need-returns-6
 unfolding conditionalOk
 returns-6 c v =
     let a = c .before .before .before .before .before .before .before .before .before .before .before .before .before .before .args in
     if-wrong (now (a .image)) (a .scope) (a .s) (a .r) v (a .t)
-    (then _ (main (c .before .before .before .before .before .before .before .before .before .before)) (then _ (rest (c .before .before .before .before .before .before .before .before)) (then _ (register (c .before .before .before .before .before .before)) (then _ (further (c .before .before .before .before)) (then _ (listed (c .before .before)) (out _ (sym (c .before .held .ensures) ∙ not-true _ (c .if6 .taken))))))))
+    (then _ (main (c .before .before .before .before .before .before .before .before .before .before)) (then _ (rest (c .before .before .before .before .before .before .before .before)) (then _ (register (c .before .before .before .before .before .before)) (then _ (further (c .before .before .before .before)) (then _ (listed (c .before .before)) (out _ (sym (c .before .in-conditional .ensures) ∙ not-true _ (c .if6 .taken))))))))
 
 plain-flaw-requires : tie.Need-plain-flaw-requires
 plain-flaw-requires c κs = search needs
@@ -79,7 +79,7 @@ unfolding conditionalOk
 returns-7 c v =
     let a = c .before .before .before .before .before .before .before .before .before .before .before .before .before .before .before .args in
     if-right (now (a .image)) (a .scope) (a .s) (a .r) v (a .t)
-    (then _ (main (c .before .before .before .before .before .before .before .before .before .before .before)) (then _ (rest (c .before .before .before .before .before .before .before .before .before)) (then _ (register (c .before .before .before .before .before .before .before)) (then _ (further (c .before .before .before .before .before)) (then _ (listed (c .before .before .before)) (then _ (sym (c .before .before .held .ensures) ∙ not-false _ (c .before .if6 .left)) whole))))))
+    (then _ (main (c .before .before .before .before .before .before .before .before .before .before .before)) (then _ (rest (c .before .before .before .before .before .before .before .before .before)) (then _ (register (c .before .before .before .before .before .before .before)) (then _ (further (c .before .before .before .before .before)) (then _ (listed (c .before .before .before)) (then _ (sym (c .before .before .in-conditional .ensures) ∙ not-false _ (c .before .if6 .left)) whole))))))
     (c .plain-flaw .ensures)
 
 pub conditional-flaw-spec : {M : Type 1} → statement M
@@ -92,7 +92,7 @@ conditional-flaw-spec =
     returns-3
     returns-4
     returns-5
-    held-requires
+    in-conditional-requires
     returns-6
     plain-flaw-requires
     returns-7)

@@ -5,15 +5,15 @@ use denote.Ref.{now}
 use borrow.Author.Needs.{needs}
 use Rattle.model.specs.Image.{statementAt}
 use Rattle.model.specs.Check.{flaw}
-use Rattle.image_check.proofs.OrderLaws.{scopeFlaw, From, from-start, from-next, from-here, from-end}
-use Rattle.image_check.proofs.scope_fault.Statement.{statement}
-use Rattle.image_check.proofs.scope_fault.Tie as tie
+use Rattle.image_check.proofs.FirstBadLaws.{scopeFlaw, From, from-start, from-next, from-here, from-end}
+use Rattle.image_check.proofs.first_bad_in_scope.Statement.{statement}
+use Rattle.image_check.proofs.first_bad_in_scope.Tie as tie
 
 abbrev Inv-loop : tie.InvT-loop
-Inv-loop image l levels reaches scope first end s₀ s = (s ≤ end) × From (flaw image scope) (statementAt image) (scopeFlaw image scope) s end
+Inv-loop image l levels variable-counts scope first end s₀ s = (s ≤ end) × From (flaw image scope) (statementAt image) (scopeFlaw image scope) s end
 
 abbrev μ-loop : tie.MeasureT-loop
-μ-loop image l levels reaches scope first end s₀ s = end - s
+μ-loop image l levels variable-counts scope first end s₀ s = end - s
 
 statements-of-requires : tie.Need-statements-of-requires Inv-loop μ-loop
 statements-of-requires c κs = search needs
@@ -36,7 +36,7 @@ returns : tie.Need-returns Inv-loop μ-loop
 returns c =
     let a = c .before .before .before .before .before .before .before .before .before .before .args in
     from-here (flaw (now (a .image)) (a .scope)) (statementAt (now (a .image))) (scopeFlaw (now (a .image)) (a .scope)) _ _ _ _
-    (c .before .before .before .before .loop .inv .1) (c .before .before .before .loop-test .taken) (c .before .before .statement-flaw .ensures) (c .before .if1 .taken) (c .statement-at .ensures)
+    (c .before .before .before .before .loop .inv .1) (c .before .before .before .loop-test .taken) (c .before .before .statement-flaw .ensures) (c .before .if1 .taken) (c .statement-at .ensures .in-image _ (c .before .before .before .before .before .before .before .before .before .before .pre .laid))
 
 add-s : tie.Need-add-s Inv-loop μ-loop
 add-s c = search needs
@@ -57,8 +57,8 @@ returns-2 c =
     let a = c .before .before .before .before .before .before .before .args in
     from-end (flaw (now (a .image)) (a .scope)) (statementAt (now (a .image))) (scopeFlaw (now (a .image)) (a .scope)) _ _ (c .before .loop .inv .1) (c .loop-test .left)
 
-pub scope-fault-spec : {M : Type 1} → statement M
-scope-fault-spec =
+pub first-bad-in-scope-spec : {M : Type 1} → statement M
+first-bad-in-scope-spec =
     tie.close
     (tie.spec
     Inv-loop

@@ -3,16 +3,16 @@ use Prim.Native.Nat.{ℕ, _+_, _-_, _≤_}
 use mathlib.Core.Path.{_≡_, _∙_, ap, refl, sym}
 use mathlib.Core.List.{map}
 use Rattle.model.specs.Check.{firstBad}
-use Rattle.image_entries.specs.Faults.{registerFlaw}
+use Rattle.image_entries.specs.Flaws.{registerFlaw}
 use native.Mathlib.Omega.{arith}
-use Rattle.image_entries.proofs.RegisterLaws.{bad-all, register-fine, register-over, register-zero}
-use Rattle.image.proofs.FirstLaws.{total-next}
+use Rattle.image_entries.proofs.RegisterFlawLaws.{bad-all, register-fine, register-over, register-zero}
+use Rattle.image.proofs.RegisterStartsLaws.{total-next}
 use Rattle.model.proofs.Ranges.{bad-here, bad-next, bad-none}
 use denote.Ref.{now}
 use Rattle.model.specs.Lists.{range, sum}
 use Rattle.model.specs.Image.{word}
-use Rattle.image_entries.proofs.register_fault.Statement.{statement}
-use Rattle.image_entries.proofs.register_fault.Tie as tie
+use Rattle.image_entries.proofs.first_bad_register.Statement.{statement}
+use Rattle.image_entries.proofs.first_bad_register.Tie as tie
 
 abbrev Inv-loop : tie.InvT-loop
 Inv-loop image at n total₀ i₀ total i =
@@ -75,8 +75,8 @@ returns-3 c =
     let l = c .before .loop in
     sym (l .inv .3 ∙ bad-none _ _ (l .i) _ (c .loop-test .left))
 
-pub register-fault-spec : {M : Type 1} → statement M
-register-fault-spec =
+pub first-bad-register-spec : {M : Type 1} → statement M
+first-bad-register-spec =
     tie.close
     (tie.spec
     Inv-loop

@@ -1,15 +1,15 @@
 use native.Mathlib.Omega.{arith}
 use mathlib.Core.Path.{sym, _∙_}
 use borrow.Author.Needs.{needs}
-use Rattle.image_entries.proofs.ExpressionLaws.{variable-fits, leaf-variable, leaf-constant, leaf-unfit, leaf-second}
-use Rattle.image_entries.proofs.leaf.Statement.{statement}
-use Rattle.image_entries.proofs.leaf.Tie as tie
+use Rattle.image_entries.proofs.JudgementLaws.{variable-fits, leaf-variable, leaf-constant, leaf-unfit, leaf-second}
+use Rattle.image_entries.proofs.judge_leaf.Statement.{statement}
+use Rattle.image_entries.proofs.judge_leaf.Tie as tie
 
 leaf-fits-requires : tie.Need-leaf-fits-requires
 leaf-fits-requires c κs = search needs
 
-add-reach : tie.Need-add-reach
-add-reach c =
+add-variables : tie.Need-add-variables
+add-variables c =
     let s = c .before .before .before in
     let below = variable-fits 16 (s .before .args .kind) (s .before .args .a) (c .if3 .taken) (sym (c .before .before .leaf-fits .ensures) ∙ c .before .if2 .taken) in
     record { fits = omega arith }
@@ -33,5 +33,5 @@ returns-3 c =
 returns-4 : tie.Need-returns-4
 returns-4 c = leaf-second (c .before .args .kind) (c .before .args .a) (c .before .args .b) (c .if1 .left)
 
-pub leaf-spec : {M : Type 1} → statement M
-leaf-spec = tie.close (tie.spec leaf-fits-requires add-reach returns returns-2 returns-3 returns-4)
+pub judge-leaf-spec : {M : Type 1} → statement M
+judge-leaf-spec = tie.close (tie.spec leaf-fits-requires add-variables returns returns-2 returns-3 returns-4)

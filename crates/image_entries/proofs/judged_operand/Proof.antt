@@ -1,8 +1,8 @@
 use mathlib.Core.Path.{refl}
 use borrow.Author.Tests.{lt-ltb, le-ltb}
 use borrow.Author.Needs.{needs}
-use Rattle.image_entries.proofs.operand.Statement.{statement}
-use Rattle.image_entries.proofs.operand.Tie as tie
+use Rattle.image_entries.proofs.judged_operand.Statement.{statement}
+use Rattle.image_entries.proofs.judged_operand.Tie as tie
 
 mul-t8 : tie.Need-mul-t8
 mul-t8 c = search needs
@@ -22,6 +22,6 @@ returns c = (rw (lt-ltb _ _ (c .before .before .if1 .taken)) refl, rw (lt-ltb _ 
 returns-2 : tie.Need-returns-2
 returns-2 c = (rw (le-ltb _ _ (c .if1 .left)) refl, rw (le-ltb _ _ (c .if1 .left)) refl)
 
-pub operand-spec : {M : Type 1} → statement M
-operand-spec =
+pub judged-operand-spec : {M : Type 1} → statement M
+judged-operand-spec =
     tie.close (tie.spec mul-t8 shared-slice-read-t10 mul-t11 shared-slice-read-t13 returns returns-2)

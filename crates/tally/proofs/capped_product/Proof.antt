@@ -2,9 +2,9 @@ use Prim.Native.Nat.{_<_}
 use native.Mathlib.Omega.{arith}
 use borrow.Author.Needs.{needs}
 use Rattle.rational.proofs.Capped.{under, over}
-use Rattle.tally.proofs.Cuts.{product-none}
-use Rattle.tally.proofs.cut_product.Statement.{statement}
-use Rattle.tally.proofs.cut_product.Tie as tie
+use Rattle.tally.proofs.CappedLaws.{product-none}
+use Rattle.tally.proofs.capped_product.Statement.{statement}
+use Rattle.tally.proofs.capped_product.Tie as tie
 
 returns : tie.Need-returns
 returns c = product-none _ _ (c .if1 .taken)
@@ -27,5 +27,5 @@ returns-3 c =
     let positive : 0 < c .before .before .args .a = omega arith in
     omega (arith, over _ _ _ positive (c .if2 .left))
 
-pub cut-product-spec : {M : Type 1} → statement M
-cut-product-spec = tie.close (tie.spec returns div-if2 mul-result returns-2 returns-3)
+pub capped-product-spec : {M : Type 1} → statement M
+capped-product-spec = tie.close (tie.spec returns div-if2 mul-result returns-2 returns-3)

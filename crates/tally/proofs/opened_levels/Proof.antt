@@ -1,7 +1,7 @@
 use native.Mathlib.Omega.{arith}
 use borrow.Author.Needs.{needs}
-use Rattle.tally.proofs.levels.Statement.{statement}
-use Rattle.tally.proofs.levels.Tie as tie
+use Rattle.tally.proofs.opened_levels.Statement.{statement}
+use Rattle.tally.proofs.opened_levels.Tie as tie
 
 returns : tie.Need-returns
 returns c = omega arith
@@ -15,5 +15,5 @@ returns-2 c = omega arith
 returns-3 : tie.Need-returns-3
 returns-3 c = omega arith
 
-pub levels-spec : {M : Type 1} → statement M
-levels-spec = tie.close (tie.spec returns sub-result returns-2 returns-3)
+pub opened-levels-spec : {M : Type 1} → statement M
+opened-levels-spec = tie.close (tie.spec returns sub-result returns-2 returns-3)

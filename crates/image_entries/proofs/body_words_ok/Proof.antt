@@ -3,8 +3,8 @@ use mathlib.Core.Path.{_∙_, refl, sym}
 use borrow.Author.Tests.{eq-eqb, le-leb, lt-leb, ne-eqb}
 use Rattle.model.specs.Lists.{every}
 use borrow.Author.Needs.{needs}
-use Rattle.image_entries.proofs.gate_words_ok.Statement.{statement}
-use Rattle.image_entries.proofs.gate_words_ok.Tie as tie
+use Rattle.image_entries.proofs.body_words_ok.Statement.{statement}
+use Rattle.image_entries.proofs.body_words_ok.Tie as tie
 
 returns : tie.Need-returns
 unfolding every
@@ -33,6 +33,6 @@ returns-6 : tie.Need-returns-6
 unfolding every
 returns-6 c = sym (simp (le-leb _ 1 (c .before .before .if1 .left), sym (c .before .fits2 .ensures) ∙ c .if2 .left))
 
-pub gate-words-ok-spec : {M : Type 1} → statement M
-gate-words-ok-spec =
+pub body-words-ok-spec : {M : Type 1} → statement M
+body-words-ok-spec =
     tie.close (tie.spec returns fits-requires returns-2 returns-3 returns-4 returns-5 returns-6)
