@@ -18,7 +18,7 @@ use Rattle.model.specs.Accepted.{Accepted, FrameOk}
 use Rattle.model.proofs.StepsSound.{argument, bit-below, matched}
 use Rattle.value.specs.declared.Value.{Value}
 use Rattle.image.specs.declared.Layout.{Layout}
-use Rattle.image.specs.Firsts.{RegisterStarts}
+use Rattle.image.specs.RegisterStarts.{RegisterStarts}
 use Rattle.argument.specs.declared.Argument.{Argument}
 use Rattle.argument.specs.Frames.{scopeQubits, scopeFrame, ScopeContext, BitContext, numberInRound, registerArgument, RegisterEntry, quantumArgument, classicalArgument}
 

@@ -13,7 +13,7 @@ use Rattle.model.specs.Steps.{Frame, resolveQreg, qubitIn}
 use Rattle.model.specs.Accepted.{Accepted, FrameOk}
 use Rattle.image.specs.declared.Layout.{Layout}
 use Rattle.image.specs.Layout.{LayoutOf}
-use Rattle.image.specs.Firsts.{RegisterStarts}
+use Rattle.image.specs.RegisterStarts.{RegisterStarts}
 use Rattle.argument.specs.declared.Argument.{Argument}
 
 -- how many qubits the frame of a scope has: none in main, one for each argument of its gate in a body

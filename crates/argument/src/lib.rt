@@ -61,7 +61,7 @@ pub fn resolve_creg(image: &[u64], l: Layout, bit_starts: &[u64], c: u64) -> Arg
     ensures { λ r. ⌜ r ≡ classicalArgument (now (image .entry)) c ⌝ }
 {
     let at = image::argument_at(image, l, c);
-    register_part(image, bit_starts, 9 + l.quantum, at)
+    register_part(image, bit_starts, 9 + l.quantum_registers, at)
 }
 
 // The number of the qubit or bit that an argument has in a round. An argument of size 1 stays, any other advances.

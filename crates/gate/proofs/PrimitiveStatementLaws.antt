@@ -56,8 +56,8 @@ known-gate image {p} {q} {g} {n} e f h = subst (λ (x : ℕ). x < n) (sym (read-
 
 -- an entry ends within the image
 module _ {image : List ℕ} {l : Layout} (laid : LayoutOf image l) where
-  pub near-statement : (s : ℕ) {p : ℕ} → s < l .all → p ≡ statementAt image s → p + 5 ≤ 8192
-  near-statement s h e = omega (arith, laid .all-is, laid .whole, laid .short)
+  pub near-statement : (s : ℕ) {p : ℕ} → s < l .statements → p ≡ statementAt image s → p + 5 ≤ 8192
+  near-statement s h e = omega (arith, laid .statements-is, laid .whole, laid .short)
 
   pub near-gate : (g : ℕ) {at : ℕ} → g < l .gates → at ≡ gateAt image g → at + 5 ≤ 8192
   near-gate g h e = omega (arith, laid .gates-is, laid .whole, laid .short)

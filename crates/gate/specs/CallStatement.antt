@@ -30,7 +30,7 @@ callOf image s =
 -- a call is what its statement says, and the check accepted it in a scope
 pub record CallStatement (image : List ℕ) (l : Layout) (scope : ℕ) (call : Call) : Type 0 where
   pub read : call ≡ callOf image (call .statement)
-  pub listed : call .statement < l .all
+  pub listed : call .statement < l .statements
   pub gate-listed : call .gate < l .gates
   pub downward : call .gate < nested scope
   pub few-parameters : call .parameters ≤ 16

@@ -8,7 +8,7 @@ use Rattle.image.specs.declared.Layout.{Layout}
 
 -- the image has statement s, which is no conditional and which the check accepted in a scope
 pub record PlainStatement (image : List ℕ) (l : Layout) (scope s : ℕ) : Type 0 where
-  pub listed : s < l .all
+  pub listed : s < l .statements
   pub facts : PlainFacts image scope (statement image s)
 
 -- statement s is a call: its kind is 3

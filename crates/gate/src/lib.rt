@@ -56,7 +56,7 @@ fn write_cut_gate(
         (now (out .entry)) at r (now (out .exit))
         ⌝ }
 {
-    let place = image::gate_at(image, l, g);
+    let place = l.gate_at(g);
     let angles = [expression::zero(); 16];
     record_writer::write_opaque(out, at, g, angles, 0, qubits, image::word(image, place + 1))
 }
@@ -86,7 +86,7 @@ fn visit_primitive(
         × ConstantsKept (now (image .entry)) (now («kept_values» .exit))
         ⌝ }
 {
-    let place = image::statement_at(image, l, s);
+    let place = l.statement_at(s);
     let kind = image::word(image, place);
     let a = image::word(image, place + 1);
     let b = image::word(image, place + 2);
@@ -141,19 +141,19 @@ pub struct Call {
 fn call_at(image: &[u64], l: Layout, s: u64) -> Call
     requires { ⌜
         LayoutOf (now image) l
-        × (s < l .all)
+        × (s < l .statements)
         × (word (now image) (statementAt (now image) s + 1) < l .gates)
         × (word (now image) (statementAt (now image) s + 2) ≤ 8192)
         ⌝ }
     ensures { λ r. ⌜ r ≡ callOf (now (image .entry)) s ⌝ }
 {
-    let place = image::statement_at(image, l, s);
+    let place = l.statement_at(s);
     let gate = image::word(image, place + 1);
-    let gate_place = image::gate_at(image, l, gate);
+    let gate_place = l.gate_at(gate);
     Call {
         statement: s,
         gate,
-        expressions: image::parameter_at(image, l, image::word(image, place + 2)),
+        expressions: l.parameter_at(image::word(image, place + 2)),
         parameters: image::word(image, gate_place),
         argument: image::word(image, place + 3),
         arguments: image::word(image, gate_place + 1),
@@ -198,7 +198,7 @@ pub fn visit_statement(
         × ConstantsKept (now (image .entry)) (now («kept_values» .exit))
         ⌝ }
 {
-    if image::word(image, image::statement_at(image, l, s)) == 3 {
+    if image::word(image, l.statement_at(s)) == 3 {
         return visit_gate(
             image,
             l,
@@ -366,7 +366,7 @@ fn visit_rounds(
                 position = with_trace_words(next, at.trace);
             }
             Linearized::Refused(e) => {
-                let place = image::statement_at(image, l, call.statement);
+                let place = l.statement_at(call.statement);
                 write_trace_pair(trace, at.trace, scope, place);
                 return Linearized::Refused(e);
             }

@@ -19,12 +19,9 @@ use Rattle.model.specs.Reader.{recordsIn}
 use Rattle.model.specs.Claims.{Claims, count, declared, distinct}
 use Rattle.model.proofs.PlayLaws.{plays-all}
 use Rattle.model.proofs.Outcome.{claims}
-use types.Run.{OneOf, miss}
-use denote.Enum.Declared.{tagOf}
-use Rattle.image.proofs.CheckAnswer.{the-type}
-use Rattle.image.specs.declared.CheckAnswer.the-variants as answer
-use Rattle.image.specs.declared.CheckAnswer.{CheckAnswer}
-use Rattle.image.specs.Answer.{answerFlaw, numberIn, placeIn}
+use Rattle.image.specs.declared.CheckRefusal.{CheckRefusal}
+use Rattle.image.specs.declared.CheckRefusal.the-variants as refusal
+use Rattle.image.specs.Answer.{refusalFlaw, numberIn, placeIn}
 use Rattle.record_writer.specs.declared.Position.{Position}
 use Rattle.record_writer.specs.declared.LinearizeErrorKind.{LinearizeErrorKind}
 use Rattle.record_writer.specs.declared.LinearizeErrorKind.the-variants as kind
@@ -71,6 +68,17 @@ unfolding traceOf
 answer-trace (linearized.Done p) c = refl
 answer-trace (linearized.Refused e) c = refusal-trace (e .kind) c
 
+-- the flaw for which an image is refused is one
+is-bad : (c : CheckRefusal) → refusalFlaw c ≡ bad (numberIn (refusalFlaw c)) (placeIn (refusalFlaw c))
+is-bad refusal.Contents = refl
+is-bad (refusal.Register p) = refl
+is-bad (refusal.GateEntry p) = refl
+is-bad (refusal.Form p) = refl
+is-bad (refusal.Argument p) = refl
+is-bad (refusal.Expression p) = refl
+is-bad (refusal.Sizes p) = refl
+is-bad (refusal.Upward p) = refl
+
 module _ (image : List ℕ) (depth : ℕ) (out trace : List ℕ) where
   -- an accepted image plays its steps
   plays-steps : check image ≡ fine → 256 ≤ length trace → runs image depth (length out) (length trace) ≡ play (length out) (steps image depth)
@@ -106,25 +114,10 @@ module _ (image : List ℕ) (depth : ℕ) (out trace : List ℕ) where
   unfolding linearize runs output flatMap traceOf
   short-trace h = linearizes image depth out trace (sym (rw (lt-ltb (length trace) 256 h) refl))
 
-  pub not-accepted : {c : CheckAnswer} → 256 ≤ length trace → answerFlaw c ≡ check image → ¬ (answerFlaw c ≡ fine) → Linearizes image depth out trace (refusedWith (kind.Flawed c)) out trace
+  pub not-accepted : (c : CheckRefusal) → 256 ≤ length trace → refusalFlaw c ≡ check image → Linearizes image depth out trace (refusedWith (kind.Flawed c)) out trace
   unfolding linearize runs accepted output flatMap traceOf
-  not-accepted {c} h e n = linearizes image depth out trace (sym (rw (le-ltb (length trace) 256 h, ← e) (go (answerFlaw c) n)))
+  not-accepted c h e = linearizes image depth out trace (sym (rw (le-ltb (length trace) 256 h, ← e) (go (refusalFlaw c) (is-bad c))))
     where
-      go : (v : Flaw) → ¬ (v ≡ fine) → outcomeOf (accepted v (play (length out) (steps image depth))) out trace ≡ record { answer = flawed (numberIn v) (placeIn v); records = 0; outputWords = 0; traceWords = 0; outputLeft = out; traceLeft = trace }
-      go fine n = absurd (n refl)
+      go : (v : Flaw) → v ≡ bad (numberIn v) (placeIn v) → outcomeOf (accepted v (play (length out) (steps image depth))) out trace ≡ record { answer = flawed (numberIn v) (placeIn v); records = 0; outputWords = 0; traceWords = 0; outputLeft = out; traceLeft = trace }
+      go fine n = absurd (let z : _≡_ {A = ℕ} 0 1 = cc in omega arith)
       go (bad k p) n = refl
-
--- an answer other than Accepted
-bad-is-not-fine : {n p : ℕ} → ¬ (bad n p ≡ fine)
-bad-is-not-fine e = let z : _≡_ {A = ℕ} 0 1 = cc in omega arith
-
-pub not-fine : (v : CheckAnswer) → OneOf (1 ∷ 2 ∷ 3 ∷ 4 ∷ 5 ∷ 6 ∷ 7 ∷ 8 ∷ []) (tagOf the-type v) → ¬ (answerFlaw v ≡ fine)
-not-fine answer.Accepted k e = absurd (miss (1 ∷ 2 ∷ 3 ∷ 4 ∷ 5 ∷ 6 ∷ 7 ∷ 8 ∷ []) 0 tt k)
-not-fine answer.Contents k e = bad-is-not-fine e
-not-fine (answer.Register p) k e = bad-is-not-fine e
-not-fine (answer.GateEntry p) k e = bad-is-not-fine e
-not-fine (answer.Form p) k e = bad-is-not-fine e
-not-fine (answer.Argument p) k e = bad-is-not-fine e
-not-fine (answer.Expression p) k e = bad-is-not-fine e
-not-fine (answer.Sizes p) k e = bad-is-not-fine e
-not-fine (answer.Upward p) k e = bad-is-not-fine e

@@ -1,6 +1,6 @@
 -- What is known where the main statements are run, and their steps: conditionals, the statements in turn, and the head before them.
 use Prim.Native.Nat.{ℕ, _+_, _-_, _≤_, _<_, zero-le}
-use native.Mathlib.Nat.{zero-add}
+use native.Mathlib.Nat.{zero-add, add-zero}
 use native.Mathlib.Omega.{arith}
 use mathlib.Core.Path.{_≡_, refl, sym, ap, ap₂, subst, _∙_}
 use mathlib.Core.List.{List, [], _∷_, _++_, map}
@@ -8,7 +8,7 @@ use borrow.Author.Tests.{eq-eqb, ne-eqb}
 use lib.ListN.{length, getD, replicate}
 use Rattle.value.specs.declared.Value.{Value}
 use Rattle.model.specs.Lists.{range, sum}
-use Rattle.model.specs.Image.{Conditional, word, quantumRegisters, quantumSize, firstQubit, statement, statementAt, mainStatements, classicalRegisters, classicalSize, firstBit, variables, scopeStatements}
+use Rattle.model.specs.Image.{Conditional, word, quantumRegisters, quantumSize, firstQubit, statement, statementAt, mainStatements, classicalRegisters, classicalSize, firstBit, variables, scopeStatements, quantumRegisterAt, classicalRegisterAt}
 use Rattle.model.specs.Records.{Record}
 use Rattle.model.specs.Steps.{Step, write, inRounds, visitPlain, visitConditional, visitStatement, visitBody, opening, mainFrame, headRecord, steps}
 use Rattle.model.proofs.Facts.{run-facts}
@@ -16,8 +16,8 @@ use Rattle.model.specs.Accepted.{PlainFacts, Facts, Accepted}
 use Rattle.model.specs.Run.{play}
 use Rattle.model.proofs.PlayLaws.{plays-stop}
 use Rattle.image.specs.declared.Layout.{Layout}
-use Rattle.image.specs.Layout.{LayoutOf}
-use Rattle.image.specs.Firsts.{RegisterStarts}
+use Rattle.image.specs.Layout.{LayoutOf, PlaceIs}
+use Rattle.image.specs.RegisterStarts.{RegisterStarts}
 use Rattle.record_writer.specs.declared.Linearized.{Linearized}
 use Rattle.record_writer.specs.declared.Linearized.the-variants as linearized
 use Rattle.record_writer.proofs.WroteStepsLaws.{wrote-open}
@@ -62,17 +62,17 @@ module _ (image : List ℕ) (s : ℕ) where
     inner-listed =
         let h : t ≡ word image (statementAt image s + 3) = et ∙ ap (λ (n : ℕ). word image (n + 3)) ep in
         record {
-          listed = omega (arith, if-facts e (m .facts) .3, h, bits .laid .all-is);
+          listed = omega (arith, if-facts e (m .facts) .3, h, bits .laid .statements-is);
           facts = subst (λ (n : ℕ). PlainFacts image 0 (statement image n)) (sym h) (if-facts e (m .facts) .5);
         }
 
-    pub conditional-steps : (levels-left : ℕ) (angles : List Value) (qubits : List ℕ) {first size : ℕ} → first ≡ getD bit-starts r 0 → {q : ℕ} → size ≡ word image (9 + q + r) → q ≡ l .quantum
+    pub conditional-steps : (levels-left : ℕ) (angles : List Value) (qubits : List ℕ) {first size : ℕ} → first ≡ getD bit-starts r 0 → {at : ℕ} → size ≡ word image at → at ≡ classicalRegisterAt image r
         → (write [] (Record.ConditionalStart first size v) ∷ []) ++ (plainSteps image levels-left (scopeFrame image 0 angles qubits) t ++ write [] Record.ConditionalEnd ∷ [])
         ≡ visitStatement image (opening image levels-left) (scopeFrame image 0 angles qubits) s
     unfolding visitStatement visitPlain visitConditional firstBit
-    conditional-steps levels-left angles qubits {first} {size} ef {q} ez eq =
+    conditional-steps levels-left angles qubits {first} {size} ef ez ea =
         let a : first ≡ firstBit image (word image (statementAt image s + 1)) = ef ∙ ap (λ (n : ℕ). getD bit-starts n 0) register-is ∙ bits .starts .each _ (if-facts e (m .facts) .1) in
-        let b : size ≡ classicalSize image (word image (statementAt image s + 1)) = ez ∙ ap₂ (λ (m n : ℕ). word image (9 + m + n)) (eq ∙ bits .laid .quantum-is) register-is in
+        let b : size ≡ classicalSize image (word image (statementAt image s + 1)) = ez ∙ ap (word image) (ea ∙ ap (classicalRegisterAt image) register-is) in
         let c : v ≡ word image (statementAt image s + 2) = ev ∙ ap (λ (n : ℕ). word image (n + 2)) ep in
         let d : t ≡ word image (statementAt image s + 3) = et ∙ ap (λ (n : ℕ). word image (n + 3)) ep in
         sym (rw (is-if e, ← a, ← b, ← c, ← d) refl)
@@ -97,13 +97,13 @@ module _ {image : List ℕ} {l : Layout} {qubit-starts bit-starts out trace : Li
         trace-room = omega (arith, m .start .no-calls);
       }
 
-  pub main-statement : {s : ℕ} → s < l .main → MainStatement image l s
+  pub main-statement : {s : ℕ} → s < l .«main_statements» → MainStatement image l s
   unfolding scopeStatements
   main-statement {s} h =
       let laid = m .start .laid in
       record {
-        listed = omega (arith, h, laid .main-is, laid .all-is);
-        facts = subst (λ (n : ℕ). Facts image 0 (statement image n)) (zero-add s) (run-facts image (m .start .accepted) 0 0 (mainStatements image) s zero-le refl (omega (arith, h, laid .main-is)));
+        listed = omega (arith, h, laid .main-statements-is, laid .statements-is);
+        facts = subst (λ (n : ℕ). Facts image 0 (statement image n)) (zero-add s) (run-facts image (m .start .accepted) 0 0 (mainStatements image) s zero-le refl (omega (arith, h, laid .main-statements-is)));
       }
 
 pub main-steps : (image : List ℕ) (levels-left : ℕ) (angles : List Value) (qubits : List ℕ) {n : ℕ} → n ≡ mainStatements image
@@ -131,18 +131,21 @@ module _ {image : List ℕ} {l : Layout} {out trace : List ℕ} {at : Position} 
   abbrev acc : Accepted image
   acc = start .accepted
 
-  pub quantum-fits : (l .quantum ≤ 4096) × (sum (map (λ i. word image (9 + i)) (range 0 (l .quantum))) ≤ 4096)
+  -- the list of quantum registers begins after the contents, that of classical ones after it
+  classical-at : {at : ℕ} → PlaceIs l classicalRegisterAt 0 at → at ≡ 9 + quantumRegisters image
+  classical-at p = p .in-image image laid ∙ add-zero (9 + quantumRegisters image)
+
+  pub quantum-fits : {at : ℕ} → PlaceIs l quantumRegisterAt 0 at → (at ≤ 16384) × (l .«quantum_registers» ≤ 4096) × (sum (map (λ i. word image (at + i)) (range 0 (l .«quantum_registers»))) ≤ 4096)
   unfolding firstQubit
-  quantum-fits =
-      rw (laid .quantum-is) (few-quantum acc, acc .fewQubits)
+  quantum-fits p = rw (p .in-image image laid, laid .quantum-registers-is) (omega arith, few-quantum acc, acc .fewQubits)
 
-  pub classical-fits : (9 + l .quantum ≤ 16384) × (l .classical ≤ 4096) × (sum (map (λ i. word image (9 + l .quantum + i)) (range 0 (l .classical))) ≤ 4096)
+  pub classical-fits : {at : ℕ} → PlaceIs l classicalRegisterAt 0 at → (at ≤ 16384) × (l .«classical_registers» ≤ 4096) × (sum (map (λ i. word image (at + i)) (range 0 (l .«classical_registers»))) ≤ 4096)
   unfolding firstBit
-  classical-fits =
-      rw (laid .quantum-is, laid .classical-is) (omega (arith, laid .whole, laid .short), few-classical acc, acc .fewBits)
+  classical-fits p = rw (classical-at p, laid .classical-registers-is) (omega (arith, laid .whole, laid .short), few-classical acc, acc .fewBits)
 
-  pub with-starts : {qubit-starts bit-starts : List ℕ} → RegisterStarts (λ i. word image (9 + i)) (l .quantum) qubit-starts → RegisterStarts (λ i. word image (9 + l .quantum + i)) (l .classical) bit-starts → MainContext image l qubit-starts bit-starts out trace at
-  with-starts q b = record { start = start; quantum = rw (laid .quantum-is) at q; classical = rw (laid .quantum-is, laid .classical-is) at b }
+  pub with-starts : {quantum-place classical-place : ℕ} {qubit-starts bit-starts : List ℕ} → PlaceIs l quantumRegisterAt 0 quantum-place → PlaceIs l classicalRegisterAt 0 classical-place
+      → RegisterStarts (λ i. word image (quantum-place + i)) (l .«quantum_registers») qubit-starts → RegisterStarts (λ i. word image (classical-place + i)) (l .«classical_registers») bit-starts → MainContext image l qubit-starts bit-starts out trace at
+  with-starts p r q b = record { start = start; quantum = rw (p .in-image image laid, laid .quantum-registers-is) at q; classical = rw (classical-at r, laid .classical-registers-is) at b }
 
 -- no step is written
 pub wrote-nothing : {out : List ℕ} {at : Position} → InOutput out at → WroteSteps [] out at (linearized.Done at) out

@@ -7,7 +7,7 @@ use Rattle.model.specs.Image.{quantumSize, quantumRegisters, classicalSize, cla
 use Rattle.model.specs.Accepted.{Accepted}
 use Rattle.image.specs.declared.Layout.{Layout}
 use Rattle.image.specs.Layout.{LayoutOf}
-use Rattle.image.specs.Firsts.{RegisterStarts}
+use Rattle.image.specs.RegisterStarts.{RegisterStarts}
 use Rattle.record_writer.specs.declared.Position.{Position}
 use Rattle.record_writer.specs.Promise.{InOutput}
 

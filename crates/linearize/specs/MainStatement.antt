@@ -13,7 +13,7 @@ use Rattle.gate.specs.RanSteps.{statementSteps}
 
 -- the image has statement s, which the check accepted in main
 pub record MainStatement (image : List ℕ) (l : Layout) (s : ℕ) : Type 0 where
-  pub listed : s < l .all
+  pub listed : s < l .statements
   pub facts : Facts image 0 (statement image s)
 
 -- statement s is a conditional: its kind is 7

@@ -1,7 +1,6 @@
 // Writes the finished operations of a program image: the head, then its main statements.
-use image::CheckAnswer;
-use image::Contents;
 use image::Layout;
+use image_check::LayoutAnswer;
 use record_writer::LinearizeError;
 use record_writer::LinearizeErrorKind;
 use record_writer::Linearized;
@@ -9,7 +8,6 @@ use record_writer::Position;
 ghost use mathlib.Core.Path.{_≡_};
 ghost use Prim.Native.Nat.{_-_, _≤_};
 ghost use lib.ListN.{length};
-ghost use Rattle.model.specs.Check.{fine, check};
 ghost use Rattle.model.specs.Steps.{steps};
 ghost use Rattle.expression.specs.KeptValues.{ConstantsKept};
 ghost use Rattle.gate.specs.RunContext.{RunContext};
@@ -20,19 +18,19 @@ ghost use Rattle.linearize.specs.MainStatement.{MainStatement, IsConditi
 ghost use Rattle.linearize.specs.Linearizes.{refusedWith, Linearizes};
 
 // The words of a trace that is long enough for any run: two for each call, and a call goes to a gate of smaller number.
-const TRACE_WORDS: usize = 256;
+const TRACE_WORDS: usize = 2 * (image::MOST_GATES as usize);
 
 // The most expressions of a program that has few.
-const FEW_EXPRESSIONS: u64 = 128;
+const FEW_EXPRESSIONS: usize = 128;
 
 // The most quantum, and the most classical, registers of a program that has few.
-const FEW_REGISTERS: u64 = 64;
+const FEW_REGISTERS: usize = 64;
 
-// The words of the values kept of few expressions: seven for each.
-const FEW_VALUES_WORDS: usize = 7 * 128;
+// The most quantum, and the most classical, registers of any program: each has an element at least.
+const MOST_REGISTERS: usize = image::MOST_ELEMENTS as usize;
 
-// The words of the values kept of as many expressions as an image may have: seven for each.
-const MOST_VALUES_WORDS: usize = 7 * 2728;
+// The words of a kept value: whether it is a constant's, and an angle.
+const KEPT_VALUE_WORDS: usize = 7;
 
 // The inner statement of a conditional, and the conditional's end.
 fn visit_inner_statement(
@@ -105,9 +103,9 @@ fn visit_conditional(
         × ConstantsKept (now (image .entry)) (now («kept_values» .exit))
         ⌝ }
 {
-    let place = image::statement_at(image, l, s);
+    let place = l.statement_at(s);
     let register = image::word(image, place + 1);
-    let size = image::word(image, 9 + l.quantum + register);
+    let size = image::word(image, l.classical_register_at(register));
     let first = bit_starts[register as usize];
     match record_writer::write_conditional_start(
         out,
@@ -159,7 +157,7 @@ fn visit_main(
         × ConstantsKept (now (image .entry)) (now («kept_values» .exit))
         ⌝ }
 {
-    if image::word(image, image::statement_at(image, l, s)) == 7 {
+    if image::word(image, l.statement_at(s)) == 7 {
         return visit_conditional(
             image,
             l,
@@ -215,7 +213,7 @@ fn visit_program(
 {
     let angles = [0u64; 96];
     let qubits = [0u64; 16];
-    let n = l.main;
+    let n = l.main_statements;
     let mut position = at;
     let mut s = 0u64;
     while s < n {
@@ -262,7 +260,7 @@ fn visit_few_expressions(
         (now (out .entry)) at (now (trace .entry)) r (now (out .exit)) (now (trace .exit))
         ⌝ }
 {
-    let mut kept_values = [0u64; FEW_VALUES_WORDS];
+    let mut kept_values = [0u64; KEPT_VALUE_WORDS * FEW_EXPRESSIONS];
     visit_program(
         image,
         l,
@@ -293,7 +291,7 @@ fn visit_many_expressions(
         (now (out .entry)) at (now (trace .entry)) r (now (out .exit)) (now (trace .exit))
         ⌝ }
 {
-    let mut kept_values = [0u64; MOST_VALUES_WORDS];
+    let mut kept_values = [0u64; KEPT_VALUE_WORDS * image::MOST_EXPRESSIONS];
     visit_program(
         image,
         l,
@@ -324,7 +322,7 @@ fn visit_with_kept_values(
         (now (out .entry)) at (now (trace .entry)) r (now (out .exit)) (now (trace .exit))
         ⌝ }
 {
-    if l.expressions <= FEW_EXPRESSIONS {
+    if l.expressions <= FEW_EXPRESSIONS as u64 {
         return visit_few_expressions(
             image,
             l,
@@ -364,16 +362,26 @@ fn visit_few_registers(
     trace: &mut [u64],
     at: Position,
 ) -> Linearized
-    requires { ⌜ StartContext (now image) l (now out) (now trace) at × (l .quantum ≤ 64) × (l .classical ≤ 64) ⌝ }
+    requires { ⌜ StartContext (now image) l (now out) (now trace) at × (l .«quantum_registers» ≤ 64) × (l .«classical_registers» ≤ 64) ⌝ }
     ensures { λ r. ⌜
         RanSteps (mainSteps (now (image .entry)) «levels_left»)
         (now (out .entry)) at (now (trace .entry)) r (now (out .exit)) (now (trace .exit))
         ⌝ }
 {
-    let mut qubit_starts = [0u64; 64];
-    image::first_of_each(image, 9, l.quantum, &mut qubit_starts);
-    let mut bit_starts = [0u64; 64];
-    image::first_of_each(image, 9 + l.quantum, l.classical, &mut bit_starts);
+    let mut qubit_starts = [0u64; FEW_REGISTERS];
+    image::first_of_each(
+        image,
+        l.quantum_register_at(0),
+        l.quantum_registers,
+        &mut qubit_starts,
+    );
+    let mut bit_starts = [0u64; FEW_REGISTERS];
+    image::first_of_each(
+        image,
+        l.classical_register_at(0),
+        l.classical_registers,
+        &mut bit_starts,
+    );
     visit_with_kept_values(
         image,
         l,
@@ -401,10 +409,20 @@ fn visit_many_registers(
         (now (out .entry)) at (now (trace .entry)) r (now (out .exit)) (now (trace .exit))
         ⌝ }
 {
-    let mut qubit_starts = [0u64; 4096];
-    image::first_of_each(image, 9, l.quantum, &mut qubit_starts);
-    let mut bit_starts = [0u64; 4096];
-    image::first_of_each(image, 9 + l.quantum, l.classical, &mut bit_starts);
+    let mut qubit_starts = [0u64; MOST_REGISTERS];
+    image::first_of_each(
+        image,
+        l.quantum_register_at(0),
+        l.quantum_registers,
+        &mut qubit_starts,
+    );
+    let mut bit_starts = [0u64; MOST_REGISTERS];
+    image::first_of_each(
+        image,
+        l.classical_register_at(0),
+        l.classical_registers,
+        &mut bit_starts,
+    );
     visit_with_kept_values(
         image,
         l,
@@ -432,14 +450,14 @@ fn visit_with_register_starts(
         (now (out .entry)) at (now (trace .entry)) r (now (out .exit)) (now (trace .exit))
         ⌝ }
 {
-    if image::larger(l.quantum, l.classical) <= FEW_REGISTERS {
+    if image::larger(l.quantum_registers, l.classical_registers) <= FEW_REGISTERS as u64 {
         return visit_few_registers(image, l, levels_left, out, trace, at);
     }
     visit_many_registers(image, l, levels_left, out, trace, at)
 }
 
 // The run of an accepted image: the head comes with the first main statement.
-fn run_program(
+fn run_accepted(
     image: &[u64],
     l: Layout,
     depth: u64,
@@ -453,7 +471,7 @@ fn run_program(
         (now (out .entry)) at (now (trace .entry)) r (now (out .exit)) (now (trace .exit))
         ⌝ }
 {
-    if l.main == 0 {
+    if l.main_statements == 0 {
         return Linearized::Done(at);
     }
     match long_record::write_head(out, at, image, l) {
@@ -487,16 +505,6 @@ fn refused(kind: LinearizeErrorKind) -> Linearized
     Linearized::Refused(LinearizeError { kind, at: start() })
 }
 
-fn run_accepted(image: &[u64], depth: u64, out: &mut [u64], trace: &mut [u64]) -> Linearized
-    requires { ⌜ (check (now image) ≡ fine) × (256 ≤ length (now trace)) ⌝ }
-    ensures { λ r. ⌜ Linearizes (now (image .entry)) depth (now (out .entry)) (now (trace .entry)) r (now (out .exit)) (now (trace .exit)) ⌝ }
-{
-    match image::read_contents(image) {
-        Contents::Right(l) => run_program(image, l, depth, out, trace, start()),
-        Contents::Wrong => refused(LinearizeErrorKind::ShortTrace),
-    }
-}
-
 // Writes the finished operations of an image at a depth into the output, or says why not; a refusal's calls stand in the trace.
 pub fn run(image: &[u64], depth: u64, out: &mut [u64], trace: &mut [u64]) -> Linearized
     ensures { λ r. ⌜ Linearizes (now (image .entry)) depth (now (out .entry)) (now (trace .entry)) r (now (out .exit)) (now (trace .exit)) ⌝ }
@@ -504,9 +512,8 @@ pub fn run(image: &[u64], depth: u64, out: &mut [u64], trace: &mut [u64]) -> Lin
     if trace.len() < TRACE_WORDS {
         return refused(LinearizeErrorKind::ShortTrace);
     }
-    let answer = image_check::check(image);
-    match answer {
-        CheckAnswer::Accepted => run_accepted(image, depth, out, trace),
-        _ => refused(LinearizeErrorKind::Flawed(answer)),
+    match image_check::accepted_layout(image) {
+        LayoutAnswer::Accepted(l) => run_accepted(image, l, depth, out, trace, start()),
+        LayoutAnswer::Refused(refusal) => refused(LinearizeErrorKind::Flawed(refusal)),
     }
 }

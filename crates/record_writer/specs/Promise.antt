@@ -11,7 +11,7 @@ use Rattle.model.specs.Records.{Record, encode}
 use Rattle.model.specs.Steps.{Step, write, Refusal}
 use Rattle.model.specs.Run.{Answer, done, refused, full, flawed, shortTrace}
 use Rattle.model.specs.Playing.{Place, Plays}
-use Rattle.image.specs.Answer.{answerFlaw, numberIn, placeIn}
+use Rattle.image.specs.Answer.{refusalFlaw, numberIn, placeIn}
 use Rattle.record_writer.specs.declared.Position.{Position}
 use Rattle.record_writer.specs.declared.LinearizeErrorKind.{LinearizeErrorKind}
 use Rattle.record_writer.specs.declared.LinearizeErrorKind.the-variants as kind
@@ -26,7 +26,7 @@ refusalAnswer (kind.NumericalOverflow p) t = refused t (Refusal.NumericalOverflo
 refusalAnswer (kind.OverlappingRegs p q) t = refused t (Refusal.OverlappingRegs p q)
 refusalAnswer (kind.FunctionOfFloats p) t = refused t (Refusal.FunctionOfFloats p)
 refusalAnswer kind.OutputFull t = full t
-refusalAnswer (kind.Flawed c) t = flawed (numberIn (answerFlaw c)) (placeIn (answerFlaw c))
+refusalAnswer (kind.Flawed c) t = flawed (numberIn (refusalFlaw c)) (placeIn (refusalFlaw c))
 refusalAnswer kind.ShortTrace t = shortTrace
 
 abbrev pub runAnswerOf : Linearized → List ℕ → Answer

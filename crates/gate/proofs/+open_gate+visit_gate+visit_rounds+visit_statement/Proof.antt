@@ -27,7 +27,7 @@ use Rattle.expression.proofs.parameters.Reads as parameters-reads
 use Rattle.argument.proofs.qubits_in_round.Reads as qubits-in-round-reads
 use Rattle.statement.proofs.visit_opaque.Reads as visit-opaque-reads
 use Rattle.image.proofs.rounds_of.Reads as rounds-of-reads
-use Rattle.image.proofs.statement_at.Reads as statement-at-reads
+use Rattle.image.proofs.Layout.statement_at.Reads as statement-at-reads
 use Rattle.image.proofs.statements_of.Reads as statements-of-reads
 use Rattle.image.proofs.word.Reads as word-reads
 use Rattle.expression.specs.Angles.{anglesIn}
@@ -166,7 +166,7 @@ open-gate-add-visit-statement-2 : (t : ℕ) → open-gate-lts.Need-add-visit-sta
 open-gate-add-visit-statement-2 t c =
     let pre = c .before .before .before .before .before .before .before .before .before .before .before .before .before .before .before .pre in
     let statements-of = c .before .before .before .before .before .statements-of .ensures in
-    record { fits = omega (arith, c .before .before .before .loop-test .taken, statements-of .listed, pre .1 .0 .context .in-scope .laid .all-is, pre .1 .0 .context .in-scope .laid .whole, pre .1 .0 .context .in-scope .laid .short) }
+    record { fits = omega (arith, c .before .before .before .loop-test .taken, statements-of .listed, pre .1 .0 .context .in-scope .laid .statements-is, pre .1 .0 .context .in-scope .laid .whole, pre .1 .0 .context .in-scope .laid .short) }
 
 open-gate-sub-visit-statement : (t : ℕ) → open-gate-lts.Need-sub-visit-statement (open-gate-callees t) (open-gate-at t) open-gate.Post open-gate-Inv-loop open-gate-μ-loop
 open-gate-sub-visit-statement t c = omega (arith, c .before .before .before .before .before .before .if1 .left)
@@ -211,7 +211,7 @@ open-gate-add-i t c =
     let pre = c .before .before .before .before .before .before .before .before .before .before .before .before .before .before .before .before .before .before .before .before .before .before .before .before .before .before .before .pre in
     let statements-of = c .before .before .before .before .before .before .before .before .before .before .before .before .before .before .before .before .before .statements-of .ensures in
     let loop-test = c .before .before .before .before .before .before .before .before .before .before .before .before .before .before .before .loop-test .taken in
-    record { fits = omega (arith, loop-test, statements-of .listed, pre .1 .0 .context .in-scope .laid .all-is, pre .1 .0 .context .in-scope .laid .whole, pre .1 .0 .context .in-scope .laid .short) }
+    record { fits = omega (arith, loop-test, statements-of .listed, pre .1 .0 .context .in-scope .laid .statements-is, pre .1 .0 .context .in-scope .laid .whole, pre .1 .0 .context .in-scope .laid .short) }
 
 open-gate-loop-less : (t : ℕ) → open-gate-lts.Need-loop-less (open-gate-callees t) (open-gate-at t) open-gate.Post open-gate-Inv-loop open-gate-μ-loop
 open-gate-loop-less t c =
@@ -370,7 +370,7 @@ visit-rounds-statement-at-requires : (t : ℕ) → visit-rounds-lts.Need-stateme
 visit-rounds-statement-at-requires t c κs =
     let pre = c .before .before .before .before .before .before .before .before .before .before .before .before .before .before .before .before .before .before .before .before .before .before .before .before .before .before .before .pre in
     let laid = pre .1 .0 .context .in-scope .laid in
-    (laid, omega (arith, pre .1 .1 .listed, laid .all-is, laid .whole, laid .short))
+    (laid .limits, omega (arith, pre .1 .1 .listed, laid .statements-is, laid .whole, laid .short))
 
 visit-rounds-write-trace-pair-requires : (t : ℕ) → visit-rounds-lts.Need-write-trace-pair-requires (visit-rounds-callees t) (visit-rounds-at t) visit-rounds.Post visit-rounds-Inv-loop visit-rounds-μ-loop
 visit-rounds-write-trace-pair-requires t c κs =
@@ -396,7 +396,7 @@ visit-rounds-returns-2 t c =
     let with-trace-words = c .before .before .before .before .before .before .before .before .before .before .before .before .before .before .before .with-trace-words .ensures in
     let open-gate = c .before .before .before .before .before .before .before .before .before .before .before .before .before .before .open-gate .ensures in
     let e = c .before .before .before .before .before .before .e in
-    let statement-at = c .before .before .before .before .statement-at .ensures in
+    let statement-at = c .before .before .before .before .statement-at .ensures .in-image _ (pre .1 .0 .context .in-scope .laid) in
     (ran-from (loop .1) (ran-stop _ _ (loop .0) loop-test (body-round (pre .1 .0 .context .in-scope) (pre .1 .1) round-qubits _ [] _ if1) (ran-refused (open-gate .0) with-trace-words (sym (loop .0 .level)) _ _ (e .given .1) statement-at (c .before .before .write-trace-pair .ensures)) refl rounds-of), open-gate .1)
 
 visit-rounds-same-length-3 : (t : ℕ) → visit-rounds-lts.Need-same-length-3 (visit-rounds-callees t) (visit-rounds-at t) visit-rounds.Post visit-rounds-Inv-loop visit-rounds-μ-loop
@@ -445,7 +445,7 @@ visit-rounds-returns-3 t c = (ran-still (c .before .loop .inv .1) (ran-done _ _ 
 visit-statement-statement-at-requires : (t : ℕ) → visit-statement-lts.Need-statement-at-requires (visit-statement-callees t) (visit-statement-at t) visit-statement.Post
 visit-statement-statement-at-requires t c κs =
     let pre = c .before .before .before .before .before .before .pre in
-    (pre .1 .0 .context .in-scope .laid, omega (arith, pre .1 .1 .listed, pre .1 .0 .context .in-scope .laid .all-is, pre .1 .0 .context .in-scope .laid .whole, pre .1 .0 .context .in-scope .laid .short))
+    (pre .1 .0 .context .in-scope .laid .limits, omega (arith, pre .1 .1 .listed, pre .1 .0 .context .in-scope .laid .statements-is, pre .1 .0 .context .in-scope .laid .whole, pre .1 .0 .context .in-scope .laid .short))
 
 visit-statement-word-requires : (t : ℕ) → visit-statement-lts.Need-word-requires (visit-statement-callees t) (visit-statement-at t) visit-statement.Post
 visit-statement-word-requires t c κs = tt
@@ -454,7 +454,7 @@ visit-statement-visit-gate-requires : (t : ℕ) → visit-statement-lts.Need-vis
 visit-statement-visit-gate-requires t c κs =
     let pre = c .before .before .before .before .before .before .before .before .before .before .before .before .pre in
     let args = c .before .before .before .before .before .before .before .before .before .before .before .before .args in
-    (omega (arith, pre .0), (pre .1 .0, pre .1 .1, kind-read (now (args .image)) (args .s) (c .before .before .before .before .before .statement-at .ensures) (c .before .before .before .before .word .ensures) (c .before .before .before .if1 .taken)))
+    (omega (arith, pre .0), (pre .1 .0, pre .1 .1, kind-read (now (args .image)) (args .s) (c .before .before .before .before .before .statement-at .ensures .in-image _ (pre .1 .0 .context .in-scope .laid)) (c .before .before .before .before .word .ensures) (c .before .before .before .if1 .taken)))
 
 visit-statement-same-length : (t : ℕ) → visit-statement-lts.Need-same-length (visit-statement-callees t) (visit-statement-at t) visit-statement.Post
 visit-statement-same-length t c = omega (arith, c .before .before .before .before .before .kept-values .given)
@@ -472,7 +472,7 @@ visit-statement-visit-primitive-requires : (t : ℕ) → visit-statement-lts.Nee
 visit-statement-visit-primitive-requires t c κs =
     let pre = c .before .before .before .before .before .before .before .before .before .before .before .pre in
     let args = c .before .before .before .before .before .before .before .before .before .before .before .args in
-    (pre .1 .0 .context, pre .1 .1, λ e. c .before .before .if1 .left (c .before .before .before .word .ensures ∙ ap (word (now (args .image))) (c .before .before .before .before .statement-at .ensures) ∙ e))
+    (pre .1 .0 .context, pre .1 .1, λ e. c .before .before .if1 .left (c .before .before .before .word .ensures ∙ ap (word (now (args .image))) (c .before .before .before .before .statement-at .ensures .in-image _ (pre .1 .0 .context .in-scope .laid)) ∙ e))
 
 visit-statement-same-length-4 : (t : ℕ) → visit-statement-lts.Need-same-length-4 (visit-statement-callees t) (visit-statement-at t) visit-statement.Post
 visit-statement-same-length-4 t c = omega (arith, c .before .before .before .kept-values2 .given)
@@ -482,8 +482,9 @@ visit-statement-same-length-5 t c = c .before .before .before .before .visit-pri
 
 visit-statement-returns-2 : (t : ℕ) → visit-statement-lts.Need-returns-2 (visit-statement-callees t) (visit-statement-at t) visit-statement.Post
 visit-statement-returns-2 t c =
+    let pre = c .before .before .before .before .before .before .before .before .before .before .before .before .before .before .before .before .pre in
     let args = c .before .before .before .before .before .before .before .before .before .before .before .before .before .before .before .before .args in
-    let statement-at = c .before .before .before .before .before .before .before .before .before .statement-at .ensures in
+    let statement-at = c .before .before .before .before .before .before .before .before .before .statement-at .ensures .in-image _ (pre .1 .0 .context .in-scope .laid) in
     let word-2 = c .before .before .before .before .before .before .before .before .word .ensures in
     let if1 = c .before .before .before .before .before .before .before .if1 .left in
     let visit-primitive = c .before .before .before .before .visit-primitive .ensures in

@@ -10,7 +10,7 @@ use Rattle.gate.proofs.visit_primitive.Tie as tie
 statement-at-requires : tie.Need-statement-at-requires
 statement-at-requires c κs =
     let pre = c .before .before .before .before .before .pre in
-    (pre .0 .in-scope .laid, omega (arith, pre .1 .listed, pre .0 .in-scope .laid .all-is, pre .0 .in-scope .laid .whole, pre .0 .in-scope .laid .short))
+    (pre .0 .in-scope .laid .limits, omega (arith, pre .1 .listed, pre .0 .in-scope .laid .statements-is, pre .0 .in-scope .laid .whole, pre .0 .in-scope .laid .short))
 
 word-requires : tie.Need-word-requires
 word-requires c κs = search needs
@@ -18,7 +18,7 @@ word-requires c κs = search needs
 add-word : tie.Need-add-word
 add-word c =
     let pre = c .before .before .before .before .before .before .before .pre in
-    record { fits = omega (arith, near-statement (pre .0 .in-scope .laid) _ (pre .1 .listed) (c .before .statement-at .ensures)) }
+    record { fits = omega (arith, near-statement (pre .0 .in-scope .laid) _ (pre .1 .listed) (c .before .statement-at .ensures .in-image _ (pre .0 .in-scope .laid))) }
 
 word-requires-2 : tie.Need-word-requires-2
 word-requires-2 c κs = search needs
@@ -26,7 +26,7 @@ word-requires-2 c κs = search needs
 add-word-2 : tie.Need-add-word-2
 add-word-2 c =
     let pre = c .before .before .before .before .before .before .before .before .pre in
-    record { fits = omega (arith, near-statement (pre .0 .in-scope .laid) _ (pre .1 .listed) (c .before .before .statement-at .ensures)) }
+    record { fits = omega (arith, near-statement (pre .0 .in-scope .laid) _ (pre .1 .listed) (c .before .before .statement-at .ensures .in-image _ (pre .0 .in-scope .laid))) }
 
 word-requires-3 : tie.Need-word-requires-3
 word-requires-3 c κs = search needs
@@ -34,13 +34,13 @@ word-requires-3 c κs = search needs
 add-visit-u : tie.Need-add-visit-u
 add-visit-u c =
     let pre = c .before .before .before .before .before .before .before .before .before .before .before .pre in
-    let statement-at = c .before .before .before .before .before .statement-at .ensures in
+    let statement-at = c .before .before .before .before .before .statement-at .ensures .in-image _ (pre .0 .in-scope .laid) in
     record { fits = omega (arith, near-statement (pre .0 .in-scope .laid) _ (pre .1 .listed) statement-at) }
 
 add-word-3 : tie.Need-add-word-3
 add-word-3 c =
     let pre = c .before .before .before .before .before .before .before .before .before .before .before .pre in
-    let statement-at = c .before .before .before .before .before .statement-at .ensures in
+    let statement-at = c .before .before .before .before .before .statement-at .ensures .in-image _ (pre .0 .in-scope .laid) in
     record { fits = omega (arith, near-statement (pre .0 .in-scope .laid) _ (pre .1 .listed) statement-at) }
 
 word-requires-4 : tie.Need-word-requires-4
@@ -50,7 +50,7 @@ visit-u-requires : tie.Need-visit-u-requires
 visit-u-requires c κs =
     let pre = c .before .before .before .before .before .before .before .before .before .before .before .before .before .pre in
     let args = c .before .before .before .before .before .before .before .before .before .before .before .before .before .args in
-    let statement-at = c .before .before .before .before .before .before .before .statement-at .ensures in
+    let statement-at = c .before .before .before .before .before .before .before .statement-at .ensures .in-image _ (pre .0 .in-scope .laid) in
     let word = c .before .before .before .before .before .before .word .ensures in
     let word2 = c .before .before .before .before .before .word2 .ensures in
     let word3 = c .before .before .before .before .word3 .ensures in
@@ -61,7 +61,7 @@ visit-cx-requires : tie.Need-visit-cx-requires
 visit-cx-requires c κs =
     let pre = c .before .before .before .before .before .before .before .before .before .before .before .pre in
     let args = c .before .before .before .before .before .before .before .before .before .before .before .args in
-    let statement-at = c .before .before .before .before .before .statement-at .ensures in
+    let statement-at = c .before .before .before .before .before .statement-at .ensures .in-image _ (pre .0 .in-scope .laid) in
     let word = c .before .before .before .before .word .ensures in
     let n = cx-needs (pre .0 .in-scope) (args .s) statement-at word (c .before .before .before .word2 .ensures) (c .before .before .word3 .ensures) (pre .1) (c .before .match .keys2) in
     (pre .0 .in-scope, n, pre .0 .in-output)
@@ -70,7 +70,7 @@ visit-barrier-requires : tie.Need-visit-barrier-requires
 visit-barrier-requires c κs =
     let pre = c .before .before .before .before .before .before .before .before .before .before .before .pre in
     let args = c .before .before .before .before .before .before .before .before .before .before .before .args in
-    let statement-at = c .before .before .before .before .before .statement-at .ensures in
+    let statement-at = c .before .before .before .before .before .statement-at .ensures .in-image _ (pre .0 .in-scope .laid) in
     let word = c .before .before .before .before .word .ensures in
     let n = barrier-needs (pre .0 .in-scope) (args .s) statement-at word (c .before .before .before .word2 .ensures) (c .before .before .word3 .ensures) (pre .1) (c .before .match .keys3) in
     (pre .0 .in-scope, n, pre .0 .in-output)
@@ -79,7 +79,7 @@ visit-measure-requires : tie.Need-visit-measure-requires
 visit-measure-requires c κs =
     let pre = c .before .before .before .before .before .before .before .before .before .before .before .pre in
     let args = c .before .before .before .before .before .before .before .before .before .before .before .args in
-    let statement-at = c .before .before .before .before .before .statement-at .ensures in
+    let statement-at = c .before .before .before .before .before .statement-at .ensures .in-image _ (pre .0 .in-scope .laid) in
     let word = c .before .before .before .before .word .ensures in
     let n = measure-needs (pre .0 .in-scope) (args .s) statement-at word (c .before .before .before .word2 .ensures) (c .before .before .word3 .ensures) (pre .1) (c .before .match .keys4) in
     (pre .0 .in-scope, pre .0 .with-bits, n, pre .0 .in-output)
@@ -88,7 +88,7 @@ visit-reset-requires : tie.Need-visit-reset-requires
 visit-reset-requires c κs =
     let pre = c .before .before .before .before .before .before .before .before .before .before .before .pre in
     let args = c .before .before .before .before .before .before .before .before .before .before .before .args in
-    let statement-at = c .before .before .before .before .before .statement-at .ensures in
+    let statement-at = c .before .before .before .before .before .statement-at .ensures .in-image _ (pre .0 .in-scope .laid) in
     let word = c .before .before .before .before .word .ensures in
     let k = c .before .match .rest in
     let n = reset-needs (pre .0 .in-scope) (args .s) statement-at word (c .before .before .before .word2 .ensures) (c .before .before .word3 .ensures) (pre .1) (k .0 .0 .0 .1) (k .0 .0 .1) (pre .2) (k .0 .1) (k .1) in
@@ -104,7 +104,7 @@ returns : tie.Need-returns
 returns c =
     let pre = c .before .before .before .before .before .before .before .before .before .before .before .before .before .before .before .before .before .before .pre in
     let args = c .before .before .before .before .before .before .before .before .before .before .before .before .before .before .before .before .before .before .args in
-    let statement-at = c .before .before .before .before .before .before .before .before .before .before .before .before .statement-at .ensures in
+    let statement-at = c .before .before .before .before .before .before .before .before .before .before .before .before .statement-at .ensures .in-image _ (pre .0 .in-scope .laid) in
     let word = c .before .before .before .before .before .before .before .before .before .before .before .word .ensures in
     let word2 = c .before .before .before .before .before .before .before .before .before .before .word2 .ensures in
     let word3 = c .before .before .before .before .before .before .before .before .before .word3 .ensures in
@@ -120,7 +120,7 @@ returns-2 : tie.Need-returns-2
 returns-2 c =
     let pre = c .before .before .before .before .before .before .before .before .before .before .before .before .before .before .pre in
     let args = c .before .before .before .before .before .before .before .before .before .before .before .before .before .before .args in
-    let statement-at = c .before .before .before .before .before .before .before .before .statement-at .ensures in
+    let statement-at = c .before .before .before .before .before .before .before .before .statement-at .ensures .in-image _ (pre .0 .in-scope .laid) in
     let word = c .before .before .before .before .before .before .before .word .ensures in
     let word2 = c .before .before .before .before .before .before .word2 .ensures in
     let word3 = c .before .before .before .before .before .word3 .ensures in
@@ -134,7 +134,7 @@ returns-3 : tie.Need-returns-3
 returns-3 c =
     let pre = c .before .before .before .before .before .before .before .before .before .before .before .before .before .before .pre in
     let args = c .before .before .before .before .before .before .before .before .before .before .before .before .before .before .args in
-    let statement-at = c .before .before .before .before .before .before .before .before .statement-at .ensures in
+    let statement-at = c .before .before .before .before .before .before .before .before .statement-at .ensures .in-image _ (pre .0 .in-scope .laid) in
     let word = c .before .before .before .before .before .before .before .word .ensures in
     let word2 = c .before .before .before .before .before .before .word2 .ensures in
     let word3 = c .before .before .before .before .before .word3 .ensures in
@@ -148,7 +148,7 @@ returns-4 : tie.Need-returns-4
 returns-4 c =
     let pre = c .before .before .before .before .before .before .before .before .before .before .before .before .before .before .pre in
     let args = c .before .before .before .before .before .before .before .before .before .before .before .before .before .before .args in
-    let statement-at = c .before .before .before .before .before .before .before .before .statement-at .ensures in
+    let statement-at = c .before .before .before .before .before .before .before .before .statement-at .ensures .in-image _ (pre .0 .in-scope .laid) in
     let word = c .before .before .before .before .before .before .before .word .ensures in
     let word2 = c .before .before .before .before .before .before .word2 .ensures in
     let word3 = c .before .before .before .before .before .word3 .ensures in
@@ -162,7 +162,7 @@ returns-5 : tie.Need-returns-5
 returns-5 c =
     let pre = c .before .before .before .before .before .before .before .before .before .before .before .before .before .before .pre in
     let args = c .before .before .before .before .before .before .before .before .before .before .before .before .before .before .args in
-    let statement-at = c .before .before .before .before .before .before .before .before .statement-at .ensures in
+    let statement-at = c .before .before .before .before .before .before .before .before .statement-at .ensures .in-image _ (pre .0 .in-scope .laid) in
     let word = c .before .before .before .before .before .before .before .word .ensures in
     let word2 = c .before .before .before .before .before .before .word2 .ensures in
     let word3 = c .before .before .before .before .before .word3 .ensures in

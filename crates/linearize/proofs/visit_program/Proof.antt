@@ -51,7 +51,7 @@ returns c =
     let loop = c .before .before .before .before .before .before .before .before .before .before .before .before .before .before .before .before .loop .inv in
     let loop-test = c .before .before .before .before .before .before .before .before .before .before .before .before .before .before .before .loop-test .taken in
     let visit-main = c .before .before .before .before .before .before .before .before .before .visit-main .ensures in
-    ran-steps (main-steps _ _ _ _ (pre .0 .start .laid .main-is)) (ran-from (loop .1) (ran-stop _ _ (loop .0) loop-test refl (visit-main .0) (c .before .e .given .1) refl))
+    ran-steps (main-steps _ _ _ _ (pre .0 .start .laid .main-statements-is)) (ran-from (loop .1) (ran-stop _ _ (loop .0) loop-test refl (visit-main .0) (c .before .e .given .1) refl))
 
 same-length-2 : tie.Need-same-length-2 Inv-loop μ-loop
 same-length-2 c = ran-lengths (returns c) .0
@@ -63,7 +63,7 @@ add-s : tie.Need-add-s Inv-loop μ-loop
 add-s c =
     let pre = c .before .before .before .before .before .before .before .before .before .before .before .before .before .before .before .before .before .before .before .before .before .before .before .pre in
     let loop-test = c .before .before .before .before .before .before .before .before .before .before .before .before .before .before .before .loop-test .taken in
-    record { fits = omega (arith, loop-test, pre .0 .start .laid .main-is, pre .0 .start .laid .whole, pre .0 .start .laid .short) }
+    record { fits = omega (arith, loop-test, pre .0 .start .laid .main-statements-is, pre .0 .start .laid .whole, pre .0 .start .laid .short) }
 
 loop-less : tie.Need-loop-less Inv-loop μ-loop
 loop-less c =
@@ -90,7 +90,7 @@ same-length-6 c = ap length (c .before .loop .inv .1)
 returns-2 : tie.Need-returns-2 Inv-loop μ-loop
 returns-2 c =
     let pre = c .before .before .before .before .before .before .before .before .pre in
-    ran-steps (main-steps _ _ _ _ (pre .0 .start .laid .main-is)) (ran-still (c .before .loop .inv .1) (ran-done _ _ (c .before .loop .inv .0) (c .loop-test .left) refl))
+    ran-steps (main-steps _ _ _ _ (pre .0 .start .laid .main-statements-is)) (ran-still (c .before .loop .inv .1) (ran-done _ _ (c .before .loop .inv .0) (c .loop-test .left) refl))
 
 pub visit-program-spec : {M : Type 1} → statement M
 visit-program-spec =
