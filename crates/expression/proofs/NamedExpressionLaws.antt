@@ -16,10 +16,9 @@ use Rattle.model.specs.All.{All}
 use Rattle.model.proofs.ListLaws.{getD-take}
 use Rattle.model.proofs.All.{test, all-All, of-All, range-All, head-All, tail-All}
 use Rattle.model.proofs.EvaluateLaws.{operand}
-use Rattle.expression.specs.Operands.{NamesExpressions}
-use Rattle.expression.specs.NamedExpressions.{namedAt, ListedExpressions}
+use Rattle.expression.specs.NamedExpressions.{namedAt, ListedExpressions, NamesExpressions}
 
--- ---- an accepted expression reads the variables that it may, so the angles behind them do not show
+-- ---- an accepted expression reads the variables that it may, so the angles after them do not show
 
 module _ (image : List ℕ) (v : ℕ) (angles : List Value) where
   entry-front : (k e p : ℕ) → ((a : ℕ) → T (expressionOk image v k a) → evaluate image (take v angles) k a ≡ evaluate image angles k a)

@@ -92,7 +92,7 @@ module _ (image : List ℕ) (angles : List Value) (f : ℕ → ℕ) where
   abbrev valued : ℕ → Evaluation
   valued k = evaluate image angles 32 (f k)
 
-  -- of the n expressions from a on all have angles, and so has the one behind them
+  -- the n expressions from a on all have angles, and so has the next one
   one-more : (a n k : ℕ) (xs : List Value) (x : Value) → k ≡ a + n → values a n ≡ have xs → valued k ≡ evaluation.Value x → values a (suc n) ≡ have (xs ++ x ∷ [])
   unfolding parameterValues range also
   one-more a zero k xs x q e h =
@@ -103,7 +103,7 @@ module _ (image : List ℕ) (angles : List Value) (f : ℕ → ℕ) where
       let s = split (valued a) (expressionAt image (f a)) (values (suc a) n) xs e in
       rw (s .first-is, one-more (suc a) n k (s .rest) x (omega arith) (s .rest-is) h) (ap (λ (ys : List Value). have (ys ++ x ∷ [])) (sym (s .both)))
 
-  -- the one behind them has none, of whatever is behind it
+  -- the next one has none, whatever comes after it
   refuses-next : (a i n k : ℕ) (xs : List Value) (y : Refusal) → i < n → k ≡ a + i → values a i ≡ have xs → ((later : Values) → also (valued k) (expressionAt image (f k)) later ≡ lack y) → values a n ≡ lack y
   unfolding parameterValues range also
   refuses-next a i zero k xs y l q e h = absurd (omega arith)

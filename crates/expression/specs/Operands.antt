@@ -1,5 +1,5 @@
--- What an expression entry comes to, once its operands are worked out.
-use Prim.Native.Nat.{ℕ, _<_, _≤_, _+_}
+-- What an expression entry comes to, once its operands are worked out, and what the values of some expressions are.
+use Prim.Native.Nat.{ℕ, _≤_}
 use mathlib.Core.Path.{_≡_}
 use mathlib.Core.List.{List}
 use Rattle.value.specs.declared.Value.{Value}
@@ -8,7 +8,7 @@ use Rattle.value.specs.declared.Evaluation.the-variants as evaluation
 use lib.Dec.{T}
 use lib.ListN.{take}
 use Rattle.value.specs.Promise.{SoundEvaluation}
-use Rattle.model.specs.Image.{word, expressionOf}
+use Rattle.model.specs.Image.{expressionOf}
 use Rattle.model.specs.Check.{expressionOk}
 use Rattle.model.specs.Evaluate.{valueOf}
 use Rattle.model.specs.Steps.{Values, have, lack, also, Refusal}
@@ -49,12 +49,6 @@ pub record RefusalOf (r : Evaluation) (place : ℕ) (kind : LinearizeErrorKind) 
   pub why : Refusal
   pub lacks : (later : Values) → also r place later ≡ lack why
   pub answers : (t : List ℕ) → refusalAnswer kind t ≡ refused t why
-
--- the n words from a place on name accepted expressions
-pub record NamesExpressions (image : List ℕ) (place n : ℕ) : Type 0 where
-  pub few : n ≤ 16
-  pub near : place + n ≤ 16384
-  pub each : (i : ℕ) → i < n → AcceptedExpression image (word image (place + i))
 
 -- the values of n expressions stand in front of some angles, or the first that has none is refused; nothing is written
 abbrev pub Ends : Values → ℕ → List Value → Position → Linearized → Type 0

@@ -19,8 +19,8 @@ ghost use Rattle.record_writer.specs.Promise.{SoundAngles};
 ghost use Rattle.image.specs.Layout.{LayoutOf};
 ghost use Rattle.expression.specs.Angles.{denominatorOf, fractionAt, signWord, putFraction, valueAt, putValue, anglesIn};
 ghost use Rattle.expression.specs.KeptValues.{Constant, ConstantsKept, ValueStored, ValuesKept, AngleContext, Evaluated};
-ghost use Rattle.expression.specs.Operands.{BinaryResult, UnaryResult, NullaryResult, AcceptedExpression, NoValue, RefusalOf, NamesExpressions, ParametersGiven};
-ghost use Rattle.expression.specs.NamedExpressions.{namedAt};
+ghost use Rattle.expression.specs.Operands.{BinaryResult, UnaryResult, NullaryResult, AcceptedExpression, NoValue, RefusalOf, ParametersGiven};
+ghost use Rattle.expression.specs.NamedExpressions.{namedAt, NamesExpressions};
 
 // ---- angles in words: an array of numbers can be lent, an array of angles cannot
 
@@ -183,7 +183,12 @@ fn worked_out(
     kept_values: &mut [u64],
     e: u64,
 ) -> Evaluation
-    requires { ⌜ LayoutOf (now image) l × SoundAngles (anglesIn (now angles)) × AcceptedExpression (now image) e × ValuesKept (now image) (anglesIn (now angles)) (now known) (now «kept_values») ⌝ }
+    requires { ⌜
+        LayoutOf (now image) l
+        × SoundAngles (anglesIn (now angles))
+        × AcceptedExpression (now image) e
+        × ValuesKept (now image) (anglesIn (now angles)) (now known) (now «kept_values»)
+        ⌝ }
     ensures { λ r. ⌜ Evaluated (now (image .entry)) (anglesIn (now (angles .entry))) e r (now (known .exit)) (now («kept_values» .exit)) ⌝ }
 {
     let at = image::expression_at(image, l, e);
@@ -216,7 +221,12 @@ fn evaluate(
     kept_values: &mut [u64],
     e: u64,
 ) -> Evaluation
-    requires { ⌜ LayoutOf (now image) l × SoundAngles (anglesIn (now angles)) × AcceptedExpression (now image) e × ValuesKept (now image) (anglesIn (now angles)) (now known) (now «kept_values») ⌝ }
+    requires { ⌜
+        LayoutOf (now image) l
+        × SoundAngles (anglesIn (now angles))
+        × AcceptedExpression (now image) e
+        × ValuesKept (now image) (anglesIn (now angles)) (now known) (now «kept_values»)
+        ⌝ }
     ensures { λ r. ⌜ Evaluated (now (image .entry)) (anglesIn (now (angles .entry))) e r (now (known .exit)) (now («kept_values» .exit)) ⌝ }
 {
     let i = e as usize;

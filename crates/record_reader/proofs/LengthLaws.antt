@@ -79,7 +79,7 @@ module _ (ws : List ℕ) (at : ℕ) where
           either true = refl
           either false = refl
 
-  -- the length that is told is the record's
+  -- the length that is answered is the record's
   pub found-length : (n : ℕ) → at < length ws → Fitting n → ¬ (n ≡ 0) → answer.Record n ≡ nextRecordOf (nextAt ws at)
   found-length n h e z =
       let f = found n h e z in

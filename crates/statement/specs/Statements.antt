@@ -51,16 +51,20 @@ pub record ListedArguments (image : List ℕ) (l : Layout) (a n : ℕ) : Type 0 
 
 -- ---- the steps of a statement, from the qubits of its scope's frame
 
+-- a reset of each qubit of argument a
 abbrev pub resetSteps : List ℕ → ℕ → List ℕ → ℕ → List Step
 resetSteps image scope qubits a = inRounds (rounds image scope (a ∷ [])) (writeReset image (scopeFrame image scope [] qubits) a)
 
+-- a measurement of each qubit of argument q to a bit of argument c
 abbrev pub measureSteps : List ℕ → ℕ → List ℕ → ℕ → ℕ → List Step
 measureSteps image scope qubits q c =
     inRounds (largest (argumentSize image scope q ∷ classicalArgumentSize image c ∷ [])) (writeMeasure image (scopeFrame image scope [] qubits) q c)
 
+-- a CX of each pair of qubits of two arguments
 abbrev pub cxSteps : List ℕ → ℕ → List ℕ → ℕ → ℕ → List Step
 cxSteps image scope qubits control target = inRounds (rounds image scope (control ∷ target ∷ [])) (writeCX image (scopeFrame image scope [] qubits) control target)
 
+-- a gate that is not opened, in each round of its n arguments from a on
 abbrev pub opaqueSteps : List ℕ → ℕ → List ℕ → ℕ → List Value → ℕ → ℕ → List Step
 opaqueSteps image scope qubits gate angles a n =
     inRounds (rounds image scope (range a n)) (writeOpaque image (scopeFrame image scope [] qubits) gate (range a n) angles)
@@ -69,13 +73,15 @@ opaqueSteps image scope qubits gate angles a n =
 abbrev pub qubitsOfAll : List ℕ → ℕ → List ℕ → ℕ → ℕ → List ℕ
 qubitsOfAll image scope qubits a n = flatMap (argumentQubits image (scopeFrame image scope [] qubits)) (range a n)
 
+-- a barrier of the qubits of n arguments from a on
 abbrev pub barrierSteps : List ℕ → ℕ → List ℕ → ℕ → ℕ → List Step
 barrierSteps image scope qubits a n = write [] (Record.Barrier (rising (qubitsOfAll image scope qubits a n))) ∷ []
 
--- the rounds of a U with three angles, and a U whose angles are those of the expressions that the words from a place on name
+-- a U of each qubit of argument a, with the angles given
 abbrev pub uRounds : List ℕ → ℕ → List Value → List ℕ → ℕ → List Value → List Step
 uRounds image scope angles qubits a given = inRounds (rounds image scope (a ∷ [])) (writeU image (scopeFrame image scope angles qubits) a given)
 
+-- a U of each qubit of argument a, with the angles of the expressions that the three words from a place on name
 abbrev pub uSteps : List ℕ → ℕ → List Value → List ℕ → ℕ → ℕ → List Step
 uSteps image scope angles qubits place a = withValues image (scopeFrame image scope angles qubits) (namedAt image place 3) (uRounds image scope angles qubits a)
 

@@ -170,7 +170,9 @@ evaluate-same-length : (t : ℕ) → evaluate-lts.Need-same-length (evaluate-cal
 evaluate-same-length t c = search needs
 
 evaluate-returns : (t : ℕ) → evaluate-lts.Need-returns (evaluate-callees t) (evaluate-at t) evaluate.Post
-evaluate-returns t c = let s = c .before .before .before .before .before .before in (known-value (now (s .args .image)) (angles-of t s) (now (s .args .known)) (now (s .args .kept-values)) (s .args .e) (c .value-at .result) (s .pre .1 .3) (listed t s) (c .before .before .if1 .taken) (c .value-at .ensures), s .pre .1 .3)
+evaluate-returns t c =
+    let s = c .before .before .before .before .before .before in
+    (known-value (now (s .args .image)) (angles-of t s) (now (s .args .known)) (now (s .args .kept-values)) (s .args .e) (c .value-at .result) (s .pre .1 .3) (listed t s) (c .before .before .if1 .taken) (c .value-at .ensures), s .pre .1 .3)
 
 evaluate-mul-if2 : (t : ℕ) → evaluate-lts.Need-mul-if2 (evaluate-callees t) (evaluate-at t) evaluate.Post
 evaluate-mul-if2 t c = record { fits = omega (arith, few t (c .before .before .before .before)) }
@@ -194,10 +196,14 @@ evaluate-same-length-2 : (t : ℕ) → evaluate-lts.Need-same-length-2 (evaluate
 evaluate-same-length-2 t c = search needs
 
 evaluate-returns-2 : (t : ℕ) → evaluate-lts.Need-returns-2 (evaluate-callees t) (evaluate-at t) evaluate.Post
-evaluate-returns-2 t c = let s = c .before .before .before .before .before .before .before .before in (constant-value (now (s .args .image)) (angles-of t s) (now (s .args .kept-values)) (s .args .e) (c .value-at2 .result) (s .pre .1 .3 .constants) (listed t s) (c .before .before .if2 .taken) (c .value-at2 .ensures), s .pre .1 .3)
+evaluate-returns-2 t c =
+    let s = c .before .before .before .before .before .before .before .before in
+    (constant-value (now (s .args .image)) (angles-of t s) (now (s .args .kept-values)) (s .args .e) (c .value-at2 .result) (s .pre .1 .3 .constants) (listed t s) (c .before .before .if2 .taken) (c .value-at2 .ensures), s .pre .1 .3)
 
 evaluate-worked-out-requires : (t : ℕ) → evaluate-lts.Need-worked-out-requires (evaluate-callees t) (evaluate-at t) evaluate.Post
-evaluate-worked-out-requires t c κs = let s = c .before .before .before .before .before .before .before .before in (omega (arith, s .pre .0), s .pre .1)
+evaluate-worked-out-requires t c κs =
+    let s = c .before .before .before .before .before .before .before .before in
+    (omega (arith, s .pre .0), s .pre .1)
 
 evaluate-enum-known-r : (t : ℕ) → evaluate-lts.Need-enum-known-r (evaluate-callees t) (evaluate-at t) evaluate.Post
 evaluate-enum-known-r t c = search needs
@@ -209,31 +215,60 @@ evaluate-returns-3 : (t : ℕ) → evaluate-lts.Need-returns-3 (evaluate-callees
 evaluate-returns-3 t c = c .before .before .before .worked-out .ensures
 
 evaluate-keep-value-requires : (t : ℕ) → evaluate-lts.Need-keep-value-requires (evaluate-callees t) (evaluate-at t) evaluate.Post
-evaluate-keep-value-requires t c κs = let s = c .before .before .before .before .before .before .before .before .before .before .before .before .before .before .before .before in let w = c .before .before .before .before .before .before .before .worked-out .ensures in (omega (arith, few t s), kept-room t s (w .1), rw (c .before .before .before .r .given .1) at (w .0 .sound))
+evaluate-keep-value-requires t c κs =
+    let s = c .before .before .before .before .before .before .before .before .before .before .before .before .before .before .before .before in
+    let w = c .before .before .before .before .before .before .before .worked-out .ensures in
+    (omega (arith, few t s), kept-room t s (w .1), rw (c .before .before .before .r .given .1) at (w .0 .sound))
 
 evaluate-is-constant-requires : (t : ℕ) → evaluate-lts.Need-is-constant-requires (evaluate-callees t) (evaluate-at t) evaluate.Post
-evaluate-is-constant-requires t c κs = let s = c .before .before .before .before .before .before .before .before .before .before .before .before .before .before .before .before .before .before .before .before in (s .pre .1 .0, s .pre .1 .2, (keeps-more (now (begun t (c .before .before .before) .args .image)) (angles-of t (begun t (c .before .before .before))) _ _ (begun t (c .before .before .before) .args .e) _ _ _ _ (c .before .before .before .before .before .before .before .before .before .before .before .worked-out .ensures .1) (c .before .before .before .before .before .before .before .before .before .before .before .worked-out .ensures .0) (c .before .before .before .before .before .before .before .r .given .1) (c .before .before .before .keep-value .ensures)) .constants)
+evaluate-is-constant-requires t c κs =
+    let s = c .before .before .before .before .before .before .before .before .before .before .before .before .before .before .before .before .before .before .before .before in
+    let worked-out = c .before .before .before .before .before .before .before .before .before .before .before .worked-out .ensures in
+    let r = c .before .before .before .before .before .before .before .r in
+    let before-2 = c .before .before .before in
+    (s .pre .1 .0, s .pre .1 .2, (keeps-more (now (begun t before-2 .args .image)) (angles-of t (begun t before-2)) _ _ (begun t before-2 .args .e) _ _ _ _ (worked-out .1) (worked-out .0) (r .given .1) (before-2 .keep-value .ensures)) .constants)
 
 evaluate-mul-kept-values : (t : ℕ) → evaluate-lts.Need-mul-kept-values (evaluate-callees t) (evaluate-at t) evaluate.Post
-evaluate-mul-kept-values t c = record { fits = omega (arith, few t (c .before .before .before .before .before .before .before .before .before .before .before .before .before .before .before .before .before .before .before .before .before .before)) }
+evaluate-mul-kept-values t c =
+    let before = c .before .before .before .before .before .before .before .before .before .before .before .before .before .before .before .before .before .before .before .before .before .before in
+    record { fits = omega (arith, few t before) }
 
 evaluate-mul-kept-values-2 : (t : ℕ) → evaluate-lts.Need-mul-kept-values-2 (evaluate-callees t) (evaluate-at t) evaluate.Post
-evaluate-mul-kept-values-2 t c = record { fits = omega (arith, few t (c .before .before .before .before .before .before .before .before .before .before .before .before .before .before .before .before .before .before .before .before .before .before)) }
+evaluate-mul-kept-values-2 t c =
+    let before = c .before .before .before .before .before .before .before .before .before .before .before .before .before .before .before .before .before .before .before .before .before .before in
+    record { fits = omega (arith, few t before) }
 
 evaluate-slice-write-kept-values : (t : ℕ) → evaluate-lts.Need-slice-write-kept-values (evaluate-callees t) (evaluate-at t) evaluate.Post
-evaluate-slice-write-kept-values t c = let s = c .before .before .before .before .before .before .before .before .before .before .before .before .before .before .before .before .before .before .before .before .before .before in omega (arith, kept-room t s ((keeps-more (now (begun t (c .before .before .before .before .before) .args .image)) (angles-of t (begun t (c .before .before .before .before .before))) _ _ (begun t (c .before .before .before .before .before) .args .e) _ _ _ _ (c .before .before .before .before .before .before .before .before .before .before .before .before .before .worked-out .ensures .1) (c .before .before .before .before .before .before .before .before .before .before .before .before .before .worked-out .ensures .0) (c .before .before .before .before .before .before .before .before .before .r .given .1) (c .before .before .before .before .before .keep-value .ensures))))
+evaluate-slice-write-kept-values t c =
+    let s = c .before .before .before .before .before .before .before .before .before .before .before .before .before .before .before .before .before .before .before .before .before .before in
+    let worked-out = c .before .before .before .before .before .before .before .before .before .before .before .before .before .worked-out .ensures in
+    let r = c .before .before .before .before .before .before .before .before .before .r in
+    let before-2 = c .before .before .before .before .before in
+    let keep-value = c .before .before .before .before .before .keep-value .ensures in
+    omega (arith, kept-room t s ((keeps-more (now (begun t before-2 .args .image)) (angles-of t (begun t before-2)) _ _ (begun t before-2 .args .e) _ _ _ _ (worked-out .1) (worked-out .0) (r .given .1) (before-2 .keep-value .ensures))))
 
 evaluate-same-length-4 : (t : ℕ) → evaluate-lts.Need-same-length-4 (evaluate-callees t) (evaluate-at t) evaluate.Post
 evaluate-same-length-4 t c = mark-length (c .before .before .before .before .before .keep-value .ensures) (search needs)
 
 evaluate-returns-4 : (t : ℕ) → evaluate-lts.Need-returns-4 (evaluate-callees t) (evaluate-at t) evaluate.Post
-evaluate-returns-4 t c = (value-given t (c .before .before .before .before .before), keeps-constant _ _ _ _ (c .before .before .before .before .before .before .before .before .before .before .before .before .before .before .before .before .before .before .before .before .before .before .args .e) _ ((keeps-more (now (begun t (c .before .before .before .before .before) .args .image)) (angles-of t (begun t (c .before .before .before .before .before))) _ _ (begun t (c .before .before .before .before .before) .args .e) _ _ _ _ (c .before .before .before .before .before .before .before .before .before .before .before .before .before .worked-out .ensures .1) (c .before .before .before .before .before .before .before .before .before .before .before .before .before .worked-out .ensures .0) (c .before .before .before .before .before .before .before .before .before .r .given .1) (c .before .before .before .before .before .keep-value .ensures))) (value-given t (c .before .before .before .before .before)) (c .before .before .before .before .before .keep-value .ensures .this) (c .before .is-constant .ensures (c .if3 .taken)))
+evaluate-returns-4 t c =
+    let args = c .before .before .before .before .before .before .before .before .before .before .before .before .before .before .before .before .before .before .before .before .before .before .args in
+    let worked-out = c .before .before .before .before .before .before .before .before .before .before .before .before .before .worked-out .ensures in
+    let r = c .before .before .before .before .before .before .before .before .before .r in
+    let before = c .before .before .before .before .before in
+    let keep-value = c .before .before .before .before .before .keep-value .ensures in
+    (value-given t before, keeps-constant _ _ _ _ (args .e) _ ((keeps-more (now (begun t before .args .image)) (angles-of t (begun t before)) _ _ (begun t before .args .e) _ _ _ _ (worked-out .1) (worked-out .0) (r .given .1) (before .keep-value .ensures))) (value-given t before) (before .keep-value .ensures .this) (c .before .is-constant .ensures (c .if3 .taken)))
 
 evaluate-same-length-5 : (t : ℕ) → evaluate-lts.Need-same-length-5 (evaluate-callees t) (evaluate-at t) evaluate.Post
 evaluate-same-length-5 t c = search needs
 
 evaluate-returns-5 : (t : ℕ) → evaluate-lts.Need-returns-5 (evaluate-callees t) (evaluate-at t) evaluate.Post
-evaluate-returns-5 t c = (value-given t (c .before .before .before .before .before), (keeps-more (now (begun t (c .before .before .before .before .before) .args .image)) (angles-of t (begun t (c .before .before .before .before .before))) _ _ (begun t (c .before .before .before .before .before) .args .e) _ _ _ _ (c .before .before .before .before .before .before .before .before .before .before .before .before .before .worked-out .ensures .1) (c .before .before .before .before .before .before .before .before .before .before .before .before .before .worked-out .ensures .0) (c .before .before .before .before .before .before .before .before .before .r .given .1) (c .before .before .before .before .before .keep-value .ensures)))
+evaluate-returns-5 t c =
+    let worked-out = c .before .before .before .before .before .before .before .before .before .before .before .before .before .worked-out .ensures in
+    let r = c .before .before .before .before .before .before .before .before .before .r in
+    let before = c .before .before .before .before .before in
+    let keep-value = c .before .before .before .before .before .keep-value .ensures in
+    (value-given t before, (keeps-more (now (begun t before .args .image)) (angles-of t (begun t before)) _ _ (begun t before .args .e) _ _ _ _ (worked-out .1) (worked-out .0) (r .given .1) (before .keep-value .ensures)))
 
 worked-out-expression-at-requires : (t : ℕ) → worked-out-lts.Need-expression-at-requires (worked-out-callees t) (worked-out-at t) worked-out.Post
 worked-out-expression-at-requires t c κs = (c .before .before .pre .1 .0, near t (c .before .before))
@@ -248,13 +283,22 @@ worked-out-word-requires-2 : (t : ℕ) → worked-out-lts.Need-word-requires-2 (
 worked-out-word-requires-2 t c κs = tt
 
 worked-out-nullary-requires : (t : ℕ) → worked-out-lts.Need-nullary-requires (worked-out-callees t) (worked-out-at t) worked-out.Post
-worked-out-nullary-requires t c κs = let k = facts t (c .before) in let s = entered t (c .before) in (s .pre .1 .1, c .if1 .taken, k .real, λ e. let h = k .variable e in omega (arith, s .pre .1 .2 .few))
+worked-out-nullary-requires t c κs =
+    let k = facts t (c .before) in
+    let s = entered t (c .before) in
+    (s .pre .1 .1, c .if1 .taken, k .real, λ e. let h = k .variable e in omega (arith, s .pre .1 .2 .few))
 
 worked-out-returns : (t : ℕ) → worked-out-lts.Need-returns (worked-out-callees t) (worked-out-at t) worked-out.Post
-worked-out-returns t c = let b = c .before .before in (record { is = c .nullary .ensures .value _ (second t b) ∙ sym (entry-value t b); sound = c .nullary .ensures .sound }, entered t b .pre .1 .3)
+worked-out-returns t c =
+    let b = c .before .before in
+    (record { is = c .nullary .ensures .value _ (second t b) ∙ sym (entry-value t b); sound = c .nullary .ensures .sound }, entered t b .pre .1 .3)
 
 worked-out-evaluate-requires : (t : ℕ) → worked-out-lts.Need-evaluate-requires (worked-out-callees t) (worked-out-at t) worked-out.Post
-worked-out-evaluate-requires t c κs = let b = c .before .before .before in let s = entered t b in let m = lower t b _ (facts t b .left (omega (arith, c .before .before .if1 .left))) in (omega (arith, m .0, s .pre .0), (s .pre .1 .0, s .pre .1 .1, m .1, s .pre .1 .3))
+worked-out-evaluate-requires t c κs =
+    let b = c .before .before .before in
+    let s = entered t b in
+    let m = lower t b _ (facts t b .left (omega (arith, c .before .before .if1 .left))) in
+    (omega (arith, m .0, s .pre .0), (s .pre .1 .0, s .pre .1 .1, m .1, s .pre .1 .3))
 
 worked-out-enum-known-left : (t : ℕ) → worked-out-lts.Need-enum-known-left (worked-out-callees t) (worked-out-at t) worked-out.Post
 worked-out-enum-known-left t c = search needs
@@ -263,25 +307,43 @@ worked-out-same-length : (t : ℕ) → worked-out-lts.Need-same-length (worked-o
 worked-out-same-length t c = search needs
 
 worked-out-returns-2 : (t : ℕ) → worked-out-lts.Need-returns-2 (worked-out-callees t) (worked-out-at t) worked-out.Post
-worked-out-returns-2 t c = let v = c .before .before .before in let b = first t v in let r = v .evaluate .ensures .0 in (record { is = left-refuses (angles t b) _ _ (second t b) _ _ (operands t v) (facts t b .known) (sym (r .is)) (c .match .keys2) ∙ sym (entry-value t b); sound = r .sound }, v .evaluate .ensures .1)
+worked-out-returns-2 t c =
+    let v = c .before .before .before in
+    let b = first t v in
+    let r = v .evaluate .ensures .0 in
+    (record { is = left-refuses (angles t b) _ _ (second t b) _ _ (operands t v) (facts t b .known) (sym (r .is)) (c .match .keys2) ∙ sym (entry-value t b); sound = r .sound }, v .evaluate .ensures .1)
 
 worked-out-unary-requires : (t : ℕ) → worked-out-lts.Need-unary-requires (worked-out-callees t) (worked-out-at t) worked-out.Post
-worked-out-unary-requires t c κs = let v = c .before .before .before .before .before .before in (rw (c .before .before .left .given .1) at (v .evaluate .ensures .0 .sound), omega (arith, c .if2 .taken), facts t (first t v) .known)
+worked-out-unary-requires t c κs =
+    let v = c .before .before .before .before .before .before in
+    (rw (c .before .before .left .given .1) at (v .evaluate .ensures .0 .sound), omega (arith, c .if2 .taken), facts t (first t v) .known)
 
 worked-out-same-length-2 : (t : ℕ) → worked-out-lts.Need-same-length-2 (worked-out-callees t) (worked-out-at t) worked-out.Post
 worked-out-same-length-2 t c = search needs
 
 worked-out-returns-3 : (t : ℕ) → worked-out-lts.Need-returns-3 (worked-out-callees t) (worked-out-at t) worked-out.Post
-worked-out-returns-3 t c = let v = c .before .before .before .before .before .before .before in let b = first t v in let u = c .unary .ensures in (record { is = u .value (angles t b) _ _ (second t b) (read-left t v _ (c .before .before .before .left .given .1)) ∙ sym (entry-value t b); sound = u .sound }, v .evaluate .ensures .1)
+worked-out-returns-3 t c =
+    let v = c .before .before .before .before .before .before .before in
+    let b = first t v in
+    let u = c .unary .ensures in
+    (record { is = u .value (angles t b) _ _ (second t b) (read-left t v _ (c .before .before .before .left .given .1)) ∙ sym (entry-value t b); sound = u .sound }, v .evaluate .ensures .1)
 
 worked-out-add-word-2 : (t : ℕ) → worked-out-lts.Need-add-word-2 (worked-out-callees t) (worked-out-at t) worked-out.Post
-worked-out-add-word-2 t c = let b = c .before .before .before .before .before .before .before .before .before .before in record { fits = omega (arith, b .before .before .expression-at .ensures, within t (entered t b)) }
+worked-out-add-word-2 t c =
+    let before = c .before .before .before .before .before .before .before .before .before .before in
+    let b = before in record { fits = omega (arith, b .before .before .expression-at .ensures, within t (entered t b)) }
 
 worked-out-word-requires-3 : (t : ℕ) → worked-out-lts.Need-word-requires-3 (worked-out-callees t) (worked-out-at t) worked-out.Post
 worked-out-word-requires-3 t c κs = tt
 
 worked-out-evaluate-requires-2 : (t : ℕ) → worked-out-lts.Need-evaluate-requires-2 (worked-out-callees t) (worked-out-at t) worked-out.Post
-worked-out-evaluate-requires-2 t c κs = let v = c .before .before .before .before .before .before .before .before .before in let b = first t v in let s = entered t b in let n = facts t b .right (operands t v) (omega (arith, c .before .before .before .if2 .left)) in let m = lower t b (c .before .before .word3 .result) (subst (λ (i : ℕ). T (operand (words t b) (s .pre .1 .2 .variables) (angles t b) 32 (s .args .e) i)) (sym (c .before .before .word3 .ensures)) n) in (omega (arith, m .0, s .pre .0), (s .pre .1 .0, s .pre .1 .1, m .1, v .evaluate .ensures .1))
+worked-out-evaluate-requires-2 t c κs =
+    let v = c .before .before .before .before .before .before .before .before .before in
+    let b = first t v in
+    let s = entered t b in
+    let n = facts t b .right (operands t v) (omega (arith, c .before .before .before .if2 .left)) in
+    let m = lower t b (c .before .before .word3 .result) (subst (λ (i : ℕ). T (operand (words t b) (s .pre .1 .2 .variables) (angles t b) 32 (s .args .e) i)) (sym (c .before .before .word3 .ensures)) n) in
+    (omega (arith, m .0, s .pre .0), (s .pre .1 .0, s .pre .1 .1, m .1, v .evaluate .ensures .1))
 
 worked-out-enum-known-right : (t : ℕ) → worked-out-lts.Need-enum-known-right (worked-out-callees t) (worked-out-at t) worked-out.Post
 worked-out-enum-known-right t c = search needs
@@ -290,16 +352,30 @@ worked-out-same-length-3 : (t : ℕ) → worked-out-lts.Need-same-length-3 (work
 worked-out-same-length-3 t c = search needs
 
 worked-out-returns-4 : (t : ℕ) → worked-out-lts.Need-returns-4 (worked-out-callees t) (worked-out-at t) worked-out.Post
-worked-out-returns-4 t c = let w = c .before .before .before in let v = left-of t w in let b = first t v in let r = w .evaluate2 .ensures .0 in (record { is = right-refuses (angles t b) _ _ (second t b) _ _ _ (operands t v) (omega (arith, w .before .before .before .before .if2 .left)) (left-value t w) (right-is t w) (c .match2 .keys2) ∙ sym (entry-value t b); sound = r .sound }, w .evaluate2 .ensures .1)
+worked-out-returns-4 t c =
+    let w = c .before .before .before in
+    let v = left-of t w in
+    let b = first t v in
+    let r = w .evaluate2 .ensures .0 in
+    (record { is = right-refuses (angles t b) _ _ (second t b) _ _ _ (operands t v) (omega (arith, w .before .before .before .before .if2 .left)) (left-value t w) (right-is t w) (c .match2 .keys2) ∙ sym (entry-value t b); sound = r .sound }, w .evaluate2 .ensures .1)
 
 worked-out-binary-requires : (t : ℕ) → worked-out-lts.Need-binary-requires (worked-out-callees t) (worked-out-at t) worked-out.Post
-worked-out-binary-requires t c κs = let w = c .before .before .before .before .before in let v = left-of t w in (rw (c .before .before .before .before .before .before .before .before .before .before .before .left .given .1) at (v .evaluate .ensures .0 .sound), rw (c .before .right .given .1) at (w .evaluate2 .ensures .0 .sound), operands t v, omega (arith, c .before .before .before .before .before .before .before .before .before .if2 .left))
+worked-out-binary-requires t c κs =
+    let left = c .before .before .before .before .before .before .before .before .before .before .before .left in
+    let if2 = c .before .before .before .before .before .before .before .before .before .if2 .left in
+    let w = c .before .before .before .before .before in
+    let v = left-of t w in
+    (rw (left .given .1) at (v .evaluate .ensures .0 .sound), rw (c .before .right .given .1) at (w .evaluate2 .ensures .0 .sound), operands t v, omega (arith, if2))
 
 worked-out-same-length-4 : (t : ℕ) → worked-out-lts.Need-same-length-4 (worked-out-callees t) (worked-out-at t) worked-out.Post
 worked-out-same-length-4 t c = search needs
 
 worked-out-returns-5 : (t : ℕ) → worked-out-lts.Need-returns-5 (worked-out-callees t) (worked-out-at t) worked-out.Post
-worked-out-returns-5 t c = let w = c .before .before .before .before .before .before in let b = first t (left-of t w) in let u = c .binary .ensures in (record { is = u .value (angles t b) _ _ (second t b) (left-value t w) (right-is t w ∙ c .before .before .right .given .1) ∙ sym (entry-value t b); sound = u .sound }, w .evaluate2 .ensures .1)
+worked-out-returns-5 t c =
+    let w = c .before .before .before .before .before .before in
+    let b = first t (left-of t w) in
+    let u = c .binary .ensures in
+    (record { is = u .value (angles t b) _ _ (second t b) (left-value t w) (right-is t w ∙ c .before .before .right .given .1) ∙ sym (entry-value t b); sound = u .sound }, w .evaluate2 .ensures .1)
 
 pub +evaluate+worked-out-spec : {M : Type 1} → statement M
 +evaluate+worked-out-spec = close μ-evaluate μ-worked-out (λ t. evaluate-lts.spec (evaluate-callees t)

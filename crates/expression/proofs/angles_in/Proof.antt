@@ -48,7 +48,9 @@ loop-again c =
     (omega (arith, c .before .before .loop-test .taken), p .0, p .1)
 
 returns : tie.Need-returns Inv-loop μ-loop
-returns c = let l = c .before .loop in angles-are _ (l .values) zeroValue (l .inv .1) (λ i h. l .inv .2 i (omega (arith, c .loop-test .left)))
+returns c =
+    let l = c .before .loop in
+    angles-are _ (l .values) zeroValue (l .inv .1) (λ i h. l .inv .2 i (omega (arith, c .loop-test .left)))
 
 pub angles-in-spec : {M : Type 1} → statement M
 angles-in-spec =

@@ -33,7 +33,9 @@ denominator-requires : tie.Need-denominator-requires
 denominator-requires c κs = search needs
 
 returns : tie.Need-returns
-returns c = fraction-read (now (c .before .before .before .before .before .args .words)) (c .before .before .before .before .before .args .at) _ (c .denominator .ensures)
+returns c =
+    let args = c .before .before .before .before .before .args in
+    fraction-read (now (args .words)) (args .at) _ (c .denominator .ensures)
 
 pub fraction-at-spec : {M : Type 1} → statement M
 fraction-at-spec =

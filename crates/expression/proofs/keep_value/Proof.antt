@@ -21,7 +21,10 @@ same-length : tie.Need-same-length
 same-length c = search needs
 
 returns : tie.Need-returns
-returns c = stored _ (now (c .before .before .before .before .before .args .kept-values)) _ (c .before .before .before .before .before .args .e) (c .before .before .before .before .before .args .x) (c .before .before .before .before .before .pre .1) (c .before .before .before .before .before .pre .2) (c .before .before .put-value .ensures)
+returns c =
+    let args = c .before .before .before .before .before .args in
+    let pre = c .before .before .before .before .before .pre in
+    stored _ (now (args .kept-values)) _ (args .e) (args .x) (pre .1) (pre .2) (c .before .before .put-value .ensures)
 
 pub keep-value-spec : {M : Type 1} → statement M
 keep-value-spec =

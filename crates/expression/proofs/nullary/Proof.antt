@@ -46,7 +46,9 @@ returns-3 : tie.Need-returns-3
 returns-3 c = over-int _ _ _ _ (c .before .match .keys3) (c .int .ensures)
 
 returns-4 : tie.Need-returns-4
-returns-4 c = let s = c .before .before .before in over-variable (anglesIn (now (s .args .angles))) _ _ _ (is-variable (c .before .before)) (s .pre .0) (small (c .before .before)) (c .value-at .ensures ∙ sym (angle-at (now (s .args .angles)) (s .args .a) zeroValue (small (c .before .before))))
+returns-4 c =
+    let s = c .before .before .before in
+    over-variable (anglesIn (now (s .args .angles))) _ _ _ (is-variable (c .before .before)) (s .pre .0) (small (c .before .before)) (c .value-at .ensures ∙ sym (angle-at (now (s .args .angles)) (s .args .a) zeroValue (small (c .before .before))))
 
 pub nullary-spec : {M : Type 1} → statement M
 nullary-spec =

@@ -23,7 +23,9 @@ mul-words-2 : tie.Need-mul-words-2
 mul-words-2 c = search needs
 
 slice-write-words-2 : tie.Need-slice-write-words-2
-slice-write-words-2 c = let a = c .before .before .args in omega (arith, c .before .before .pre, length-set (now (a .words)) (a .at) (c .sign-word .result))
+slice-write-words-2 c =
+    let a = c .before .before .args in
+    omega (arith, c .before .before .pre, length-set (now (a .words)) (a .at) (c .sign-word .result))
 
 add-words-2 : tie.Need-add-words-2
 add-words-2 c = search needs

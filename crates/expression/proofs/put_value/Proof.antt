@@ -18,7 +18,10 @@ same-length : tie.Need-same-length
 same-length c = search needs
 
 returns : tie.Need-returns
-returns c = value-put (now (c .before .before .before .before .before .before .before .before .before .before .before .args .words)) _ _ (c .before .before .before .before .before .before .before .before .before .before .before .args .at) (c .before .before .before .before .before .before .before .before .before .before .before .args .x) (c .before .before .before .before .before .before .put-fraction .ensures) (c .before .before .put-fraction2 .ensures)
+returns c =
+    let args = c .before .before .before .before .before .before .before .before .before .before .before .args in
+    let put-fraction = c .before .before .before .before .before .before .put-fraction .ensures in
+    value-put (now (args .words)) _ _ (args .at) (args .x) put-fraction (c .before .before .put-fraction2 .ensures)
 
 pub put-value-spec : {M : Type 1} → statement M
 put-value-spec =

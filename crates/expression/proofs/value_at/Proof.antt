@@ -15,7 +15,9 @@ fraction-at-requires-2 : tie.Need-fraction-at-requires-2
 fraction-at-requires-2 c κs = search needs
 
 returns : tie.Need-returns
-returns c = value-read (now (c .before .before .before .args .words)) (c .before .before .before .args .at) _ _ (c .before .fraction-at .ensures) (c .fraction-at2 .ensures)
+returns c =
+    let args = c .before .before .before .args in
+    value-read (now (args .words)) (args .at) _ _ (c .before .fraction-at .ensures) (c .fraction-at2 .ensures)
 
 pub value-at-spec : {M : Type 1} → statement M
 value-at-spec = tie.close (tie.spec fraction-at-requires add-fraction-at fraction-at-requires-2 returns)

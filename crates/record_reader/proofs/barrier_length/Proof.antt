@@ -1,4 +1,4 @@
--- A barrier's length is told if it is within the words available, and 0 if it is not.
+-- A barrier's length is answered if it is within the words available, and 0 if it is not.
 use Prim.Native.Nat.{_+_}
 use native.Mathlib.Omega.{arith}
 use Rattle.record_reader.proofs.LengthLaws.{short, whole}

@@ -1,4 +1,4 @@
--- The length of a gate that is not opened is told if it is within the words available, and 0 if it is not.
+-- The length of a gate that is not opened is answered if it is within the words available, and 0 if it is not.
 use Prim.Native.Nat.{_+_, _*_}
 use native.Mathlib.Omega.{arith}
 use Rattle.record_reader.proofs.LengthLaws.{short, whole}
@@ -10,7 +10,9 @@ returns : tie.Need-returns
 returns c = short (4 + 4 * c .before .args .parameters + c .before .args .arguments) _ (omega arith)
 
 returns-2 : tie.Need-returns-2
-returns-2 c = short (4 + 4 * c .before .before .args .parameters + c .before .before .args .arguments) _ (omega arith)
+returns-2 c =
+    let args = c .before .before .args in
+    short (4 + 4 * args .parameters + args .arguments) _ (omega arith)
 
 mul-if3 : tie.Need-mul-if3
 mul-if3 c = search needs
@@ -19,7 +21,9 @@ sub-if3 : tie.Need-sub-if3
 sub-if3 c = search needs
 
 returns-3 : tie.Need-returns-3
-returns-3 c = short (4 + 4 * c .before .before .before .args .parameters + c .before .before .before .args .arguments) _ (omega arith)
+returns-3 c =
+    let args = c .before .before .before .args in
+    short (4 + 4 * args .parameters + args .arguments) _ (omega arith)
 
 mul-result : tie.Need-mul-result
 mul-result c = search needs

@@ -1,4 +1,4 @@
--- The word is read if the words reach so far, and is 0 if they do not.
+-- The word is read if the words do not end before it, and is 0 if they do.
 use lib.ListN.{List·getD-eq-default, drop, length-drop}
 use native.Mathlib.Omega.{arith}
 use lib.Seq.{getD-drop}
@@ -21,7 +21,9 @@ shared-slice-read-result : tie.Need-shared-slice-read-result
 shared-slice-read-result c = search needs
 
 returns : tie.Need-returns
-returns c = sym (getD-drop (c .before .before .args .at) (now (c .before .before .args .words)) (c .before .before .args .k) 0)
+returns c =
+    let args = c .before .before .args in
+    sym (getD-drop (args .at) (now (args .words)) (args .k) 0)
 
 returns-2 : tie.Need-returns-2
 returns-2 c =

@@ -18,7 +18,10 @@ same-length : tie.Need-same-length
 same-length c = search needs
 
 returns : tie.Need-returns
-returns c = subst (λ z. AppendedWords (now (c .before .before .before .before .before .before .args .words)) (now (c .before .before .before .before .before .before .args .out)) (c .before .before .before .before .before .before .args .at) z (now (c .before .before .before .before .before .before .args .out))) (sym (c .output-full .ensures)) (not-appended (c .before .before .before .before .before .before .pre) (ltb-true _ _ (sym (c .before .before .is-full .ensures) ∙ c .before .if1 .taken)))
+returns c =
+    let args = c .before .before .before .before .before .before .args in
+    let pre = c .before .before .before .before .before .before .pre in
+    subst (λ z. AppendedWords (now (args .words)) (now (args .out)) (args .at) z (now (args .out))) (sym (c .output-full .ensures)) (not-appended pre (ltb-true _ _ (sym (c .before .before .is-full .ensures) ∙ c .before .if1 .taken)))
 
 put-words-requires : tie.Need-put-words-requires
 put-words-requires c κs = ltb-false _ _ (sym (c .before .before .is-full .ensures) ∙ c .before .if1 .left)
@@ -30,7 +33,10 @@ same-length-2 : tie.Need-same-length-2
 same-length-2 c = search needs
 
 returns-2 : tie.Need-returns-2
-returns-2 c = appended _ (c .after-record .ensures) refl (ltb-false _ _ (sym (c .before .before .before .before .before .before .is-full .ensures) ∙ c .before .before .before .before .before .if1 .left)) (c .before .before .before .put-words .ensures)
+returns-2 c =
+    let is-full = c .before .before .before .before .before .before .is-full .ensures in
+    let if1 = c .before .before .before .before .before .if1 .left in
+    appended _ (c .after-record .ensures) refl (ltb-false _ _ (sym is-full ∙ if1)) (c .before .before .before .put-words .ensures)
 
 pub append-spec : {M : Type 1} → statement M
 append-spec =

@@ -24,7 +24,9 @@ mul-out-2 : tie.Need-mul-out-2
 mul-out-2 c = search needs
 
 slice-write-out-2 : tie.Need-slice-write-out-2
-slice-write-out-2 c = let a = c .before .args in omega (arith, c .before .pre .1, length-set (now (a .out)) (a .at .words) 2)
+slice-write-out-2 c =
+    let a = c .before .args in
+    omega (arith, c .before .pre .1, length-set (now (a .out)) (a .at .words) 2)
 
 add-out-2 : tie.Need-add-out-2
 add-out-2 c = search needs
@@ -46,7 +48,9 @@ same-length c = search needs
 
 returns : tie.Need-returns
 unfolding encode kind fields
-returns c = let a = c .before .before .args in written (Record.CX (a .control) (a .target)) 3 (c .after-record .ensures) refl (c .before .before .pre .1) (three-put (now (a .out)) (a .at .words) 2 (a .control) (a .target))
+returns c =
+    let a = c .before .before .args in
+    written (Record.CX (a .control) (a .target)) 3 (c .after-record .ensures) refl (c .before .before .pre .1) (three-put (now (a .out)) (a .at .words) 2 (a .control) (a .target))
 
 pub put-cx-spec : {M : Type 1} → statement M
 put-cx-spec =

@@ -16,7 +16,9 @@ same-length c = search needs
 
 returns : tie.Need-returns
 unfolding encode kind fields
-returns c = let a = c .before .before .before .before .before .before .args in c .before .before .append .ensures .wrote (Record.Measure (a .qubit) (a .bit)) refl
+returns c =
+    let args = c .before .before .before .before .before .before .args in
+    let a = args in c .before .before .append .ensures .wrote (Record.Measure (a .qubit) (a .bit)) refl
 
 pub write-measure-spec : {M : Type 1} → statement M
 write-measure-spec =
