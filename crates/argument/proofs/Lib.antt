@@ -1,2 +1,2 @@
 pub mod ArgumentLaws
-pub mod CallLaws
+pub mod CallArgumentsLaws

@@ -1,3 +1,3 @@
-pub mod WordLaws
-pub mod RecordLaws
-pub mod CopiedLaws
+pub mod CopiedWordsLaws
+pub mod CopiedRecordLaws
+pub mod CopiedRecordsLaws

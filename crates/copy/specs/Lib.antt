@@ -1,2 +1,2 @@
-pub mod Copying
-pub mod Copied
+pub mod CopiedRecord
+pub mod CopiedRecords

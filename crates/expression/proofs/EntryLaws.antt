@@ -21,7 +21,7 @@ use Rattle.model.proofs.All.{test}
 use Rattle.model.proofs.EvaluateLaws.{operand, node}
 use Rattle.image.proofs.KindLaws.{entry-is}
 use Rattle.expression.specs.Operands.{AcceptedExpression, NoValue}
-use Rattle.expression.specs.Table.{Constant}
+use Rattle.expression.specs.KeptValues.{Constant}
 
 module _ (image : List ℕ) (v : ℕ) (op : ℕ → Bool) (p a b : ℕ) where
   -- by its kind an entry has a small first word, or one operand, or two
@@ -144,19 +144,19 @@ module _ (values : List Value) (op : ℕ → Evaluation) (a b : ℕ) where
 -- ---- constants
 
 -- an entry of a kind below 3 has no operand, and no parameter goes into it
-leaf-constant : (xs ys : List Value) (f g : ℕ → Evaluation) (a b kind : ℕ) → kind < 3 → valueOf xs f (expressionOf kind a b) ≡ valueOf ys g (expressionOf kind a b)
+nullary-constant : (xs ys : List Value) (f g : ℕ → Evaluation) (a b kind : ℕ) → kind < 3 → valueOf xs f (expressionOf kind a b) ≡ valueOf ys g (expressionOf kind a b)
 unfolding valueOf expressionOf
-leaf-constant xs ys f g a b zero h = refl
-leaf-constant xs ys f g a b (suc zero) h = refl
-leaf-constant xs ys f g a b (suc (suc zero)) h = refl
-leaf-constant xs ys f g a b (suc (suc (suc n))) h = absurd (omega arith)
+nullary-constant xs ys f g a b zero h = refl
+nullary-constant xs ys f g a b (suc zero) h = refl
+nullary-constant xs ys f g a b (suc (suc zero)) h = refl
+nullary-constant xs ys f g a b (suc (suc (suc n))) h = absurd (omega arith)
 
 module _ (image : List ℕ) (e : ℕ) (f : AcceptedExpression image e) (p kind a b : ℕ) (ep : p ≡ expressionAt image e) (ek : kind ≡ word image p) (ea : a ≡ word image (p + 1)) (eb : b ≡ word image (p + 2)) where
   alike : (xs ys : List Value) → valueOf xs (evaluate image xs 32) (expressionOf kind a b) ≡ valueOf ys (evaluate image ys 32) (expressionOf kind a b) → evaluate image xs 32 e ≡ evaluate image ys 32 e
   alike xs ys h = value-is image xs e f p kind a b ep ek ea eb ∙ h ∙ sym (value-is image ys e f p kind a b ep ek ea eb)
 
-  pub constant-leaf : kind < 3 → Constant image e
-  constant-leaf h xs ys = alike xs ys (leaf-constant xs ys (evaluate image xs 32) (evaluate image ys 32) a b kind h)
+  pub constant-nullary : kind < 3 → Constant image e
+  constant-nullary h xs ys = alike xs ys (nullary-constant xs ys (evaluate image xs 32) (evaluate image ys 32) a b kind h)
 
   -- constants that are operands
   pub constant-one : 9 ≤ kind → kind < 16 → Constant image a → Constant image e

@@ -1,5 +1,6 @@
+pub mod AnglesLaws
+pub mod KeptValuesLaws
 pub mod OperandLaws
-pub mod AngleLaws
 pub mod EntryLaws
+pub mod NamedExpressionLaws
 pub mod ParameterLaws
-pub mod TableLaws

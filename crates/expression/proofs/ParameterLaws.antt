@@ -34,30 +34,30 @@ use Rattle.expression.specs.Operands.{NoValue, RefusalOf, ParametersGive
 
 -- sixteen angles, one of them put in anew
 put-sound : (found : List Value) (i : ℕ) (x : Value) → i < 16 → SoundAngles found → Sound x → SoundAngles (set found i x)
-put-sound found i x l s h = record { full = length-set found i x ∙ s .full; each = λ j m. go j m (eqb j i) refl }
+put-sound found i x l s h = record { sixteen = length-set found i x ∙ s .sixteen; each = λ j m. go j m (eqb j i) refl }
   where
     go : (j : ℕ) → j < 16 → (b : Bool) → eqb j i ≡ b → Sound (getD (set found i x) j zeroValue)
-    go j m true e = rw (eqb-true j i e, getD-set-same found i x zeroValue (omega (arith, s .full))) h
+    go j m true e = rw (eqb-true j i e, getD-set-same found i x zeroValue (omega (arith, s .sixteen))) h
     go j m false e = rw (getD-set-other found i j x zeroValue (eqb-false j i e)) (s .each j m)
 
--- ---- what is told of each refusal
+-- ---- the answer that each refusal is
 
 pub refuses-division : (r : Evaluation) (p : ℕ) → r ≡ evaluation.DivideByZero → RefusalOf r p (kind.DivideByZero p)
 unfolding also
-refuses-division r p e = record { why = DivideByZero p; lacks = λ later. rw e refl; told = λ t. refl }
+refuses-division r p e = record { why = DivideByZero p; lacks = λ later. rw e refl; answers = λ t. refl }
 
 pub refuses-float : (r : Evaluation) (p : ℕ) (f : Float) → r ≡ evaluation.ApproximateFail f → RefusalOf r p (kind.ApproximateFail p f)
 unfolding also
-refuses-float r p f e = record { why = ApproximateFail p (floatBits f); lacks = λ later. rw e refl; told = λ t. refl }
+refuses-float r p f e = record { why = ApproximateFail p (floatBits f); lacks = λ later. rw e refl; answers = λ t. refl }
 
 pub refuses-function : (r : Evaluation) (p : ℕ) → r ≡ evaluation.FunctionOfFloats → RefusalOf r p (kind.FunctionOfFloats p)
 unfolding also
-refuses-function r p e = record { why = FunctionOfFloats p; lacks = λ later. rw e refl; told = λ t. refl }
+refuses-function r p e = record { why = FunctionOfFloats p; lacks = λ later. rw e refl; answers = λ t. refl }
 
 pub refuses-overflow : (r : Evaluation) (p : ℕ) → OneOf (0 ∷ 2 ∷ []) (tagOf the-type r) → NoValue r → RefusalOf r p (kind.NumericalOverflow p)
 unfolding also
 refuses-overflow (evaluation.Value x) p k n = absurd (n x refl)
-refuses-overflow evaluation.Overflow p k n = record { why = NumericalOverflow p; lacks = λ later. refl; told = λ t. refl }
+refuses-overflow evaluation.Overflow p k n = record { why = NumericalOverflow p; lacks = λ later. refl; answers = λ t. refl }
 refuses-overflow evaluation.DivideByZero p k n = absurd (⊎-elim (λ e. omega arith) (λ e. omega arith) k)
 refuses-overflow (evaluation.ApproximateFail f) p k n = absurd (⊎-elim (λ e. omega arith) (λ e. omega arith) k)
 refuses-overflow evaluation.FunctionOfFloats p k n = absurd (⊎-elim (λ e. omega arith) (λ e. omega arith) k)
@@ -92,7 +92,7 @@ module _ (image : List ℕ) (angles : List Value) (f : ℕ → ℕ) where
   abbrev valued : ℕ → Evaluation
   valued k = evaluate image angles 32 (f k)
 
-  -- of the n expressions from a on all have angles, and so has the one behind them
+  -- the n expressions from a on all have angles, and so has the next one
   one-more : (a n k : ℕ) (xs : List Value) (x : Value) → k ≡ a + n → values a n ≡ have xs → valued k ≡ evaluation.Value x → values a (suc n) ≡ have (xs ++ x ∷ [])
   unfolding parameterValues range also
   one-more a zero k xs x q e h =
@@ -103,15 +103,15 @@ module _ (image : List ℕ) (angles : List Value) (f : ℕ → ℕ) where
       let s = split (valued a) (expressionAt image (f a)) (values (suc a) n) xs e in
       rw (s .first-is, one-more (suc a) n k (s .rest) x (omega arith) (s .rest-is) h) (ap (λ (ys : List Value). have (ys ++ x ∷ [])) (sym (s .both)))
 
-  -- the one behind them has none, of whatever is behind it
-  refuses-behind : (a i n k : ℕ) (xs : List Value) (y : Refusal) → i < n → k ≡ a + i → values a i ≡ have xs → ((later : Values) → also (valued k) (expressionAt image (f k)) later ≡ lack y) → values a n ≡ lack y
+  -- the next one has none, whatever comes after it
+  refuses-next : (a i n k : ℕ) (xs : List Value) (y : Refusal) → i < n → k ≡ a + i → values a i ≡ have xs → ((later : Values) → also (valued k) (expressionAt image (f k)) later ≡ lack y) → values a n ≡ lack y
   unfolding parameterValues range also
-  refuses-behind a i zero k xs y l q e h = absurd (omega arith)
-  refuses-behind a zero (suc n) k xs y l q e h =
+  refuses-next a i zero k xs y l q e h = absurd (omega arith)
+  refuses-next a zero (suc n) k xs y l q e h =
       subst (λ (m : ℕ). also (valued m) (expressionAt image (f m)) (values (suc a) n) ≡ lack y) (q ∙ add-zero a) (h (values (suc a) n))
-  refuses-behind a (suc i) (suc n) k xs y l q e h =
+  refuses-next a (suc i) (suc n) k xs y l q e h =
       let s = split (valued a) (expressionAt image (f a)) (values (suc a) i) xs e in
-      rw (s .first-is, refuses-behind (suc a) i n k (s .rest) y (omega arith) (omega arith) (s .rest-is) h) refl
+      rw (s .first-is, refuses-next (suc a) i n k (s .rest) y (omega arith) (omega arith) (s .rest-is) h) refl
 
   -- the angles of the first i expressions stand in front of sixteen
   pub record Front (i : ℕ) (found : List Value) : Type 0 where
@@ -125,7 +125,7 @@ module _ (image : List ℕ) (angles : List Value) (f : ℕ → ℕ) where
   pub front-next : (i e : ℕ) (found : List Value) (r : Evaluation) (x : Value) → i < 16 → Front i found → e ≡ f i → EvaluatesTo (evaluate image angles 32 e) r → r ≡ evaluation.Value x → Front (i + 1) (set found i x)
   front-next i e found r x l k q t h = record {
     sound = put-sound found i x l (k .sound) (rw h at (t .sound));
-    front = rw (add-one i) (one-more 0 i i (take i found) x (omega arith) (k .front) (ap (evaluate image angles 32) (sym q) ∙ sym (t .is) ∙ h) ∙ ap have (sym (take-suc-set found i x (omega (arith, k .sound .full)))));
+    front = rw (add-one i) (one-more 0 i i (take i found) x (omega arith) (k .front) (ap (evaluate image angles 32) (sym q) ∙ sym (t .is) ∙ h) ∙ ap have (sym (take-suc-set found i x (omega (arith, k .sound .sixteen)))));
   }
 
   pub front-done : (i n : ℕ) (found : List Value) (at : Position) → i ≤ n → n ≤ i → Front i found → ParametersGiven (values 0 n) n at (linearized.Done at) found
@@ -135,4 +135,4 @@ module _ (image : List ℕ) (angles : List Value) (f : ℕ → ℕ) where
       → ParametersGiven (values 0 n) n at (linearized.Refused (record { kind = why; at = at })) found
   front-refuses i n e p found r why at l k q qp t h =
       let lacks : (later : Values) → also (valued i) (expressionAt image (f i)) later ≡ lack (h .why) = λ later. sym (rw (sym q, sym (t .is), sym qp) refl) ∙ h .lacks later in
-      record { sound = k .sound; ends = (refl, (h .why, refuses-behind 0 i n i (take i found) (h .why) l (omega arith) (k .front) lacks, h .told)) }
+      record { sound = k .sound; ends = (refl, (h .why, refuses-next 0 i n i (take i found) (h .why) l (omega arith) (k .front) lacks, h .answers)) }

@@ -1,2 +1,4 @@
+pub mod Angles
+pub mod KeptValues
 pub mod Operands
-pub mod Table
+pub mod NamedExpressions

@@ -1,5 +1,5 @@
--- What an expression entry comes to, once its operands are worked out.
-use Prim.Native.Nat.{ℕ, _<_, _≤_, _+_}
+-- What an expression entry comes to, once its operands are worked out, and what the values of some expressions are.
+use Prim.Native.Nat.{ℕ, _≤_}
 use mathlib.Core.Path.{_≡_}
 use mathlib.Core.List.{List}
 use Rattle.value.specs.declared.Value.{Value}
@@ -8,7 +8,7 @@ use Rattle.value.specs.declared.Evaluation.the-variants as evaluation
 use lib.Dec.{T}
 use lib.ListN.{take}
 use Rattle.value.specs.Promise.{SoundEvaluation}
-use Rattle.model.specs.Image.{word, expressionOf}
+use Rattle.model.specs.Image.{expressionOf}
 use Rattle.model.specs.Check.{expressionOk}
 use Rattle.model.specs.Evaluate.{valueOf}
 use Rattle.model.specs.Steps.{Values, have, lack, also, Refusal}
@@ -19,19 +19,19 @@ use Rattle.record_writer.specs.declared.Linearized.{Linearized}
 use Rattle.record_writer.specs.declared.Linearized.the-variants as linearized
 use Rattle.record_writer.specs.Promise.{SoundAngles, refusalAnswer}
 
--- an entry of a kind whose operands have the values x and y
+-- what an entry of a kind comes to, whose operands have the values x and y
 pub record BinaryResult (kind : ℕ) (x y : Value) (r : Evaluation) : Type 0 where
-  pub told : (values : List Value) (operand : ℕ → Evaluation) (a b : ℕ) → operand a ≡ evaluation.Value x → operand b ≡ evaluation.Value y → r ≡ valueOf values operand (expressionOf kind a b)
+  pub value : (values : List Value) (operand : ℕ → Evaluation) (a b : ℕ) → operand a ≡ evaluation.Value x → operand b ≡ evaluation.Value y → r ≡ valueOf values operand (expressionOf kind a b)
   pub sound : SoundEvaluation r
 
--- one whose only operand has the value x
+-- what an entry of a kind comes to, whose only operand has the value x
 pub record UnaryResult (kind : ℕ) (x : Value) (r : Evaluation) : Type 0 where
-  pub told : (values : List Value) (operand : ℕ → Evaluation) (a b : ℕ) → operand a ≡ evaluation.Value x → r ≡ valueOf values operand (expressionOf kind a b)
+  pub value : (values : List Value) (operand : ℕ → Evaluation) (a b : ℕ) → operand a ≡ evaluation.Value x → r ≡ valueOf values operand (expressionOf kind a b)
   pub sound : SoundEvaluation r
 
--- one without operands, where the parameters have these values
-pub record LeafResult (values : List Value) (kind a : ℕ) (r : Evaluation) : Type 0 where
-  pub told : (operand : ℕ → Evaluation) (b : ℕ) → r ≡ valueOf values operand (expressionOf kind a b)
+-- what an entry without operands comes to, where the parameters have these values
+pub record NullaryResult (values : List Value) (kind a : ℕ) (r : Evaluation) : Type 0 where
+  pub value : (operand : ℕ → Evaluation) (b : ℕ) → r ≡ valueOf values operand (expressionOf kind a b)
   pub sound : SoundEvaluation r
 
 -- an expression that the check accepts: of at most 32 levels, with some variables that a gate may have
@@ -44,19 +44,13 @@ pub record AcceptedExpression (image : List ℕ) (e : ℕ) : Type 0 where
 abbrev pub NoValue : Evaluation → Type 0
 NoValue r = (x : Value) → ¬ (r ≡ evaluation.Value x)
 
--- one of an expression at a place, and what is told of it
+-- the refusal of an evaluation that came to no angle, of an expression at a place
 pub record RefusalOf (r : Evaluation) (place : ℕ) (kind : LinearizeErrorKind) : Type 0 where
   pub why : Refusal
   pub lacks : (later : Values) → also r place later ≡ lack why
-  pub told : (t : List ℕ) → refusalAnswer kind t ≡ refused t why
+  pub answers : (t : List ℕ) → refusalAnswer kind t ≡ refused t why
 
--- the n words from a place on name accepted expressions
-pub record NamesExpressions (image : List ℕ) (place n : ℕ) : Type 0 where
-  pub few : n ≤ 16
-  pub near : place + n ≤ 16384
-  pub each : (i : ℕ) → i < n → AcceptedExpression image (word image (place + i))
-
--- the values of n expressions stand in front of some angles, or the first of them is refused; nothing is written
+-- the values of n expressions stand in front of some angles, or the first that has none is refused; nothing is written
 abbrev pub Ends : Values → ℕ → List Value → Position → Linearized → Type 0
 Ends vs n angles at (linearized.Done p) = (p ≡ at) × (vs ≡ have (take n angles))
 Ends vs n angles at (linearized.Refused e) = (e .at ≡ at) × ((x : Refusal) × (vs ≡ lack x) × ((t : List ℕ) → refusalAnswer (e .kind) t ≡ refused t x))

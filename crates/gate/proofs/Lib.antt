@@ -1,5 +1,5 @@
-pub mod RanLaws
-pub mod GateLaws
-pub mod BodyLaws
-pub mod CycleLaws
-pub mod StatementLaws
+pub mod RanStepsLaws
+pub mod CallStatementLaws
+pub mod OpenGateLaws
+pub mod RunContextLaws
+pub mod PrimitiveStatementLaws

@@ -1,1 +1,4 @@
-pub mod Running
+pub mod RunContext
+pub mod PlainStatement
+pub mod RanSteps
+pub mod CallStatement

@@ -7,15 +7,18 @@ ghost use mathlib.Core.List.{[], _∷_};
 ghost use Prim.Native.Nat.{suc, _+_, _≤_, _<_};
 ghost use lib.ListN.{length, take};
 ghost use lib.Seq.{sets};
-ghost use Rattle.model.specs.Image.{word, statement, statementAt, gateArguments};
+ghost use Rattle.model.specs.Image.{word, statementAt, gateArguments};
 ghost use Rattle.model.specs.Records.{Record};
-ghost use Rattle.model.specs.Steps.{write, openGate, opening};
-ghost use Rattle.model.specs.Accepted.{PlainFacts};
+ghost use Rattle.model.specs.Steps.{write};
 ghost use Rattle.image.specs.Layout.{LayoutOf};
-ghost use Rattle.record_writer.specs.Promise.{SoundAngles, InOutput, WroteSteps};
-ghost use Rattle.expression.specs.Table.{anglesIn, ConstantsKept};
-ghost use Rattle.argument.specs.Frames.{scopeFrame, ScopeContext};
-ghost use Rattle.gate.specs.Running.{RunContext, RanSteps, plainSteps, callOf, CallStatement, callSteps};
+ghost use Rattle.record_writer.specs.Promise.{InOutput, QubitsGiven, WroteSteps};
+ghost use Rattle.expression.specs.Angles.{anglesIn};
+ghost use Rattle.expression.specs.KeptValues.{ConstantsKept};
+ghost use Rattle.argument.specs.Frames.{scopeFrame};
+ghost use Rattle.gate.specs.RunContext.{StatementContext, RunContext};
+ghost use Rattle.gate.specs.PlainStatement.{PlainStatement, IsCall};
+ghost use Rattle.gate.specs.RanSteps.{RanSteps, statementSteps, openedSteps};
+ghost use Rattle.gate.specs.CallStatement.{callOf, CallStatement, callSteps};
 
 // The sixteen angles and sixteen qubits that a gate's body has at most, an angle in six words.
 pub struct Frame {
@@ -24,7 +27,7 @@ pub struct Frame {
 }
 
 // A call's pair of trace words: the caller's scope and the place of the call.
-fn mark_call(trace: &mut [u64], at: u64, scope: u64, place: u64)
+fn write_trace_pair(trace: &mut [u64], at: u64, scope: u64, place: u64)
     requires { ⌜ at + 1 < length (now trace) ⌝ }
     ensures { λ _. ⌜ now (trace .exit) ≡ sets (now (trace .entry)) at (scope ∷ place ∷ []) ⌝ }
 {
@@ -33,99 +36,133 @@ fn mark_call(trace: &mut [u64], at: u64, scope: u64, place: u64)
     trace[i + 1] = place;
 }
 
-// A body with no level left: its gate with its qubits, and no angles.
-fn write_cut(
+// A gate that is not opened, since no level is left: the gate itself with its qubits, and no angles.
+fn write_cut_gate(
     image: &[u64],
     l: Layout,
-    formals: [u64; 16],
+    qubits: [u64; 16],
     g: u64,
     out: &mut [u64],
     at: Position,
 ) -> Linearized
-    requires { ⌜ LayoutOf (now image) l × (length formals ≡ 16) × (g < l .gates) × (gateArguments (now image) g ≤ 16) × InOutput (now out) at ⌝ }
-    ensures { λ r. ⌜ WroteSteps (write [] (Record.Opaque g [] (take (gateArguments (now (image .entry)) g) formals)) ∷ []) (now (out .entry)) at r (now (out .exit)) ⌝ }
+    requires { ⌜
+        LayoutOf (now image) l
+        × (g < l .gates)
+        × QubitsGiven qubits (gateArguments (now image) g)
+        × InOutput (now out) at
+        ⌝ }
+    ensures { λ r. ⌜
+        WroteSteps (write [] (Record.Opaque g [] (take (gateArguments (now (image .entry)) g) qubits)) ∷ [])
+        (now (out .entry)) at r (now (out .exit))
+        ⌝ }
 {
-    let gate = image::gate_at(image, l, g);
-    let angle = expression::zero();
-    let angles = [angle; 16];
-    record_writer::write_opaque(out, at, g, angles, 0, formals, image::word(image, gate + 1))
+    let place = l.gate_at(g);
+    let angles = [expression::zero(); 16];
+    record_writer::write_opaque(out, at, g, angles, 0, qubits, image::word(image, place + 1))
 }
 
-// A statement of kind 1, 2, 4, 5 or 6, which opens no gate.
-fn visit_leaf(
+// A U, CX, barrier, measurement or reset: a statement that opens no gate.
+fn visit_primitive(
     image: &[u64],
     l: Layout,
-    qubits: &[u64],
-    bits: &[u64],
-    table: &mut [u64],
+    qubit_starts: &[u64],
+    bit_starts: &[u64],
+    kept_values: &mut [u64],
     scope: u64,
-    variables: &[u64; 96],
-    formals: &[u64; 16],
+    angles: &[u64; 96],
+    qubits: &[u64; 16],
     s: u64,
     out: &mut [u64],
     at: Position,
 ) -> Linearized
-    requires { ⌜ ScopeContext (now image) l (now qubits) (now bits) scope (now formals) × ConstantsKept (now image) (now table) × SoundAngles (anglesIn (now variables)) × (s < l .all) × PlainFacts (now image) scope (statement (now image) s) × ¬ (word (now image) (statementAt (now image) s) ≡ 3) × InOutput (now out) at ⌝ }
-    ensures { λ r. ⌜ WroteSteps (plainSteps (now (image .entry)) 0 (scopeFrame (now (image .entry)) scope (anglesIn (now (variables .entry))) (now (formals .entry))) s) (now (out .entry)) at r (now (out .exit)) × ConstantsKept (now (image .entry)) (now (table .exit)) ⌝ }
+    requires { ⌜
+        StatementContext (now image) l (now «qubit_starts») (now «bit_starts») (now «kept_values») scope (now angles) (now qubits) (now out) at
+        × PlainStatement (now image) l scope s
+        × ¬ IsCall (now image) s
+        ⌝ }
+    ensures { λ r. ⌜
+        WroteSteps (statementSteps (now (image .entry)) 0 scope (now (angles .entry)) (now (qubits .entry)) s)
+        (now (out .entry)) at r (now (out .exit))
+        × ConstantsKept (now (image .entry)) (now («kept_values» .exit))
+        ⌝ }
 {
-    let place = image::statement_at(image, l, s);
+    let place = l.statement_at(s);
     let kind = image::word(image, place);
     let a = image::word(image, place + 1);
     let b = image::word(image, place + 2);
     match kind {
-        1 => unitary::visit_u(
+        1 => statement::visit_u(
             image,
             l,
-            qubits,
-            bits,
-            table,
+            qubit_starts,
+            kept_values,
             scope,
-            variables,
-            formals,
+            angles,
+            qubits,
             place + 1,
             image::word(image, place + 4),
             out,
             at,
         ),
-        2 => statement::visit_cx(image, l, qubits, bits, scope, formals, a, b, out, at),
-        4 => statement::visit_barrier(image, l, qubits, bits, scope, formals, a, b, out, at),
-        5 => statement::visit_measure(image, l, qubits, bits, scope, formals, a, b, out, at),
-        _ => statement::visit_reset(image, l, qubits, bits, scope, formals, a, out, at),
+        2 => statement::visit_cx(image, l, qubit_starts, scope, qubits, a, b, out, at),
+        4 => statement::visit_barrier(image, l, qubit_starts, scope, qubits, a, b, out, at),
+        5 => statement::visit_measure(
+            image,
+            l,
+            qubit_starts,
+            bit_starts,
+            scope,
+            qubits,
+            a,
+            b,
+            out,
+            at,
+        ),
+        _ => statement::visit_reset(image, l, qubit_starts, scope, qubits, a, out, at),
     }
 }
 
-// What a call says of itself and of its gate: where the words that name its expressions stand, how many they are, its first argument, how many, and 0 if the gate is opaque.
+// What a call says of itself and of its gate.
 pub struct Call {
-    pub place: u64,
+    // The number of the call among all statements.
+    pub statement: u64,
     pub gate: u64,
-    pub named: u64,
+    // Where the words stand that name the expressions of the gate's parameters, and how many they are.
+    pub expressions: u64,
     pub parameters: u64,
+    // The number of the first argument, and how many there are.
     pub argument: u64,
     pub arguments: u64,
+    // 0 if the gate is opaque, 1 if it has a body.
     pub body: u64,
 }
 
 // The call that is statement s.
 fn call_at(image: &[u64], l: Layout, s: u64) -> Call
-    requires { ⌜ LayoutOf (now image) l × (s < l .all) × (word (now image) (statementAt (now image) s + 1) < l .gates) × (word (now image) (statementAt (now image) s + 2) ≤ 8192) ⌝ }
+    requires { ⌜
+        LayoutOf (now image) l
+        × (s < l .statements)
+        × (word (now image) (statementAt (now image) s + 1) < l .gates)
+        × (word (now image) (statementAt (now image) s + 2) ≤ 8192)
+        ⌝ }
     ensures { λ r. ⌜ r ≡ callOf (now (image .entry)) s ⌝ }
 {
-    let place = image::statement_at(image, l, s);
+    let place = l.statement_at(s);
     let gate = image::word(image, place + 1);
-    let at = image::gate_at(image, l, gate);
+    let gate_place = l.gate_at(gate);
     Call {
-        place,
+        statement: s,
         gate,
-        named: image::parameter_at(image, l, image::word(image, place + 2)),
-        parameters: image::word(image, at),
+        expressions: l.parameter_at(image::word(image, place + 2)),
+        parameters: image::word(image, gate_place),
         argument: image::word(image, place + 3),
-        arguments: image::word(image, at + 1),
-        body: image::word(image, at + 2),
+        arguments: image::word(image, gate_place + 1),
+        body: image::word(image, gate_place + 2),
     }
 }
 
-// A position with some words of trace.
-fn at_trace(at: Position, trace: u64) -> Position
+// A position with another number of trace words.
+fn with_trace_words(at: Position, trace: u64) -> Position
     ensures { λ r. ⌜ r ≡ record { records = at .records; words = at .words; trace = trace } ⌝ }
 {
     Position {
@@ -135,137 +172,156 @@ fn at_trace(at: Position, trace: u64) -> Position
     }
 }
 
-// A statement that is no conditional.
+// A statement that is no conditional, with bodies opened so many levels deep.
 pub fn visit_statement(
     image: &[u64],
     l: Layout,
-    qubits: &[u64],
-    bits: &[u64],
-    table: &mut [u64],
+    qubit_starts: &[u64],
+    bit_starts: &[u64],
+    kept_values: &mut [u64],
     scope: u64,
-    variables: &[u64; 96],
-    formals: &[u64; 16],
+    angles: &[u64; 96],
+    qubits: &[u64; 16],
     s: u64,
-    left: u64,
+    levels_left: u64,
     out: &mut [u64],
     trace: &mut [u64],
     at: Position,
 ) -> Linearized
-    requires { ⌜ RunContext (now image) l (now qubits) (now bits) (now table) scope (now variables) (now formals) (now out) (now trace) at × (s < l .all) × PlainFacts (now image) scope (statement (now image) s) ⌝ }
-    ensures { λ r. ⌜ RanSteps (plainSteps (now (image .entry)) left (scopeFrame (now (image .entry)) scope (anglesIn (now (variables .entry))) (now (formals .entry))) s) (now (out .entry)) at (now (trace .entry)) r (now (out .exit)) (now (trace .exit)) × ConstantsKept (now (image .entry)) (now (table .exit)) ⌝ }
+    requires { ⌜
+        RunContext (now image) l (now «qubit_starts») (now «bit_starts») (now «kept_values») scope (now angles) (now qubits) (now out) (now trace) at
+        × PlainStatement (now image) l scope s
+        ⌝ }
+    ensures { λ r. ⌜
+        RanSteps (statementSteps (now (image .entry)) «levels_left» scope (now (angles .entry)) (now (qubits .entry)) s)
+        (now (out .entry)) at (now (trace .entry)) r (now (out .exit)) (now (trace .exit))
+        × ConstantsKept (now (image .entry)) (now («kept_values» .exit))
+        ⌝ }
 {
-    if image::word(image, image::statement_at(image, l, s)) == 3 {
+    if image::word(image, l.statement_at(s)) == 3 {
         return visit_gate(
             image,
             l,
-            qubits,
-            bits,
-            table,
+            qubit_starts,
+            bit_starts,
+            kept_values,
             scope,
-            variables,
-            formals,
+            angles,
+            qubits,
             s,
-            left,
+            levels_left,
             out,
             trace,
             at,
         );
     }
-    visit_leaf(
+    visit_primitive(
         image,
         l,
-        qubits,
-        bits,
-        table,
+        qubit_starts,
+        bit_starts,
+        kept_values,
         scope,
-        variables,
-        formals,
+        angles,
+        qubits,
         s,
         out,
         at,
     )
 }
 
-// A call: its parameters before anything else.
+// A call: its parameters are worked out before anything else.
 fn visit_gate(
     image: &[u64],
     l: Layout,
-    qubits: &[u64],
-    bits: &[u64],
-    table: &mut [u64],
+    qubit_starts: &[u64],
+    bit_starts: &[u64],
+    kept_values: &mut [u64],
     scope: u64,
-    variables: &[u64; 96],
-    formals: &[u64; 16],
+    angles: &[u64; 96],
+    qubits: &[u64; 16],
     s: u64,
-    left: u64,
+    levels_left: u64,
     out: &mut [u64],
     trace: &mut [u64],
     at: Position,
 ) -> Linearized
-    requires { ⌜ RunContext (now image) l (now qubits) (now bits) (now table) scope (now variables) (now formals) (now out) (now trace) at × (s < l .all) × PlainFacts (now image) scope (statement (now image) s) × (word (now image) (statementAt (now image) s) ≡ 3) ⌝ }
-    ensures { λ r. ⌜ RanSteps (plainSteps (now (image .entry)) left (scopeFrame (now (image .entry)) scope (anglesIn (now (variables .entry))) (now (formals .entry))) s) (now (out .entry)) at (now (trace .entry)) r (now (out .exit)) (now (trace .exit)) × ConstantsKept (now (image .entry)) (now (table .exit)) ⌝ }
+    requires { ⌜
+        RunContext (now image) l (now «qubit_starts») (now «bit_starts») (now «kept_values») scope (now angles) (now qubits) (now out) (now trace) at
+        × PlainStatement (now image) l scope s
+        × IsCall (now image) s
+        ⌝ }
+    ensures { λ r. ⌜
+        RanSteps (statementSteps (now (image .entry)) «levels_left» scope (now (angles .entry)) (now (qubits .entry)) s)
+        (now (out .entry)) at (now (trace .entry)) r (now (out .exit)) (now (trace .exit))
+        × ConstantsKept (now (image .entry)) (now («kept_values» .exit))
+        ⌝ }
 {
     let call = call_at(image, l, s);
-    let mut given = [0u64; 96];
+    let mut given_angles = [0u64; 96];
     match expression::parameters(
         image,
         l,
-        variables,
-        table,
-        call.named,
+        angles,
+        kept_values,
+        call.expressions,
         call.parameters,
-        &mut given,
+        &mut given_angles,
         at,
     ) {
-        Linearized::Done(now) => visit_rounds(
+        Linearized::Done(position) => visit_rounds(
             image,
             l,
-            qubits,
-            bits,
-            table,
+            qubit_starts,
+            bit_starts,
+            kept_values,
             scope,
-            formals,
+            qubits,
             call,
-            s,
-            given,
-            left,
+            given_angles,
+            levels_left,
             out,
             trace,
-            now,
+            position,
         ),
         Linearized::Refused(e) => Linearized::Refused(e),
     }
 }
 
-// A call in each round of its arguments, with its angles.
+// The rounds of a call, with the angles of its gate.
 fn visit_rounds(
     image: &[u64],
     l: Layout,
-    qubits: &[u64],
-    bits: &[u64],
-    table: &mut [u64],
+    qubit_starts: &[u64],
+    bit_starts: &[u64],
+    kept_values: &mut [u64],
     scope: u64,
-    formals: &[u64; 16],
+    qubits: &[u64; 16],
     call: Call,
-    s: u64,
     angles: [u64; 96],
-    left: u64,
+    levels_left: u64,
     out: &mut [u64],
     trace: &mut [u64],
     at: Position,
 ) -> Linearized
-    requires { ⌜ RunContext (now image) l (now qubits) (now bits) (now table) scope angles (now formals) (now out) (now trace) at × CallStatement (now image) l scope s call ⌝ }
-    ensures { λ r. ⌜ RanSteps (callSteps (now (image .entry)) left (scopeFrame (now (image .entry)) scope [] (now (formals .entry))) s call (take (call .parameters) (anglesIn angles))) (now (out .entry)) at (now (trace .entry)) r (now (out .exit)) (now (trace .exit)) × ConstantsKept (now (image .entry)) (now (table .exit)) ⌝ }
+    requires { ⌜
+        RunContext (now image) l (now «qubit_starts») (now «bit_starts») (now «kept_values») scope angles (now qubits) (now out) (now trace) at
+        × CallStatement (now image) l scope call
+        ⌝ }
+    ensures { λ r. ⌜
+        RanSteps (callSteps (now (image .entry)) «levels_left» (scopeFrame (now (image .entry)) scope [] (now (qubits .entry))) call (take (call .parameters) (anglesIn angles)))
+        (now (out .entry)) at (now (trace .entry)) r (now (out .exit)) (now (trace .exit))
+        × ConstantsKept (now (image .entry)) (now («kept_values» .exit))
+        ⌝ }
 {
     if call.body == 0 {
-        let values = expression::values_in(&angles);
+        let values = expression::angles_in(&angles);
         return statement::visit_opaque(
             image,
             l,
-            qubits,
-            bits,
+            qubit_starts,
             scope,
-            formals,
+            qubits,
             call.gate,
             values,
             call.parameters,
@@ -276,92 +332,102 @@ fn visit_rounds(
         );
     }
     let n = image::rounds_of(image, l, scope, call.argument, call.arguments);
-    let mut now = at;
+    let mut position = at;
     let mut i = 0u64;
     while i < n {
-        let q = argument::qubits_in(
+        let opened_qubits = argument::qubits_in_round(
             image,
             l,
-            qubits,
-            bits,
+            qubit_starts,
             scope,
-            formals,
+            qubits,
             call.argument,
             call.arguments,
             i,
         );
-        let opened = Frame { angles, qubits: q };
+        let frame = Frame {
+            angles,
+            qubits: opened_qubits,
+        };
         match open_gate(
             image,
             l,
-            qubits,
-            bits,
-            table,
-            opened,
+            qubit_starts,
+            bit_starts,
+            kept_values,
+            frame,
             call.gate,
-            left,
+            levels_left,
             out,
             trace,
-            at_trace(now, at.trace + 2),
+            with_trace_words(position, at.trace + 2),
         ) {
             Linearized::Done(next) => {
-                now = at_trace(next, at.trace);
+                position = with_trace_words(next, at.trace);
             }
             Linearized::Refused(e) => {
-                mark_call(trace, at.trace, scope, call.place);
+                let place = l.statement_at(call.statement);
+                write_trace_pair(trace, at.trace, scope, place);
                 return Linearized::Refused(e);
             }
         }
         i += 1;
     }
-    Linearized::Done(now)
+    Linearized::Done(position)
 }
 
 // A gate with a body, in the frame of a call: its statements, or the gate itself where no level is left.
 fn open_gate(
     image: &[u64],
     l: Layout,
-    qubits: &[u64],
-    bits: &[u64],
-    table: &mut [u64],
+    qubit_starts: &[u64],
+    bit_starts: &[u64],
+    kept_values: &mut [u64],
     frame: Frame,
     g: u64,
-    left: u64,
+    levels_left: u64,
     out: &mut [u64],
     trace: &mut [u64],
     at: Position,
 ) -> Linearized
-    requires { ⌜ RunContext (now image) l (now qubits) (now bits) (now table) (suc g) (frame .angles) (frame .qubits) (now out) (now trace) at × (g < l .gates) ⌝ }
-    ensures { λ r. ⌜ RanSteps (openGate (now (image .entry)) (opening (now (image .entry)) left) (scopeFrame (now (image .entry)) (suc g) (anglesIn (frame .angles)) (frame .qubits)) g) (now (out .entry)) at (now (trace .entry)) r (now (out .exit)) (now (trace .exit)) × ConstantsKept (now (image .entry)) (now (table .exit)) ⌝ }
+    requires { ⌜
+        RunContext (now image) l (now «qubit_starts») (now «bit_starts») (now «kept_values») (suc g) (frame .angles) (frame .qubits) (now out) (now trace) at
+        × (g < l .gates)
+        ⌝ }
+    ensures { λ r. ⌜
+        RanSteps (openedSteps (now (image .entry)) «levels_left» g (frame .angles) (frame .qubits))
+        (now (out .entry)) at (now (trace .entry)) r (now (out .exit)) (now (trace .exit))
+        × ConstantsKept (now (image .entry)) (now («kept_values» .exit))
+        ⌝ }
 {
     let angles = frame.angles;
-    let formals = frame.qubits;
-    if left == 0 {
-        return write_cut(image, l, formals, g, out, at);
+    let qubits = frame.qubits;
+    if levels_left == 0 {
+        return write_cut_gate(image, l, qubits, g, out, at);
     }
     let body = image::statements_of(image, l, g + 1);
     let first = body.first;
     let n = body.count;
-    let mut now = at;
+    let mut position = at;
     let mut i = 0u64;
     while i < n {
         match visit_statement(
             image,
             l,
-            qubits,
-            bits,
-            table,
+            qubit_starts,
+            bit_starts,
+            kept_values,
             g + 1,
             &angles,
-            &formals,
+            &qubits,
             first + i,
-            left - 1,
+            levels_left - 1,
             out,
             trace,
-            now,
+            position,
         ) {
             Linearized::Done(next) => {
-                now = next;
+                position = next;
             }
             Linearized::Refused(e) => {
                 return Linearized::Refused(e);
@@ -369,5 +435,5 @@ fn open_gate(
         }
         i += 1;
     }
-    Linearized::Done(now)
+    Linearized::Done(position)
 }

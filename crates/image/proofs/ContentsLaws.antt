@@ -1,69 +1,96 @@
--- Counts that are cut past any image's length add up to the image exactly if the counts themselves do.
-use Prim.Native.Nat.{ℕ, _+_, _*_, _≤_, _<_, _^_, min}
+-- Counts that are capped past any image's length add up to the image exactly if the counts themselves do.
+use Prim.Native.Nat.{ℕ, _+_, _≤_, min}
 use native.Mathlib.Omega.{arith}
+use native.Mathlib.Nat.{add-zero}
 use mathlib.Core.Path.{_≡_, _∙_}
-use mathlib.Core.List.{List}
+use mathlib.Core.List.{List, [], _∷_}
 use lib.ListN.{length}
-use Rattle.model.specs.Image.{word, expressions, expressionAt}
+use Rattle.model.specs.Image.{word, gates, expressions, expressionAt}
+use Rattle.image.specs.declared.Layout.{Layout}
+use Rattle.image.specs.Layout.{contentsWith, Small, WithinLimits, LayoutOf, CappedCounts}
 
-abbrev cut : ℕ → ℕ
-cut n = min n 8193
+uncapped : (n : ℕ) → min n 8193 ≤ 8192 → min n 8193 ≡ n
+uncapped n h = omega arith
 
-uncut : (n : ℕ) → cut n ≤ 8192 → cut n ≡ n
-uncut n h = omega arith
-
-small : (n : ℕ) → n ≤ 8192 → cut n ≡ n
+small : (n : ℕ) → n ≤ 8192 → min n 8193 ≡ n
 small n h = omega arith
 
-abbrev pub totalOf : ℕ → ℕ → ℕ → ℕ → ℕ → ℕ → ℕ → ℕ
-totalOf q c g s a p e = 9 + q + c + 5 * g + 5 * s + 2 * a + p + 3 * e
-
-module _ (image : List ℕ) (q c g m s a p e : ℕ)
-    (eq : q ≡ cut (word image 1)) (ec : c ≡ cut (word image 2)) (eg : g ≡ cut (word image 3)) (em : m ≡ cut (word image 4))
-    (es : s ≡ m + cut (word image 5)) (ea : a ≡ cut (word image 6)) (ep : p ≡ cut (word image 7)) (ee : e ≡ cut (word image 8)) where
-  pub record Counts : Type 0 where
-    pub q-is : q ≡ word image 1
-    pub c-is : c ≡ word image 2
-    pub g-is : g ≡ word image 3
-    pub m-is : m ≡ word image 4
-    pub s-is : s ≡ word image 4 + word image 5
-    pub a-is : a ≡ word image 6
-    pub p-is : p ≡ word image 7
-    pub e-is : e ≡ word image 8
-
-  -- where the cut counts add up to no more than an image, none was cut
-  counts-of : (n : ℕ) → n ≤ 8192 → totalOf q c g s a p e ≡ n → Counts
-  counts-of n h t =
-      record {
-        q-is = eq ∙ uncut (word image 1) (omega arith);
-        c-is = ec ∙ uncut (word image 2) (omega arith);
-        g-is = eg ∙ uncut (word image 3) (omega arith);
-        m-is = em ∙ uncut (word image 4) (omega arith);
-        s-is = es ∙ plus (em ∙ uncut (word image 4) (omega arith)) (uncut (word image 5) (omega arith));
-        a-is = ea ∙ uncut (word image 6) (omega arith);
-        p-is = ep ∙ uncut (word image 7) (omega arith);
-        e-is = ee ∙ uncut (word image 8) (omega arith);
-      }
-    where
-      plus : {x y z w : ℕ} → x ≡ y → z ≡ w → x + z ≡ y + w
-      plus i j = cc
-
-  pub right : (n : ℕ) → n ≡ length image → n ≤ 8192 → totalOf q c g s a p e ≡ n → Counts × (expressionAt image (expressions image) ≡ length image)
-  right n l h t = let k = counts-of n h t in (k, omega arith)
-
-  pub wrong : length image ≤ 8192 → ¬ (totalOf q c g s a p e ≡ length image) → ¬ (expressionAt image (expressions image) ≡ length image)
-  wrong h t r =
-      t (omega (arith, small (word image 1) (omega arith), small (word image 2) (omega arith), small (word image 3) (omega arith), small (word image 4) (omega arith), small (word image 5) (omega arith), small (word image 6) (omega arith), small (word image 7) (omega arith), small (word image 8) (omega arith)))
-
--- ---- sums of cut counts fit
-pub bound : (n r : ℕ) → r ≡ cut n → r ≤ 8193
+bound : (n r : ℕ) → r ≡ min n 8193 → r ≤ 8193
 bound n r e = omega arith
 
-pub most-fit : (q c g m f a p : ℕ) → q ≤ 8193 → c ≤ 8193 → g ≤ 8193 → m ≤ 8193 → f ≤ 8193 → a ≤ 8193 → p ≤ 8193 → 9 + q + c + 5 * g + 5 * (m + f) + 2 * a + p < 2 ^ 20
-most-fit q c g m f a p h1 h2 h3 h4 h5 h6 h7 = omega arith
+plus : {x y z w : ℕ} → x ≡ y → z ≡ w → x + z ≡ y + w
+plus i j = cc
 
-pub all-fit : (q c g m f a p e : ℕ) → q ≤ 8193 → c ≤ 8193 → g ≤ 8193 → m ≤ 8193 → f ≤ 8193 → a ≤ 8193 → p ≤ 8193 → e ≤ 8193 → 9 + q + c + 5 * g + 5 * (m + f) + 2 * a + p + 3 * e < 2 ^ 20
-all-fit q c g m f a p e h1 h2 h3 h4 h5 h6 h7 h8 = omega arith
+module _ (image : List ℕ) (l : Layout) (c : CappedCounts image l) where
+  -- capped counts are within the limits
+  pub capped-limits : WithinLimits l
+  capped-limits =
+      record {
+        small =
+            λ e h. go e (bound _ _ (c .quantum-registers-is)) (bound _ _ (c .classical-registers-is)) (bound _ _ (c .gates-is))
+            (bound _ _ (c .arguments-is)) (bound _ _ (c .parameters-is)) (omega (arith, h, bound (word image 8) _ (c .expressions-is)));
+      }
+    where
+      statements : l .statements ≤ 16386
+      statements = omega (arith, c .statements-is)
 
-pub fits-64 : (n : ℕ) → n < 2 ^ 20 → n < 2 ^ 64
-fits-64 n h = omega arith
+      go : {q k g a p : ℕ} (e : ℕ) → q ≤ 8193 → k ≤ 8193 → g ≤ 8193 → a ≤ 8193 → p ≤ 8193 → e ≤ 8193 → Small (expressionAt (0 ∷ q ∷ k ∷ g ∷ l .statements ∷ 0 ∷ a ∷ p ∷ []) e)
+      go e h1 h2 h3 h4 h5 h6 = omega (arith, statements)
+
+  -- where the capped counts add up to no more than an image, none was capped
+  module _ (n : ℕ) (h : n ≤ 8192) (t : expressionAt (contentsWith l) (l .expressions) ≡ n) where
+    quantum-are : l .«quantum_registers» ≡ word image 1
+    quantum-are = c .quantum-registers-is ∙ uncapped (word image 1) (omega (arith, c .quantum-registers-is))
+
+    classical-are : l .«classical_registers» ≡ word image 2
+    classical-are = c .classical-registers-is ∙ uncapped (word image 2) (omega (arith, c .classical-registers-is))
+
+    pub gates-are : l .gates ≡ gates image
+    gates-are = c .gates-is ∙ uncapped (word image 3) (omega (arith, c .gates-is))
+
+    main-are : l .«main_statements» ≡ word image 4
+    main-are = c .main-statements-is ∙ uncapped (word image 4) (omega (arith, c .main-statements-is, c .statements-is))
+
+    statements-are : l .statements ≡ word image 4 + word image 5
+    statements-are = c .statements-is ∙ plus (uncapped (word image 4) (omega (arith, c .main-statements-is, c .statements-is))) (uncapped (word image 5) (omega (arith, c .statements-is)))
+
+    arguments-are : l .arguments ≡ word image 6
+    arguments-are = c .arguments-is ∙ uncapped (word image 6) (omega (arith, c .arguments-is))
+
+    parameters-are : l .parameters ≡ word image 7
+    parameters-are = c .parameters-is ∙ uncapped (word image 7) (omega (arith, c .parameters-is))
+
+    expressions-are : l .expressions ≡ word image 8
+    expressions-are = c .expressions-is ∙ uncapped (word image 8) (omega (arith, c .expressions-is))
+
+    pub whole-is : expressionAt image (expressions image) ≡ n
+    whole-is = omega (arith, quantum-are, classical-are, gates-are, statements-are, arguments-are, parameters-are, expressions-are)
+
+    pub adds-up : n ≡ length image → l .gates ≤ 128 → LayoutOf image l
+    adds-up e few =
+        record {
+          quantum-registers-is = quantum-are;
+          classical-registers-is = classical-are;
+          gates-is = gates-are;
+          main-statements-is = main-are;
+          statements-is = statements-are;
+          arguments-is = arguments-are;
+          parameters-is = parameters-are;
+          expressions-is = expressions-are;
+          whole = whole-is ∙ e;
+          short = omega (arith, e, h);
+          few-gates = omega (arith, gates-are, few);
+          limits = capped-limits;
+        }
+
+  -- where the image is as long as its counts say, it is so by the capped ones
+  pub adds-up-capped : length image ≤ 8192 → expressionAt image (expressions image) ≡ length image → expressionAt (contentsWith l) (l .expressions) ≡ length image
+  adds-up-capped h r =
+      go (c .quantum-registers-is ∙ small (word image 1) (omega arith)) (c .classical-registers-is ∙ small (word image 2) (omega arith))
+      (c .gates-is ∙ small (word image 3) (omega arith))
+      (c .statements-is ∙ plus (small (word image 4) (omega arith)) (small (word image 5) (omega arith)))
+      (c .arguments-is ∙ small (word image 6) (omega arith)) (c .parameters-is ∙ small (word image 7) (omega arith)) (c .expressions-is ∙ small (word image 8) (omega arith))
+    where
+      go : {q k g s a p e : ℕ} → q ≡ word image 1 → k ≡ word image 2 → g ≡ word image 3 → s ≡ word image 4 + word image 5 → a ≡ word image 6 → p ≡ word image 7 → e ≡ word image 8
+          → expressionAt (0 ∷ q ∷ k ∷ g ∷ s ∷ 0 ∷ a ∷ p ∷ e ∷ []) e ≡ length image
+      go {s = s} e1 e2 e3 e4 e5 e6 e7 = rw (add-zero s, e1, e2, e3, e4, e5, e6, e7) r

@@ -1,5 +1,7 @@
+pub mod ArgumentSizeLaws
 pub mod ContentsLaws
-pub mod FirstLaws
 pub mod KindLaws
-pub mod SizeLaws
-pub mod SpanLaws
+pub mod PlaceLaws
+pub mod QubitsLaws
+pub mod RegisterStartsLaws
+pub mod StatementsOfLaws

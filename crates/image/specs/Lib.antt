@@ -1,3 +1,3 @@
 pub mod Answer
-pub mod Firsts
 pub mod Layout
+pub mod RegisterStarts

@@ -1,42 +1,124 @@
-// Reads a program image: its words and counts, where its entries stand, sizes, and the statements of a scope.
+// The program image: the widths and limits of its format, its counts, where its entries stand, sizes, the statements of a scope, and what the check answers.
 ghost use mathlib.Core.Path.{_≡_};
 ghost use mathlib.Core.List.{map};
 ghost use lib.ListN.{length, set};
 ghost use Prim.Native.Nat.{_+_, _<_, _≤_, min, max};
 ghost use Rattle.model.specs.Lists.{range, sum};
-ghost use Rattle.model.specs.Image.{word, gateAt, statementAt, argumentAt, parameterAt, expressionAt, argumentSize, classicalArgumentSize, rounds};
-ghost use Rattle.image.specs.Answer.{answerFlaw, numberIn, placeIn};
-ghost use Rattle.image.specs.Layout.{LayoutOf, ReadAs, GatesAccepted, StatementsOf};
-ghost use Rattle.image.specs.Firsts.{RegisterStarts};
+ghost use Rattle.model.specs.Image.{word, quantumRegisterAt, classicalRegisterAt, gateAt, statementAt, argumentAt, parameterAt, expressionAt, argumentSize, classicalArgumentSize, rounds};
+ghost use Rattle.image.specs.Answer.{refusalFlaw, answerFlaw, numberIn, placeIn};
+ghost use Rattle.image.specs.Layout.{CappedCounts, LayoutOf, WithinLimits, Small, SmallPlace, PlaceIs, ReadAs, GatesAccepted, StatementsOf};
+ghost use Rattle.image.specs.RegisterStarts.{RegisterStarts};
 
-// The counts of an image.
+// The numbers of refusals.
+pub mod refusal;
+
+// ---- the format
+
+// The words of the contents: the length and eight counts.
+pub const CONTENTS_WORDS: u64 = 9;
+
+// The words of an entry of each list.
+pub const REGISTER_WORDS: u64 = 1;
+
+pub const GATE_WORDS: u64 = 5;
+
+pub const STATEMENT_WORDS: u64 = 5;
+
+pub const ARGUMENT_WORDS: u64 = 2;
+
+pub const PARAMETER_WORDS: u64 = 1;
+
+pub const EXPRESSION_WORDS: u64 = 3;
+
+// The most words of an image.
+pub const MOST_WORDS: u64 = 8192;
+
+// The most gates of an image.
+pub const MOST_GATES: u64 = 128;
+
+// The most parameters, and the most arguments, of a gate.
+pub const MOST_PARAMETERS: u64 = 16;
+
+pub const MOST_ARGUMENTS: u64 = 16;
+
+// The most levels of an expression.
+pub const MOST_LEVELS: u64 = 32;
+
+// The most qubits of all quantum registers, and the most bits of all classical ones.
+pub const MOST_ELEMENTS: u64 = 4096;
+
+// No image has room for more expressions.
+pub const MOST_EXPRESSIONS: usize = ((MOST_WORDS - CONTENTS_WORDS) / EXPRESSION_WORDS) as usize;
+
+// ---- the counts
+
+// The counts of an image; its statements are main's and the further ones.
 pub struct Layout {
-    pub quantum: u64,
-    pub classical: u64,
+    pub quantum_registers: u64,
+    pub classical_registers: u64,
     pub gates: u64,
-    pub main: u64,
-    pub all: u64,
+    pub main_statements: u64,
+    pub statements: u64,
     pub arguments: u64,
     pub parameters: u64,
     pub expressions: u64,
 }
 
-pub enum Contents {
-    Right(Layout),
-    Wrong,
+// Where the entry of a number stands in an image with these counts. Each list follows the one before it.
+impl Layout {
+    pub fn quantum_register_at(self, r: u64) -> u64
+        requires { ⌜ WithinLimits self × Small r ⌝ }
+        ensures { λ at. ⌜ PlaceIs self quantumRegisterAt r at ⌝ }
+    {
+        CONTENTS_WORDS + REGISTER_WORDS * r
+    }
+
+    pub fn classical_register_at(self, r: u64) -> u64
+        requires { ⌜ WithinLimits self × Small r ⌝ }
+        ensures { λ at. ⌜ PlaceIs self classicalRegisterAt r at ⌝ }
+    {
+        self.quantum_register_at(self.quantum_registers) + REGISTER_WORDS * r
+    }
+
+    pub fn gate_at(self, g: u64) -> u64
+        requires { ⌜ WithinLimits self × Small g ⌝ }
+        ensures { λ at. ⌜ PlaceIs self gateAt g at ⌝ }
+    {
+        self.classical_register_at(self.classical_registers) + GATE_WORDS * g
+    }
+
+    pub fn statement_at(self, s: u64) -> u64
+        requires { ⌜ WithinLimits self × Small s ⌝ }
+        ensures { λ at. ⌜ PlaceIs self statementAt s at ⌝ }
+    {
+        self.gate_at(self.gates) + STATEMENT_WORDS * s
+    }
+
+    pub fn argument_at(self, a: u64) -> u64
+        requires { ⌜ WithinLimits self × Small a ⌝ }
+        ensures { λ at. ⌜ PlaceIs self argumentAt a at ⌝ }
+    {
+        self.statement_at(self.statements) + ARGUMENT_WORDS * a
+    }
+
+    pub fn parameter_at(self, p: u64) -> u64
+        requires { ⌜ WithinLimits self × Small p ⌝ }
+        ensures { λ at. ⌜ PlaceIs self parameterAt p at ⌝ }
+    {
+        self.argument_at(self.arguments) + PARAMETER_WORDS * p
+    }
+
+    pub fn expression_at(self, e: u64) -> u64
+        requires { ⌜ WithinLimits self × Small e ⌝ }
+        ensures { λ at. ⌜ PlaceIs self expressionAt e at ⌝ }
+    {
+        self.parameter_at(self.parameters) + EXPRESSION_WORDS * e
+    }
 }
 
-// What the check answers, with the place of what is wrong.
-pub enum CheckAnswer {
-    Accepted,
-    Contents,
-    Register(u64),
-    GateEntry(u64),
-    Form(u64),
-    Argument(u64),
-    Expression(u64),
-    Sizes(u64),
-    Upward(u64),
+pub enum Contents {
+    AddUp(Layout),
+    DoNotAddUp,
 }
 
 // The word at a place, 0 past the end.
@@ -58,12 +140,29 @@ pub fn word_after(image: &[u64], place: u64, i: u64) -> u64
     }
 }
 
-// A count of the contents, cut where it passes any image's length.
+// A count of the contents, capped where it passes any image's length.
 fn count(image: &[u64], place: u64) -> u64
     ensures { λ r. ⌜ r ≡ min (word (now (image .entry)) place) 8193 ⌝ }
 {
     let n = word(image, place);
-    if n < 8193 { n } else { 8193 }
+    if n <= MOST_WORDS { n } else { MOST_WORDS + 1 }
+}
+
+// The counts as they stand in the contents, each capped.
+fn counts(image: &[u64]) -> Layout
+    ensures { λ r. ⌜ CappedCounts (now (image .entry)) r ⌝ }
+{
+    let main = count(image, 4);
+    Layout {
+        quantum_registers: count(image, 1),
+        classical_registers: count(image, 2),
+        gates: count(image, 3),
+        main_statements: main,
+        statements: main + count(image, 5),
+        arguments: count(image, 6),
+        parameters: count(image, 7),
+        expressions: count(image, 8),
+    }
 }
 
 // The counts, if they add up to the image.
@@ -71,55 +170,33 @@ pub fn read_contents(image: &[u64]) -> Contents
     ensures { λ r. ⌜ ReadAs (now (image .entry)) r ⌝ }
 {
     let n = image.len() as u64;
-    let quantum = count(image, 1);
-    let classical = count(image, 2);
-    let gates = count(image, 3);
-    let main = count(image, 4);
-    let all = main + count(image, 5);
-    let arguments = count(image, 6);
-    let parameters = count(image, 7);
-    let expressions = count(image, 8);
-    let total = 9
-        + quantum
-        + classical
-        + 5 * gates
-        + 5 * all
-        + 2 * arguments
-        + parameters
-        + 3 * expressions;
-    if n < 9 {
-        return Contents::Wrong;
+    if n < CONTENTS_WORDS {
+        return Contents::DoNotAddUp;
     }
-    if 8192 < n {
-        return Contents::Wrong;
+    if MOST_WORDS < n {
+        return Contents::DoNotAddUp;
     }
     if word(image, 0) != n {
-        return Contents::Wrong;
+        return Contents::DoNotAddUp;
     }
-    if total != n {
-        return Contents::Wrong;
+    let l = counts(image);
+    if l.expression_at(l.expressions) != n {
+        return Contents::DoNotAddUp;
     }
-    if 128 < gates {
-        return Contents::Wrong;
+    if MOST_GATES < l.gates {
+        return Contents::DoNotAddUp;
     }
-    Contents::Right(Layout {
-        quantum,
-        classical,
-        gates,
-        main,
-        all,
-        arguments,
-        parameters,
-        expressions,
-    })
+    Contents::AddUp(l)
 }
+
+// ---- places, for callers that still hand in the image
 
 // The place of a gate entry.
 pub fn gate_at(image: &[u64], l: Layout, g: u64) -> u64
     requires { ⌜ LayoutOf (now image) l × (g ≤ 8192) ⌝ }
     ensures { λ r. ⌜ r ≡ gateAt (now (image .entry)) g ⌝ }
 {
-    9 + l.quantum + l.classical + 5 * g
+    l.gate_at(g)
 }
 
 // The place of a statement.
@@ -127,7 +204,7 @@ pub fn statement_at(image: &[u64], l: Layout, s: u64) -> u64
     requires { ⌜ LayoutOf (now image) l × (s ≤ 8192) ⌝ }
     ensures { λ r. ⌜ r ≡ statementAt (now (image .entry)) s ⌝ }
 {
-    9 + l.quantum + l.classical + 5 * l.gates + 5 * s
+    l.statement_at(s)
 }
 
 // The place of an argument.
@@ -135,7 +212,7 @@ pub fn argument_at(image: &[u64], l: Layout, a: u64) -> u64
     requires { ⌜ LayoutOf (now image) l × (a ≤ 8192) ⌝ }
     ensures { λ r. ⌜ r ≡ argumentAt (now (image .entry)) a ⌝ }
 {
-    9 + l.quantum + l.classical + 5 * l.gates + 5 * l.all + 2 * a
+    l.argument_at(a)
 }
 
 // The place of a parameter.
@@ -143,7 +220,7 @@ pub fn parameter_at(image: &[u64], l: Layout, p: u64) -> u64
     requires { ⌜ LayoutOf (now image) l × (p ≤ 8192) ⌝ }
     ensures { λ r. ⌜ r ≡ parameterAt (now (image .entry)) p ⌝ }
 {
-    9 + l.quantum + l.classical + 5 * l.gates + 5 * l.all + 2 * l.arguments + p
+    l.parameter_at(p)
 }
 
 // The place of an expression.
@@ -151,20 +228,20 @@ pub fn expression_at(image: &[u64], l: Layout, e: u64) -> u64
     requires { ⌜ LayoutOf (now image) l × (e ≤ 8192) ⌝ }
     ensures { λ r. ⌜ r ≡ expressionAt (now (image .entry)) e ⌝ }
 {
-    9 + l.quantum + l.classical + 5 * l.gates + 5 * l.all + 2 * l.arguments + l.parameters + 3 * e
+    l.expression_at(e)
 }
 
 // ---- tables
 
-// Stores an entry of a table. Other crates use it too.
-pub fn put(table: &mut [u64], i: usize, x: u64)
+// Stores a word of a table.
+pub fn store(table: &mut [u64], i: usize, x: u64)
     requires { ⌜ i < length (now table) ⌝ }
     ensures { λ r. ⌜ now (table .exit) ≡ set (now (table .entry)) i x ⌝ }
 {
     table[i] = x;
 }
 
-// Where each of n registers starts whose sizes stand from a place on: their first qubits, or bits, in one pass.
+// Where each of n registers starts whose sizes stand from a place on: the first qubit, or bit, of each in one pass.
 pub fn first_of_each(image: &[u64], at: u64, n: u64, firsts: &mut [u64])
     requires { ⌜ (at ≤ 16384) × (n ≤ length (now firsts)) × (sum (map (λ i. word (now image) (at + i)) (range 0 n)) ≤ 4096) ⌝ }
     ensures { λ r. ⌜ RegisterStarts (λ i. word (now (image .entry)) (at + i)) n (now (firsts .exit)) ⌝ }
@@ -172,7 +249,7 @@ pub fn first_of_each(image: &[u64], at: u64, n: u64, firsts: &mut [u64])
     let mut total = 0u64;
     let mut r = 0u64;
     while r < n {
-        put(firsts, r as usize, total);
+        store(firsts, r as usize, total);
         total = total + word(image, at + r);
         r += 1;
     }
@@ -180,6 +257,21 @@ pub fn first_of_each(image: &[u64], at: u64, n: u64, firsts: &mut [u64])
 
 // ---- sizes
 
+// The sizes of n registers added up, which stand from a place on.
+pub fn size_in_all(image: &[u64], at: u64, n: u64) -> u64
+    requires { ⌜ SmallPlace at × (n ≤ 8192) × (sum (map (λ i. word (now image) (at + i)) (range 0 n)) ≤ 4096) ⌝ }
+    ensures { λ r. ⌜ r ≡ sum (map (λ i. word (now (image .entry)) (at + i)) (range 0 n)) ⌝ }
+{
+    let mut total = 0u64;
+    let mut r = 0u64;
+    while r < n {
+        total = total + word(image, at + r);
+        r += 1;
+    }
+    total
+}
+
+// The size of an argument: 1 for an index, and for a formal argument in a body; else its register's.
 pub fn argument_size(image: &[u64], l: Layout, scope: u64, a: u64) -> u64
     requires { ⌜ LayoutOf (now image) l × (a ≤ 8192) ⌝ }
     ensures { λ r. ⌜ r ≡ argumentSize (now (image .entry)) scope a ⌝ }
@@ -187,25 +279,26 @@ pub fn argument_size(image: &[u64], l: Layout, scope: u64, a: u64) -> u64
     if scope != 0 {
         return 1;
     }
-    let at = argument_at(image, l, a);
+    let at = l.argument_at(a);
     if word(image, at + 1) != 0 {
         return 1;
     }
-    word_after(image, 9, word(image, at))
+    word_after(image, l.quantum_register_at(0), word(image, at))
 }
 
+// The size of a classical argument, which main alone has.
 pub fn classical_argument_size(image: &[u64], l: Layout, a: u64) -> u64
     requires { ⌜ LayoutOf (now image) l × (a ≤ 8192) ⌝ }
     ensures { λ r. ⌜ r ≡ classicalArgumentSize (now (image .entry)) a ⌝ }
 {
-    let at = argument_at(image, l, a);
+    let at = l.argument_at(a);
     if word(image, at + 1) != 0 {
         return 1;
     }
-    word_after(image, 9 + l.quantum, word(image, at))
+    word_after(image, l.classical_register_at(0), word(image, at))
 }
 
-// The larger of two numbers. Other crates use it too.
+// The larger of two numbers.
 pub fn larger(x: u64, y: u64) -> u64
     ensures { λ r. ⌜ r ≡ max x y ⌝ }
 {
@@ -245,10 +338,10 @@ pub fn statements_of(image: &[u64], l: Layout, scope: u64) -> Span
     if scope == 0 {
         return Span {
             first: 0,
-            count: l.main,
+            count: l.main_statements,
         };
     }
-    let at = gate_at(image, l, scope - 1);
+    let at = l.gate_at(scope - 1);
     let first = word(image, at + 3);
     let count = word(image, at + 4);
     Span { first, count }
@@ -256,20 +349,63 @@ pub fn statements_of(image: &[u64], l: Layout, scope: u64) -> Span
 
 // ---- answers
 
+// Why the check refuses an image, with the place of what is wrong.
+pub enum CheckRefusal {
+    Contents,
+    Register(u64),
+    GateEntry(u64),
+    Form(u64),
+    Argument(u64),
+    Expression(u64),
+    Sizes(u64),
+    Upward(u64),
+}
+
+// What the check answers.
+pub enum CheckAnswer {
+    Accepted,
+    Refused(CheckRefusal),
+}
+
+// The number of a refusal.
+pub fn refusal_number(refused: CheckRefusal) -> u64
+    ensures { λ r. ⌜ r ≡ numberIn (refusalFlaw refused) ⌝ }
+{
+    match refused {
+        CheckRefusal::Contents => refusal::CONTENTS,
+        CheckRefusal::Register(_) => refusal::REGISTER,
+        CheckRefusal::GateEntry(_) => refusal::GATE_ENTRY,
+        CheckRefusal::Form(_) => refusal::FORM,
+        CheckRefusal::Argument(_) => refusal::ARGUMENT,
+        CheckRefusal::Expression(_) => refusal::EXPRESSION,
+        CheckRefusal::Sizes(_) => refusal::SIZES,
+        CheckRefusal::Upward(_) => refusal::UPWARD,
+    }
+}
+
+// The place of a refusal; 0 where the whole image is refused.
+pub fn refusal_place(refused: CheckRefusal) -> u64
+    ensures { λ r. ⌜ r ≡ placeIn (refusalFlaw refused) ⌝ }
+{
+    match refused {
+        CheckRefusal::Contents => 0,
+        CheckRefusal::Register(place) => place,
+        CheckRefusal::GateEntry(place) => place,
+        CheckRefusal::Form(place) => place,
+        CheckRefusal::Argument(place) => place,
+        CheckRefusal::Expression(place) => place,
+        CheckRefusal::Sizes(place) => place,
+        CheckRefusal::Upward(place) => place,
+    }
+}
+
 // The number of an answer; 0 is an accepted image.
 pub fn number_of(answer: CheckAnswer) -> u64
     ensures { λ r. ⌜ r ≡ numberIn (answerFlaw answer) ⌝ }
 {
     match answer {
         CheckAnswer::Accepted => 0,
-        CheckAnswer::Contents => 1,
-        CheckAnswer::Register(_) => 2,
-        CheckAnswer::GateEntry(_) => 3,
-        CheckAnswer::Form(_) => 4,
-        CheckAnswer::Argument(_) => 5,
-        CheckAnswer::Expression(_) => 6,
-        CheckAnswer::Sizes(_) => 7,
-        CheckAnswer::Upward(_) => 8,
+        CheckAnswer::Refused(refused) => refusal_number(refused),
     }
 }
 
@@ -279,13 +415,6 @@ pub fn place_of(answer: CheckAnswer) -> u64
 {
     match answer {
         CheckAnswer::Accepted => 0,
-        CheckAnswer::Contents => 0,
-        CheckAnswer::Register(place) => place,
-        CheckAnswer::GateEntry(place) => place,
-        CheckAnswer::Form(place) => place,
-        CheckAnswer::Argument(place) => place,
-        CheckAnswer::Expression(place) => place,
-        CheckAnswer::Sizes(place) => place,
-        CheckAnswer::Upward(place) => place,
+        CheckAnswer::Refused(refused) => refusal_place(refused),
     }
 }

@@ -53,8 +53,8 @@ module _ (image : List ℕ) where
   flaw-plain scope s k a b c d e z h = rw e ((rw e at h) ∙ any-if (conditionalFlaw image scope s) scope s k a b c d z)
 
   -- what an if may hold
-  pub held-told : (t : ℕ) {r : Bool} {x : Statement} → statement image t ≡ x → r ≡ inConditional image x → r ≡ inConditional image (statement image t)
-  held-told t e h = rw e h
+  pub allowed-is : (t : ℕ) {r : Bool} {x : Statement} → statement image t ≡ x → r ≡ inConditional image x → r ≡ inConditional image (statement image t)
+  allowed-is t e h = rw e h
 
   kinds : (k a b c d : ℕ) → inConditional image (statementOf k a b c d) ≡ (ltb 0 k && (ltb k 7 && not (eqb k 4)))
   unfolding inConditional statementOf
@@ -70,17 +70,17 @@ module _ (image : List ℕ) where
       let n = suc (suc (suc (suc (suc (suc (suc (suc k))))))) in
       sym (rw (lt-ltb 0 n (omega arith), le-ltb n 7 (omega arith)) refl)
 
-  pub held-yes : (k a b c d : ℕ) → 1 ≤ k → k < 7 → ¬ (k ≡ 4) → true ≡ inConditional image (statementOf k a b c d)
-  held-yes k a b c d h j n = sym (kinds k a b c d ∙ rw (lt-ltb 0 k h, lt-ltb k 7 j, ne-eqb k 4 n) refl)
+  pub allowed-kinds : (k a b c d : ℕ) → 1 ≤ k → k < 7 → ¬ (k ≡ 4) → true ≡ inConditional image (statementOf k a b c d)
+  allowed-kinds k a b c d h j n = sym (kinds k a b c d ∙ rw (lt-ltb 0 k h, lt-ltb k 7 j, ne-eqb k 4 n) refl)
 
-  pub held-none : (k a b c d : ℕ) → k < 1 → false ≡ inConditional image (statementOf k a b c d)
-  held-none k a b c d h = sym (kinds k a b c d ∙ rw (le-ltb 0 k (omega arith)) refl)
+  pub allowed-none : (k a b c d : ℕ) → k < 1 → false ≡ inConditional image (statementOf k a b c d)
+  allowed-none k a b c d h = sym (kinds k a b c d ∙ rw (le-ltb 0 k (omega arith)) refl)
 
-  pub held-barrier : (k a b c d : ℕ) → k ≡ 4 → false ≡ inConditional image (statementOf k a b c d)
-  held-barrier k a b c d e = sym (kinds k a b c d ∙ rw e refl)
+  pub allowed-barrier : (k a b c d : ℕ) → k ≡ 4 → false ≡ inConditional image (statementOf k a b c d)
+  allowed-barrier k a b c d e = sym (kinds k a b c d ∙ rw e refl)
 
-  pub held-not : (k a b c d : ℕ) → 7 ≤ k → false ≡ inConditional image (statementOf k a b c d)
-  held-not k a b c d h = sym (kinds k a b c d ∙ rw (lt-ltb 0 k (omega arith), le-ltb k 7 h) refl)
+  pub allowed-not : (k a b c d : ℕ) → 7 ≤ k → false ≡ inConditional image (statementOf k a b c d)
+  allowed-not k a b c d h = sym (kinds k a b c d ∙ rw (lt-ltb 0 k (omega arith), le-ltb k 7 h) refl)
 
   -- an if by its own test
   pub if-wrong : (scope s r v t : ℕ) → conditionalOk image scope s r t ≡ false → 4 ≡ conditionalFlaw image scope s r v t

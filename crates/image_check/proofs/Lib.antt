@@ -1,8 +1,8 @@
-pub mod AnswerLaws
-pub mod CallLaws
-pub mod CheckParts
+pub mod CallFitsLaws
+pub mod CheckLaws
+pub mod FirstBadLaws
+pub mod FirstOfLaws
 pub mod FlawLaws
+pub mod FlawOfLaws
 pub mod NumberLaws
-pub mod OrderLaws
 pub mod ScopeLaws
-pub mod TestLaws

@@ -11,9 +11,9 @@ use Rattle.image.specs.Layout.{LayoutOf, GatesAccepted}
 use Rattle.image_entries.specs.Judging.{JudgementTables}
 
 -- what is known where the statements of a scope are judged
-pub record CheckContext (image : List ℕ) (l : Layout) (levels reaches : List ℕ) (scope : ℕ) : Type 0 where
+pub record CheckContext (image : List ℕ) (l : Layout) (levels variable-counts : List ℕ) (scope : ℕ) : Type 0 where
   pub laid : LayoutOf image l
-  pub judged : JudgementTables image (l .expressions) levels reaches
+  pub judged : JudgementTables image (l .expressions) levels variable-counts
   pub gated : GatesAccepted image
   pub within : scope ≤ l .gates
 

@@ -1,5 +1,5 @@
-pub mod ArgumentLaws
-pub mod ExpressionLaws
-pub mod MatchLaws
-pub mod RegisterLaws
-pub mod RunLaws
+pub mod ArgumentOkLaws
+pub mod JudgementLaws
+pub mod MatchingLaws
+pub mod RegisterFlawLaws
+pub mod UnusedLaws

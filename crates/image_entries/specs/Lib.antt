@@ -1,2 +1,2 @@
-pub mod Faults
+pub mod Flaws
 pub mod Judging

@@ -1,5 +1,6 @@
 // Judges the entries of a program image: registers, gates, expressions and arguments.
 use image::Layout;
+use image::refusal;
 ghost use mathlib.Core.Path.{_≡_};
 ghost use mathlib.Core.Bool.{false, cond, _&&_, _||_};
 ghost use mathlib.Core.List.{[], _∷_, map};
@@ -9,20 +10,20 @@ ghost use Prim.Native.Nat.{_+_, _-_, _<_, _≤_, suc};
 ghost use Rattle.model.specs.Lists.{range, every, all};
 ghost use Rattle.model.specs.Image.{word, parameter, variables, argumentSize};
 ghost use Rattle.model.specs.Check.{firstBad, gateOk, expressionOk, argumentOk, classicalArgumentOk, unused, matching, gateEntries};
-ghost use Rattle.image.specs.Layout.{LayoutOf};
-ghost use Rattle.image_entries.specs.Faults.{verdictOfFault, registerFlaw};
+ghost use Rattle.image.specs.Layout.{LayoutOf, SmallPlace};
+ghost use Rattle.image_entries.specs.Flaws.{flawOf, registerFlaw, bodyWordsOk};
 ghost use Rattle.image_entries.specs.Judging.{accepts, JudgementTables, leafFits, wordsOk, JudgementIs};
 
-// A number of document 01 with its place; number 0 is nothing wrong.
-pub struct Fault {
+// What is wrong with an image: a number of document 01 with its place. Number 0 is nothing wrong.
+pub struct Flaw {
     pub number: u64,
     pub place: u64,
 }
 
-// The levels of an expression, 0 if they pass 32 or no scope may have it, and one more than its largest variable.
+// The levels of an expression, 0 if they pass the limit or no scope may have it, and how many variables it needs: one more than its largest.
 pub struct Judgement {
     pub level: u64,
-    pub reach: u64,
+    pub variables: u64,
 }
 
 // Whether n entries from a on lie in a list of m.
@@ -35,43 +36,43 @@ pub fn fits(a: u64, n: u64, m: u64) -> bool
 // ---- registers and gates
 
 // The first bad register of a list: one of size 0, or one that passes the limit in all.
-pub fn register_fault(image: &[u64], at: u64, n: u64) -> Fault
-    requires { ⌜ (at ≤ 16384) × (n ≤ 8192) ⌝ }
-    ensures { λ r. ⌜ verdictOfFault r ≡ firstBad (registerFlaw (λ i. word (now (image .entry)) (at + i))) (λ i. at + i) (range 0 n) ⌝ }
+pub fn first_bad_register(image: &[u64], at: u64, n: u64) -> Flaw
+    requires { ⌜ SmallPlace at × (n ≤ 8192) ⌝ }
+    ensures { λ r. ⌜ flawOf r ≡ firstBad (registerFlaw (λ i. word (now (image .entry)) (at + i))) (λ i. at + i) (range 0 n) ⌝ }
 {
     let mut total = 0u64;
     let mut i = 0u64;
     while i < n {
         let size = image::word(image, at + i);
         if size == 0 {
-            return Fault {
-                number: 2,
+            return Flaw {
+                number: refusal::REGISTER,
                 place: at + i,
             };
         }
-        if 4096 - total < size {
-            return Fault {
-                number: 2,
+        if image::MOST_ELEMENTS - total < size {
+            return Flaw {
+                number: refusal::REGISTER,
                 place: at + i,
             };
         }
         total = total + size;
         i += 1;
     }
-    Fault {
+    Flaw {
         number: 0,
         place: 0,
     }
 }
 
-// Whether a gate with these words is well formed: `all` statements, the further ones from `main` on.
-fn gate_words_ok(body: u64, start: u64, length: u64, main: u64, all: u64) -> bool
-    ensures { λ r. ⌜ r ≡ every (leb body 1 ∷ leb (start + length) all ∷ cond (eqb body 0) (every (eqb start 0 ∷ eqb length 0 ∷ [])) (eqb length 0 || leb main start) ∷ []) ⌝ }
+// Whether a body is as a gate entry's last three words say, where the further statements are those from `main` to below `statements`.
+fn body_words_ok(body: u64, start: u64, length: u64, main: u64, statements: u64) -> bool
+    ensures { λ r. ⌜ r ≡ bodyWordsOk body start length main statements ⌝ }
 {
     if 1 < body {
         return false;
     }
-    if fits(start, length, all) {
+    if fits(start, length, statements) {
         if body == 0 {
             if start == 0 {
                 return length == 0;
@@ -86,30 +87,31 @@ fn gate_words_ok(body: u64, start: u64, length: u64, main: u64, all: u64) -> boo
     false
 }
 
+// Whether gate entry g is well formed.
 fn gate_ok(image: &[u64], l: Layout, g: u64) -> bool
     requires { ⌜ LayoutOf (now image) l × (g < l .gates) ⌝ }
     ensures { λ r. ⌜ r ≡ gateOk (now (image .entry)) g ⌝ }
 {
-    let at = image::gate_at(image, l, g);
-    if 16 < image::word(image, at) {
+    let at = l.gate_at(g);
+    if image::MOST_PARAMETERS < image::word(image, at) {
         return false;
     }
-    if 16 < image::word(image, at + 1) {
+    if image::MOST_ARGUMENTS < image::word(image, at + 1) {
         return false;
     }
-    gate_words_ok(
+    body_words_ok(
         image::word(image, at + 2),
         image::word(image, at + 3),
         image::word(image, at + 4),
-        l.main,
-        l.all,
+        l.main_statements,
+        l.statements,
     )
 }
 
 // The first bad gate entry.
-pub fn gate_fault(image: &[u64], l: Layout) -> Fault
+pub fn first_bad_gate(image: &[u64], l: Layout) -> Flaw
     requires { ⌜ LayoutOf (now image) l ⌝ }
-    ensures { λ r. ⌜ verdictOfFault r ≡ gateEntries (now (image .entry)) ⌝ }
+    ensures { λ r. ⌜ flawOf r ≡ gateEntries (now (image .entry)) ⌝ }
 {
     let n = l.gates;
     let mut g = 0u64;
@@ -117,13 +119,13 @@ pub fn gate_fault(image: &[u64], l: Layout) -> Fault
         if gate_ok(image, l, g) {
             g += 1;
         } else {
-            return Fault {
-                number: 3,
-                place: image::gate_at(image, l, g),
+            return Flaw {
+                number: refusal::GATE_ENTRY,
+                place: l.gate_at(g),
             };
         }
     }
-    Fault {
+    Flaw {
         number: 0,
         place: 0,
     }
@@ -131,35 +133,44 @@ pub fn gate_fault(image: &[u64], l: Layout) -> Fault
 
 // ---- expressions
 
-// Whether a leaf of a kind may have the word a, with the 16 variables that a gate has at most; no other kind may.
+// The bits of a real are below this number.
+const REAL_LIMIT: u64 = 0x1_0000_0000;
+
+// Whether a leaf of a kind may have the word a, with as many variables as a gate has at most; no other kind may.
 fn leaf_fits(kind: u64, a: u64) -> bool
     ensures { λ r. ⌜ r ≡ leafFits 16 kind a ⌝ }
 {
     match kind {
         0 => a == 0,
-        1 => a < 4294967296,
+        1 => a < REAL_LIMIT,
         2 => true,
-        3 => a < 16,
+        3 => a < image::MOST_PARAMETERS,
         _ => false,
     }
 }
 
-// An entry of three words, none of which is an operand.
-fn leaf(kind: u64, a: u64, b: u64) -> Judgement
-    ensures { λ r. ⌜ JudgementIs (r .level) (r .reach) (λ v k. wordsOk kind a b v (λ i. false)) ⌝ }
+// Judges an entry of three words, none of which is an operand.
+fn judge_leaf(kind: u64, a: u64, b: u64) -> Judgement
+    ensures { λ r. ⌜ JudgementIs (r .level) (r .variables) (λ v k. wordsOk kind a b v (λ i. false)) ⌝ }
 {
     if b == 0 {
         if leaf_fits(kind, a) {
-            let reach = if kind == 3 { a + 1 } else { 0 };
-            return Judgement { level: 1, reach };
+            let variables = if kind == 3 { a + 1 } else { 0 };
+            return Judgement {
+                level: 1,
+                variables,
+            };
         }
     }
-    Judgement { level: 0, reach: 0 }
+    Judgement {
+        level: 0,
+        variables: 0,
+    }
 }
 
-// An entry over two operands.
-fn over(x: Judgement, y: Judgement) -> Judgement
-    ensures { λ r. ⌜ JudgementIs (r .level) (r .reach) (λ v k. accepts (x .level) (x .reach) v k && accepts (y .level) (y .reach) v k) ⌝ }
+// Judges an operation from its two operands.
+fn judge_operation(x: Judgement, y: Judgement) -> Judgement
+    ensures { λ r. ⌜ JudgementIs (r .level) (r .variables) (λ v k. accepts (x .level) (x .variables) v k && accepts (y .level) (y .variables) v k) ⌝ }
 {
     if x.level == 0 {
         return x;
@@ -168,113 +179,129 @@ fn over(x: Judgement, y: Judgement) -> Judgement
         return y;
     }
     let level = image::larger(x.level, y.level);
-    let reach = image::larger(x.reach, y.reach);
-    if level < 32 {
+    let variables = image::larger(x.variables, y.variables);
+    if level < image::MOST_LEVELS {
         Judgement {
             level: level + 1,
-            reach,
+            variables,
         }
     } else {
-        Judgement { level: 0, reach: 0 }
+        Judgement {
+            level: 0,
+            variables: 0,
+        }
     }
 }
 
-// Operand a of expression e, from the tables: not well formed unless it has a smaller number.
-fn operand(levels: &[u64], reaches: &[u64], e: u64, a: u64) -> Judgement
-    requires { ⌜ (e ≤ length (now levels)) × (e ≤ length (now reaches)) ⌝ }
-    ensures { λ r. ⌜ (r .level ≡ cond (ltb a e) (getD (now (levels .entry)) a 0) 0) × (r .reach ≡ cond (ltb a e) (getD (now (reaches .entry)) a 0) 0) ⌝ }
+// The judgement of operand a of expression e, from the tables: it is not well formed unless it has a smaller number.
+fn judged_operand(levels: &[u64], variables: &[u64], e: u64, a: u64) -> Judgement
+    requires { ⌜ (e ≤ length (now levels)) × (e ≤ length (now variables)) ⌝ }
+    ensures { λ r. ⌜ (r .level ≡ cond (ltb a e) (getD (now (levels .entry)) a 0) 0) × (r .variables ≡ cond (ltb a e) (getD (now (variables .entry)) a 0) 0) ⌝ }
 {
     if a < e {
         let i = a as usize;
         Judgement {
             level: levels[i],
-            reach: reaches[i],
+            variables: variables[i],
         }
     } else {
-        Judgement { level: 0, reach: 0 }
+        Judgement {
+            level: 0,
+            variables: 0,
+        }
     }
 }
 
-// Expression e, from the tables' entries of smaller numbers.
-fn judge(image: &[u64], l: Layout, levels: &[u64], reaches: &[u64], e: u64) -> Judgement
-    requires { ⌜ LayoutOf (now image) l × JudgementTables (now image) e (now levels) (now reaches) × (e < l .expressions) ⌝ }
-    ensures { λ r. ⌜ JudgementIs (r .level) (r .reach) (λ v k. expressionOk (now (image .entry)) v (suc k) e) ⌝ }
+// Judges expression e from the tables' entries of smaller numbers.
+fn judge_expression(
+    image: &[u64],
+    l: Layout,
+    levels: &[u64],
+    variables: &[u64],
+    e: u64,
+) -> Judgement
+    requires { ⌜ LayoutOf (now image) l × JudgementTables (now image) e (now levels) (now variables) × (e < l .expressions) ⌝ }
+    ensures { λ r. ⌜ JudgementIs (r .level) (r .variables) (λ v k. expressionOk (now (image .entry)) v (suc k) e) ⌝ }
 {
-    let at = image::expression_at(image, l, e);
+    let at = l.expression_at(e);
     let kind = image::word(image, at);
     let a = image::word(image, at + 1);
     let b = image::word(image, at + 2);
     if kind < 4 {
-        return leaf(kind, a, b);
+        return judge_leaf(kind, a, b);
     }
     if kind < 9 {
-        let x = operand(levels, reaches, e, a);
-        return over(x, operand(levels, reaches, e, b));
+        let x = judged_operand(levels, variables, e, a);
+        return judge_operation(x, judged_operand(levels, variables, e, b));
     }
     if kind < 16 {
         if b == 0 {
-            let x = operand(levels, reaches, e, a);
-            return over(x, x);
+            let x = judged_operand(levels, variables, e, a);
+            return judge_operation(x, x);
         }
     }
-    Judgement { level: 0, reach: 0 }
+    Judgement {
+        level: 0,
+        variables: 0,
+    }
 }
 
 // Judges each expression once, in ascending order: an operand has a smaller number than its user.
-pub fn judge_expressions(image: &[u64], l: Layout, levels: &mut [u64], reaches: &mut [u64])
-    requires { ⌜ LayoutOf (now image) l × (l .expressions ≤ length (now levels)) × (l .expressions ≤ length (now reaches)) ⌝ }
-    ensures { λ r. ⌜ JudgementTables (now (image .entry)) (l .expressions) (now (levels .exit)) (now (reaches .exit)) ⌝ }
+pub fn judge_expressions(image: &[u64], l: Layout, levels: &mut [u64], variables: &mut [u64])
+    requires { ⌜ LayoutOf (now image) l × (l .expressions ≤ length (now levels)) × (l .expressions ≤ length (now variables)) ⌝ }
+    ensures { λ r. ⌜ JudgementTables (now (image .entry)) (l .expressions) (now (levels .exit)) (now (variables .exit)) ⌝ }
 {
     let n = l.expressions;
     let mut e = 0u64;
     while e < n {
-        let j = judge(image, l, levels, reaches, e);
+        let j = judge_expression(image, l, levels, variables, e);
         let i = e as usize;
-        image::put(levels, i, j.level);
-        image::put(reaches, i, j.reach);
+        image::store(levels, i, j.level);
+        image::store(variables, i, j.variables);
         e += 1;
     }
 }
 
-// Whether expression e is well formed to 32 levels with v variables.
+// Whether expression e is well formed with v variables.
 pub fn expression_ok(
     image: &[u64],
     l: Layout,
     levels: &[u64],
-    reaches: &[u64],
+    variables: &[u64],
     v: u64,
     e: u64,
 ) -> bool
-    requires { ⌜ LayoutOf (now image) l × JudgementTables (now image) (l .expressions) (now levels) (now reaches) × (v ≤ 16) ⌝ }
+    requires { ⌜ LayoutOf (now image) l × JudgementTables (now image) (l .expressions) (now levels) (now variables) × (v ≤ 16) ⌝ }
     ensures { λ r. ⌜ r ≡ expressionOk (now (image .entry)) v 32 e ⌝ }
 {
     if e < l.expressions {
         let i = e as usize;
         if 1 <= levels[i] {
-            if levels[i] <= 32 {
-                return reaches[i] <= v;
+            if levels[i] <= image::MOST_LEVELS {
+                return variables[i] <= v;
             }
         }
     }
     false
 }
 
+// Whether the expressions of n parameters from p on are well formed with v variables.
 pub fn parameters_ok(
     image: &[u64],
     l: Layout,
     levels: &[u64],
-    reaches: &[u64],
+    variables: &[u64],
     v: u64,
     p: u64,
     n: u64,
 ) -> bool
-    requires { ⌜ LayoutOf (now image) l × JudgementTables (now image) (l .expressions) (now levels) (now reaches) × (v ≤ 16) × (p + n ≤ 8192) ⌝ }
+    requires { ⌜ LayoutOf (now image) l × JudgementTables (now image) (l .expressions) (now levels) (now variables) × (v ≤ 16) × (p + n ≤ 8192) ⌝ }
     ensures { λ r. ⌜ r ≡ all (λ i. expressionOk (now (image .entry)) v 32 (parameter (now (image .entry)) i)) (range p n) ⌝ }
 {
     let mut i = 0u64;
     while i < n {
-        let e = image::word(image, image::parameter_at(image, l, p + i));
-        if expression_ok(image, l, levels, reaches, v, e) {
+        let e = image::word(image, l.parameter_at(p + i));
+        if expression_ok(image, l, levels, variables, v, e) {
             i += 1;
         } else {
             return false;
@@ -285,7 +312,7 @@ pub fn parameters_ok(
 
 // ---- arguments and sizes
 
-// The parameters at hand in a scope.
+// How many variables a scope has: its gate's parameters, none in main.
 pub fn variables_of(image: &[u64], l: Layout, scope: u64) -> u64
     requires { ⌜ LayoutOf (now image) l × (scope ≤ l .gates) ⌝ }
     ensures { λ r. ⌜ r ≡ variables (now (image .entry)) scope ⌝ }
@@ -293,40 +320,43 @@ pub fn variables_of(image: &[u64], l: Layout, scope: u64) -> u64
     if scope == 0 {
         return 0;
     }
-    image::word(image, image::gate_at(image, l, scope - 1))
+    image::word(image, l.gate_at(scope - 1))
 }
 
+// Whether argument a is well formed in a scope.
 pub fn argument_ok(image: &[u64], l: Layout, scope: u64, a: u64) -> bool
     requires { ⌜ LayoutOf (now image) l × (scope ≤ l .gates) × (a ≤ 8192) ⌝ }
     ensures { λ r. ⌜ r ≡ argumentOk (now (image .entry)) scope a ⌝ }
 {
-    let at = image::argument_at(image, l, a);
+    let at = l.argument_at(a);
     let register = image::word(image, at);
     let index = image::word(image, at + 1);
     if scope == 0 {
-        if register < l.quantum {
-            return index <= image::word(image, 9 + register);
+        if register < l.quantum_registers {
+            return index <= image::word(image, l.quantum_register_at(register));
         }
         return false;
     }
-    if register < image::word(image, image::gate_at(image, l, scope - 1) + 1) {
+    if register < image::word(image, l.gate_at(scope - 1) + 1) {
         return index == 0;
     }
     false
 }
 
+// Whether argument a is a well formed classical one, which main alone has.
 pub fn classical_argument_ok(image: &[u64], l: Layout, a: u64) -> bool
     requires { ⌜ LayoutOf (now image) l × (a ≤ 8192) ⌝ }
     ensures { λ r. ⌜ r ≡ classicalArgumentOk (now (image .entry)) a ⌝ }
 {
-    let at = image::argument_at(image, l, a);
+    let at = l.argument_at(a);
     let register = image::word(image, at);
-    if register < l.classical {
-        return image::word(image, at + 1) <= image::word(image, 9 + l.quantum + register);
+    if register < l.classical_registers {
+        return image::word(image, at + 1) <= image::word(image, l.classical_register_at(register));
     }
     false
 }
 
+// Whether n arguments from a on are well formed in a scope.
 pub fn arguments_ok(image: &[u64], l: Layout, scope: u64, a: u64, n: u64) -> bool
     requires { ⌜ LayoutOf (now image) l × (scope ≤ l .gates) × (a + n ≤ 8192) ⌝ }
     ensures { λ r. ⌜ r ≡ all (argumentOk (now (image .entry)) scope) (range a n) ⌝ }
@@ -342,6 +372,7 @@ pub fn arguments_ok(image: &[u64], l: Layout, scope: u64, a: u64, n: u64) -> boo
     true
 }
 
+// Whether the sizes of n arguments from a on, other than 1, are equal.
 pub fn sizes_match(image: &[u64], l: Layout, scope: u64, a: u64, n: u64) -> bool
     requires { ⌜ LayoutOf (now image) l × (a + n ≤ 8192) ⌝ }
     ensures { λ r. ⌜ r ≡ matching (map (argumentSize (now (image .entry)) scope) (range a n)) ⌝ }
@@ -380,11 +411,11 @@ pub fn two_match(x: u64, y: u64) -> bool
 
 // Whether the words of a statement after its first n are 0.
 fn unused_words(image: &[u64], at: u64, n: u64) -> bool
-    requires { ⌜ (at ≤ 65536) × (n ≤ 5) ⌝ }
+    requires { ⌜ SmallPlace at × (n ≤ 5) ⌝ }
     ensures { λ r. ⌜ r ≡ all (λ i. eqb (word (now (image .entry)) (at + i)) 0) (range n (5 - n)) ⌝ }
 {
     let mut i = n;
-    while i < 5 {
+    while i < image::STATEMENT_WORDS {
         if image::word(image, at + i) != 0 {
             return false;
         }
@@ -398,5 +429,5 @@ pub fn unused_after(image: &[u64], l: Layout, s: u64, n: u64) -> bool
     requires { ⌜ LayoutOf (now image) l × (s ≤ 8192) × (n ≤ 5) ⌝ }
     ensures { λ r. ⌜ r ≡ unused (now (image .entry)) s n ⌝ }
 {
-    unused_words(image, image::statement_at(image, l, s), n)
+    unused_words(image, l.statement_at(s), n)
 }

@@ -1,2 +1,2 @@
-pub mod ProgramLaws
-pub mod OutcomeLaws
+pub mod MainContextLaws
+pub mod LinearizesLaws

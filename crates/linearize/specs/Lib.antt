@@ -1,2 +1,3 @@
-pub mod Tabled
+pub mod MainContext
+pub mod MainStatement
 pub mod Linearizes

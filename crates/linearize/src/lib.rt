@@ -1,57 +1,73 @@
 // Writes the finished operations of a program image: the head, then its main statements.
-use image::CheckAnswer;
-use image::Contents;
 use image::Layout;
+use image_check::LayoutAnswer;
 use record_writer::LinearizeError;
 use record_writer::LinearizeErrorKind;
 use record_writer::Linearized;
 use record_writer::Position;
 ghost use mathlib.Core.Path.{_≡_};
-ghost use mathlib.Core.List.{[], _∷_, _++_};
-ghost use Prim.Native.Nat.{_-_, _≤_, _<_};
+ghost use Prim.Native.Nat.{_-_, _≤_};
 ghost use lib.ListN.{length};
-ghost use Rattle.model.specs.Image.{word, statement, statementAt};
-ghost use Rattle.model.specs.Check.{fine, check};
-ghost use Rattle.model.specs.Records.{Record};
-ghost use Rattle.model.specs.Steps.{write, visitStatement, visitBody, opening, mainFrame, steps};
-ghost use Rattle.model.specs.Accepted.{Accepted, PlainFacts, Facts};
-ghost use Rattle.image.specs.Layout.{LayoutOf};
-ghost use Rattle.record_writer.specs.Promise.{InOutput};
-ghost use Rattle.expression.specs.Table.{anglesIn, ConstantsKept};
-ghost use Rattle.argument.specs.Frames.{scopeFrame};
-ghost use Rattle.gate.specs.Running.{RunContext, RanSteps, plainSteps};
-ghost use Rattle.linearize.specs.Tabled.{MainContext};
+ghost use Rattle.model.specs.Steps.{steps};
+ghost use Rattle.expression.specs.KeptValues.{ConstantsKept};
+ghost use Rattle.gate.specs.RunContext.{RunContext};
+ghost use Rattle.gate.specs.PlainStatement.{PlainStatement};
+ghost use Rattle.gate.specs.RanSteps.{RanSteps};
+ghost use Rattle.linearize.specs.MainContext.{StartContext, MainContext};
+ghost use Rattle.linearize.specs.MainStatement.{MainStatement, IsConditional, mainStatementSteps, innerSteps, mainSteps};
 ghost use Rattle.linearize.specs.Linearizes.{refusedWith, Linearizes};
 
+// The words of a trace that is long enough for any run: two for each call, and a call goes to a gate of smaller number.
+const TRACE_WORDS: usize = 2 * (image::MOST_GATES as usize);
+
+// The most expressions of a program that has few.
+const FEW_EXPRESSIONS: usize = 128;
+
+// The most quantum, and the most classical, registers of a program that has few.
+const FEW_REGISTERS: usize = 64;
+
+// The most quantum, and the most classical, registers of any program: each has an element at least.
+const MOST_REGISTERS: usize = image::MOST_ELEMENTS as usize;
+
+// The words of a kept value: whether it is a constant's, and an angle.
+const KEPT_VALUE_WORDS: usize = 7;
+
 // The inner statement of a conditional, and the conditional's end.
-fn visit_held(
+fn visit_inner_statement(
     image: &[u64],
     l: Layout,
-    qubits: &[u64],
-    bits: &[u64],
-    table: &mut [u64],
-    variables: &[u64; 96],
-    formals: &[u64; 16],
-    t: u64,
-    left: u64,
+    qubit_starts: &[u64],
+    bit_starts: &[u64],
+    kept_values: &mut [u64],
+    angles: &[u64; 96],
+    qubits: &[u64; 16],
+    inner: u64,
+    levels_left: u64,
     out: &mut [u64],
     trace: &mut [u64],
     at: Position,
 ) -> Linearized
-    requires { ⌜ RunContext (now image) l (now qubits) (now bits) (now table) 0 (now variables) (now formals) (now out) (now trace) at × (t < l .all) × PlainFacts (now image) 0 (statement (now image) t) ⌝ }
-    ensures { λ r. ⌜ RanSteps (plainSteps (now (image .entry)) left (scopeFrame (now (image .entry)) 0 (anglesIn (now (variables .entry))) (now (formals .entry))) t ++ write [] Record.ConditionalEnd ∷ []) (now (out .entry)) at (now (trace .entry)) r (now (out .exit)) (now (trace .exit)) × ConstantsKept (now (image .entry)) (now (table .exit)) ⌝ }
+    requires { ⌜
+        RunContext (now image) l (now «qubit_starts») (now «bit_starts») (now «kept_values») 0 (now angles) (now qubits) (now out) (now trace) at
+        × PlainStatement (now image) l 0 inner
+        ⌝ }
+    ensures { λ r. ⌜
+        RanSteps (innerSteps (now (image .entry)) «levels_left» (now (angles .entry)) (now (qubits .entry)) inner)
+        (now (out .entry)) at (now (trace .entry)) r (now (out .exit)) (now (trace .exit))
+        × ConstantsKept (now (image .entry)) (now («kept_values» .exit))
+        ⌝ }
 {
     match gate::visit_statement(
         image,
         l,
-        qubits,
-        bits,
-        table,
+        qubit_starts,
+        bit_starts,
+        kept_values,
         0,
-        variables,
-        formals,
-        t,
-        left,
+        angles,
+        qubits,
+        inner,
+        levels_left,
         out,
         trace,
         at,
@@ -61,39 +77,53 @@ fn visit_held(
     }
 }
 
-// A conditional: its start, and what it holds.
+// A conditional: its start, its inner statement, its end.
 fn visit_conditional(
     image: &[u64],
     l: Layout,
-    qubits: &[u64],
-    bits: &[u64],
-    table: &mut [u64],
-    variables: &[u64; 96],
-    formals: &[u64; 16],
+    qubit_starts: &[u64],
+    bit_starts: &[u64],
+    kept_values: &mut [u64],
+    angles: &[u64; 96],
+    qubits: &[u64; 16],
     s: u64,
-    left: u64,
+    levels_left: u64,
     out: &mut [u64],
     trace: &mut [u64],
     at: Position,
 ) -> Linearized
-    requires { ⌜ RunContext (now image) l (now qubits) (now bits) (now table) 0 (now variables) (now formals) (now out) (now trace) at × (s < l .all) × Facts (now image) 0 (statement (now image) s) × (word (now image) (statementAt (now image) s) ≡ 7) ⌝ }
-    ensures { λ r. ⌜ RanSteps (visitStatement (now (image .entry)) (opening (now (image .entry)) left) (scopeFrame (now (image .entry)) 0 (anglesIn (now (variables .entry))) (now (formals .entry))) s) (now (out .entry)) at (now (trace .entry)) r (now (out .exit)) (now (trace .exit)) × ConstantsKept (now (image .entry)) (now (table .exit)) ⌝ }
+    requires { ⌜
+        RunContext (now image) l (now «qubit_starts») (now «bit_starts») (now «kept_values») 0 (now angles) (now qubits) (now out) (now trace) at
+        × MainStatement (now image) l s
+        × IsConditional (now image) s
+        ⌝ }
+    ensures { λ r. ⌜
+        RanSteps (mainStatementSteps (now (image .entry)) «levels_left» (now (angles .entry)) (now (qubits .entry)) s)
+        (now (out .entry)) at (now (trace .entry)) r (now (out .exit)) (now (trace .exit))
+        × ConstantsKept (now (image .entry)) (now («kept_values» .exit))
+        ⌝ }
 {
-    let place = image::statement_at(image, l, s);
+    let place = l.statement_at(s);
     let register = image::word(image, place + 1);
-    let size = image::word(image, 9 + l.quantum + register);
-    let first = bits[register as usize];
-    match record_writer::write_conditional_start(out, at, first, size, image::word(image, place + 2)) {
-        Linearized::Done(next) => visit_held(
+    let size = image::word(image, l.classical_register_at(register));
+    let first = bit_starts[register as usize];
+    match record_writer::write_conditional_start(
+        out,
+        at,
+        first,
+        size,
+        image::word(image, place + 2),
+    ) {
+        Linearized::Done(next) => visit_inner_statement(
             image,
             l,
+            qubit_starts,
+            bit_starts,
+            kept_values,
+            angles,
             qubits,
-            bits,
-            table,
-            variables,
-            formals,
             image::word(image, place + 3),
-            left,
+            levels_left,
             out,
             trace,
             next,
@@ -102,35 +132,42 @@ fn visit_conditional(
     }
 }
 
-// A main statement.
+// A main statement, which may be a conditional.
 fn visit_main(
     image: &[u64],
     l: Layout,
-    qubits: &[u64],
-    bits: &[u64],
-    table: &mut [u64],
-    variables: &[u64; 96],
-    formals: &[u64; 16],
+    qubit_starts: &[u64],
+    bit_starts: &[u64],
+    kept_values: &mut [u64],
+    angles: &[u64; 96],
+    qubits: &[u64; 16],
     s: u64,
-    left: u64,
+    levels_left: u64,
     out: &mut [u64],
     trace: &mut [u64],
     at: Position,
 ) -> Linearized
-    requires { ⌜ RunContext (now image) l (now qubits) (now bits) (now table) 0 (now variables) (now formals) (now out) (now trace) at × (s < l .all) × Facts (now image) 0 (statement (now image) s) ⌝ }
-    ensures { λ r. ⌜ RanSteps (visitStatement (now (image .entry)) (opening (now (image .entry)) left) (scopeFrame (now (image .entry)) 0 (anglesIn (now (variables .entry))) (now (formals .entry))) s) (now (out .entry)) at (now (trace .entry)) r (now (out .exit)) (now (trace .exit)) × ConstantsKept (now (image .entry)) (now (table .exit)) ⌝ }
+    requires { ⌜
+        RunContext (now image) l (now «qubit_starts») (now «bit_starts») (now «kept_values») 0 (now angles) (now qubits) (now out) (now trace) at
+        × MainStatement (now image) l s
+        ⌝ }
+    ensures { λ r. ⌜
+        RanSteps (mainStatementSteps (now (image .entry)) «levels_left» (now (angles .entry)) (now (qubits .entry)) s)
+        (now (out .entry)) at (now (trace .entry)) r (now (out .exit)) (now (trace .exit))
+        × ConstantsKept (now (image .entry)) (now («kept_values» .exit))
+        ⌝ }
 {
-    if image::word(image, image::statement_at(image, l, s)) == 7 {
+    if image::word(image, l.statement_at(s)) == 7 {
         return visit_conditional(
             image,
             l,
+            qubit_starts,
+            bit_starts,
+            kept_values,
+            angles,
             qubits,
-            bits,
-            table,
-            variables,
-            formals,
             s,
-            left,
+            levels_left,
             out,
             trace,
             at,
@@ -139,14 +176,14 @@ fn visit_main(
     gate::visit_statement(
         image,
         l,
-        qubits,
-        bits,
-        table,
+        qubit_starts,
+        bit_starts,
+        kept_values,
         0,
-        variables,
-        formals,
+        angles,
+        qubits,
         s,
-        left,
+        levels_left,
         out,
         trace,
         at,
@@ -157,39 +194,45 @@ fn visit_main(
 fn visit_program(
     image: &[u64],
     l: Layout,
-    qubits: &[u64],
-    bits: &[u64],
-    table: &mut [u64],
-    left: u64,
+    qubit_starts: &[u64],
+    bit_starts: &[u64],
+    kept_values: &mut [u64],
+    levels_left: u64,
     out: &mut [u64],
     trace: &mut [u64],
     at: Position,
 ) -> Linearized
-    requires { ⌜ MainContext (now image) l (now qubits) (now bits) × ConstantsKept (now image) (now table) × InOutput (now out) at × (256 ≤ length (now trace)) × (at .trace ≡ 0) ⌝ }
-    ensures { λ r. ⌜ RanSteps (visitBody (now (image .entry)) (opening (now (image .entry)) left) mainFrame) (now (out .entry)) at (now (trace .entry)) r (now (out .exit)) (now (trace .exit)) ⌝ }
+    requires { ⌜
+        MainContext (now image) l (now «qubit_starts») (now «bit_starts») (now out) (now trace) at
+        × ConstantsKept (now image) (now «kept_values»)
+        ⌝ }
+    ensures { λ r. ⌜
+        RanSteps (mainSteps (now (image .entry)) «levels_left»)
+        (now (out .entry)) at (now (trace .entry)) r (now (out .exit)) (now (trace .exit))
+        ⌝ }
 {
-    let variables = [0u64; 96];
-    let formals = [0u64; 16];
-    let n = l.main;
-    let mut now = at;
+    let angles = [0u64; 96];
+    let qubits = [0u64; 16];
+    let n = l.main_statements;
+    let mut position = at;
     let mut s = 0u64;
     while s < n {
         match visit_main(
             image,
             l,
-            qubits,
-            bits,
-            table,
-            &variables,
-            &formals,
+            qubit_starts,
+            bit_starts,
+            kept_values,
+            &angles,
+            &qubits,
             s,
-            left,
+            levels_left,
             out,
             trace,
-            now,
+            position,
         ) {
             Linearized::Done(next) => {
-                now = next;
+                position = next;
             }
             Linearized::Refused(e) => {
                 return Linearized::Refused(e);
@@ -197,130 +240,224 @@ fn visit_program(
         }
         s += 1;
     }
-    Linearized::Done(now)
+    Linearized::Done(position)
 }
 
-// The main statements, with a table for the values of at most 128 expressions.
+// The main statements of a program with few expressions.
 fn visit_few_expressions(
     image: &[u64],
     l: Layout,
-    qubits: &[u64],
-    bits: &[u64],
-    left: u64,
+    qubit_starts: &[u64],
+    bit_starts: &[u64],
+    levels_left: u64,
     out: &mut [u64],
     trace: &mut [u64],
     at: Position,
 ) -> Linearized
-    requires { ⌜ MainContext (now image) l (now qubits) (now bits) × InOutput (now out) at × (256 ≤ length (now trace)) × (at .trace ≡ 0) × (l .expressions ≤ 128) ⌝ }
-    ensures { λ r. ⌜ RanSteps (visitBody (now (image .entry)) (opening (now (image .entry)) left) mainFrame) (now (out .entry)) at (now (trace .entry)) r (now (out .exit)) (now (trace .exit)) ⌝ }
+    requires { ⌜ MainContext (now image) l (now «qubit_starts») (now «bit_starts») (now out) (now trace) at × (l .expressions ≤ 128) ⌝ }
+    ensures { λ r. ⌜
+        RanSteps (mainSteps (now (image .entry)) «levels_left»)
+        (now (out .entry)) at (now (trace .entry)) r (now (out .exit)) (now (trace .exit))
+        ⌝ }
 {
-    let mut table = [0u64; 896];
-    visit_program(image, l, qubits, bits, &mut table, left, out, trace, at)
+    let mut kept_values = [0u64; KEPT_VALUE_WORDS * FEW_EXPRESSIONS];
+    visit_program(
+        image,
+        l,
+        qubit_starts,
+        bit_starts,
+        &mut kept_values,
+        levels_left,
+        out,
+        trace,
+        at,
+    )
 }
 
-// The same with a table for as many expressions as an image may have.
+// The main statements, with room for the values of as many expressions as an image may have.
 fn visit_many_expressions(
     image: &[u64],
     l: Layout,
-    qubits: &[u64],
-    bits: &[u64],
-    left: u64,
+    qubit_starts: &[u64],
+    bit_starts: &[u64],
+    levels_left: u64,
     out: &mut [u64],
     trace: &mut [u64],
     at: Position,
 ) -> Linearized
-    requires { ⌜ MainContext (now image) l (now qubits) (now bits) × InOutput (now out) at × (256 ≤ length (now trace)) × (at .trace ≡ 0) ⌝ }
-    ensures { λ r. ⌜ RanSteps (visitBody (now (image .entry)) (opening (now (image .entry)) left) mainFrame) (now (out .entry)) at (now (trace .entry)) r (now (out .exit)) (now (trace .exit)) ⌝ }
+    requires { ⌜ MainContext (now image) l (now «qubit_starts») (now «bit_starts») (now out) (now trace) at ⌝ }
+    ensures { λ r. ⌜
+        RanSteps (mainSteps (now (image .entry)) «levels_left»)
+        (now (out .entry)) at (now (trace .entry)) r (now (out .exit)) (now (trace .exit))
+        ⌝ }
 {
-    let mut table = [0u64; 19096];
-    visit_program(image, l, qubits, bits, &mut table, left, out, trace, at)
+    let mut kept_values = [0u64; KEPT_VALUE_WORDS * image::MOST_EXPRESSIONS];
+    visit_program(
+        image,
+        l,
+        qubit_starts,
+        bit_starts,
+        &mut kept_values,
+        levels_left,
+        out,
+        trace,
+        at,
+    )
 }
 
-// The main statements, with a table for the values of expressions: a small program should not pay for clearing the long one.
-fn visit_tabled(
+// The main statements, with room for the values of expressions: a small program should not pay for clearing the room of a large one.
+fn visit_with_kept_values(
     image: &[u64],
     l: Layout,
-    qubits: &[u64],
-    bits: &[u64],
-    left: u64,
+    qubit_starts: &[u64],
+    bit_starts: &[u64],
+    levels_left: u64,
     out: &mut [u64],
     trace: &mut [u64],
     at: Position,
 ) -> Linearized
-    requires { ⌜ MainContext (now image) l (now qubits) (now bits) × InOutput (now out) at × (256 ≤ length (now trace)) × (at .trace ≡ 0) ⌝ }
-    ensures { λ r. ⌜ RanSteps (visitBody (now (image .entry)) (opening (now (image .entry)) left) mainFrame) (now (out .entry)) at (now (trace .entry)) r (now (out .exit)) (now (trace .exit)) ⌝ }
+    requires { ⌜ MainContext (now image) l (now «qubit_starts») (now «bit_starts») (now out) (now trace) at ⌝ }
+    ensures { λ r. ⌜
+        RanSteps (mainSteps (now (image .entry)) «levels_left»)
+        (now (out .entry)) at (now (trace .entry)) r (now (out .exit)) (now (trace .exit))
+        ⌝ }
 {
-    if l.expressions <= 128 {
-        return visit_few_expressions(image, l, qubits, bits, left, out, trace, at);
+    if l.expressions <= FEW_EXPRESSIONS as u64 {
+        return visit_few_expressions(
+            image,
+            l,
+            qubit_starts,
+            bit_starts,
+            levels_left,
+            out,
+            trace,
+            at,
+        );
     }
-    visit_many_expressions(image, l, qubits, bits, left, out, trace, at)
+    visit_many_expressions(
+        image,
+        l,
+        qubit_starts,
+        bit_starts,
+        levels_left,
+        out,
+        trace,
+        at,
+    )
 }
 
 // The levels that are opened at a depth: depths 0 and 1 open none.
-fn levels(depth: u64) -> u64
+fn levels_to_open(depth: u64) -> u64
     ensures { λ r. ⌜ r ≡ depth - 1 ⌝ }
 {
     if depth == 0 { 0 } else { depth - 1 }
 }
 
-// Where each of a few registers starts, then the main statements.
+// The main statements of a program with few registers.
 fn visit_few_registers(
     image: &[u64],
     l: Layout,
-    left: u64,
+    levels_left: u64,
     out: &mut [u64],
     trace: &mut [u64],
     at: Position,
 ) -> Linearized
-    requires { ⌜ LayoutOf (now image) l × Accepted (now image) × InOutput (now out) at × (256 ≤ length (now trace)) × (at .trace ≡ 0) × (l .quantum ≤ 64) × (l .classical ≤ 64) ⌝ }
-    ensures { λ r. ⌜ RanSteps (visitBody (now (image .entry)) (opening (now (image .entry)) left) mainFrame) (now (out .entry)) at (now (trace .entry)) r (now (out .exit)) (now (trace .exit)) ⌝ }
+    requires { ⌜ StartContext (now image) l (now out) (now trace) at × (l .«quantum_registers» ≤ 64) × (l .«classical_registers» ≤ 64) ⌝ }
+    ensures { λ r. ⌜
+        RanSteps (mainSteps (now (image .entry)) «levels_left»)
+        (now (out .entry)) at (now (trace .entry)) r (now (out .exit)) (now (trace .exit))
+        ⌝ }
 {
-    let mut qubits = [0u64; 64];
-    image::first_of_each(image, 9, l.quantum, &mut qubits);
-    let mut bits = [0u64; 64];
-    image::first_of_each(image, 9 + l.quantum, l.classical, &mut bits);
-    visit_tabled(image, l, &qubits, &bits, left, out, trace, at)
+    let mut qubit_starts = [0u64; FEW_REGISTERS];
+    image::first_of_each(
+        image,
+        l.quantum_register_at(0),
+        l.quantum_registers,
+        &mut qubit_starts,
+    );
+    let mut bit_starts = [0u64; FEW_REGISTERS];
+    image::first_of_each(
+        image,
+        l.classical_register_at(0),
+        l.classical_registers,
+        &mut bit_starts,
+    );
+    visit_with_kept_values(
+        image,
+        l,
+        &qubit_starts,
+        &bit_starts,
+        levels_left,
+        out,
+        trace,
+        at,
+    )
 }
 
-// The same with tables for as many registers as an image may have.
+// The main statements, with tables of the starts of as many registers as an image may have.
 fn visit_many_registers(
     image: &[u64],
     l: Layout,
-    left: u64,
+    levels_left: u64,
     out: &mut [u64],
     trace: &mut [u64],
     at: Position,
 ) -> Linearized
-    requires { ⌜ LayoutOf (now image) l × Accepted (now image) × InOutput (now out) at × (256 ≤ length (now trace)) × (at .trace ≡ 0) ⌝ }
-    ensures { λ r. ⌜ RanSteps (visitBody (now (image .entry)) (opening (now (image .entry)) left) mainFrame) (now (out .entry)) at (now (trace .entry)) r (now (out .exit)) (now (trace .exit)) ⌝ }
+    requires { ⌜ StartContext (now image) l (now out) (now trace) at ⌝ }
+    ensures { λ r. ⌜
+        RanSteps (mainSteps (now (image .entry)) «levels_left»)
+        (now (out .entry)) at (now (trace .entry)) r (now (out .exit)) (now (trace .exit))
+        ⌝ }
 {
-    let mut qubits = [0u64; 4096];
-    image::first_of_each(image, 9, l.quantum, &mut qubits);
-    let mut bits = [0u64; 4096];
-    image::first_of_each(image, 9 + l.quantum, l.classical, &mut bits);
-    visit_tabled(image, l, &qubits, &bits, left, out, trace, at)
+    let mut qubit_starts = [0u64; MOST_REGISTERS];
+    image::first_of_each(
+        image,
+        l.quantum_register_at(0),
+        l.quantum_registers,
+        &mut qubit_starts,
+    );
+    let mut bit_starts = [0u64; MOST_REGISTERS];
+    image::first_of_each(
+        image,
+        l.classical_register_at(0),
+        l.classical_registers,
+        &mut bit_starts,
+    );
+    visit_with_kept_values(
+        image,
+        l,
+        &qubit_starts,
+        &bit_starts,
+        levels_left,
+        out,
+        trace,
+        at,
+    )
 }
 
-// The main statements, with tables of where registers start: a small program should not pay for clearing the long ones.
-fn visit_statements(
+// The main statements, with tables of where registers start: a small program should not pay for clearing the tables of a large one.
+fn visit_with_register_starts(
     image: &[u64],
     l: Layout,
-    left: u64,
+    levels_left: u64,
     out: &mut [u64],
     trace: &mut [u64],
     at: Position,
 ) -> Linearized
-    requires { ⌜ LayoutOf (now image) l × Accepted (now image) × InOutput (now out) at × (256 ≤ length (now trace)) × (at .trace ≡ 0) ⌝ }
-    ensures { λ r. ⌜ RanSteps (visitBody (now (image .entry)) (opening (now (image .entry)) left) mainFrame) (now (out .entry)) at (now (trace .entry)) r (now (out .exit)) (now (trace .exit)) ⌝ }
+    requires { ⌜ StartContext (now image) l (now out) (now trace) at ⌝ }
+    ensures { λ r. ⌜
+        RanSteps (mainSteps (now (image .entry)) «levels_left»)
+        (now (out .entry)) at (now (trace .entry)) r (now (out .exit)) (now (trace .exit))
+        ⌝ }
 {
-    if image::larger(l.quantum, l.classical) <= 64 {
-        return visit_few_registers(image, l, left, out, trace, at);
+    if image::larger(l.quantum_registers, l.classical_registers) <= FEW_REGISTERS as u64 {
+        return visit_few_registers(image, l, levels_left, out, trace, at);
     }
-    visit_many_registers(image, l, left, out, trace, at)
+    visit_many_registers(image, l, levels_left, out, trace, at)
 }
 
 // The run of an accepted image: the head comes with the first main statement.
-fn run_laid(
+fn run_accepted(
     image: &[u64],
     l: Layout,
     depth: u64,
@@ -328,19 +465,29 @@ fn run_laid(
     trace: &mut [u64],
     at: Position,
 ) -> Linearized
-    requires { ⌜ LayoutOf (now image) l × Accepted (now image) × InOutput (now out) at × (256 ≤ length (now trace)) × (at .trace ≡ 0) ⌝ }
-    ensures { λ r. ⌜ RanSteps (steps (now (image .entry)) depth) (now (out .entry)) at (now (trace .entry)) r (now (out .exit)) (now (trace .exit)) ⌝ }
+    requires { ⌜ StartContext (now image) l (now out) (now trace) at ⌝ }
+    ensures { λ r. ⌜
+        RanSteps (steps (now (image .entry)) depth)
+        (now (out .entry)) at (now (trace .entry)) r (now (out .exit)) (now (trace .exit))
+        ⌝ }
 {
-    if l.main == 0 {
+    if l.main_statements == 0 {
         return Linearized::Done(at);
     }
     match long_record::write_head(out, at, image, l) {
-        Linearized::Done(next) => visit_statements(image, l, levels(depth), out, trace, next),
+        Linearized::Done(next) => visit_with_register_starts(
+            image,
+            l,
+            levels_to_open(depth),
+            out,
+            trace,
+            next,
+        ),
         Linearized::Refused(e) => Linearized::Refused(e),
     }
 }
 
-// Nothing is written yet.
+// The position where nothing is written yet.
 fn start() -> Position
     ensures { λ r. ⌜ r ≡ record { records = 0; words = 0; trace = 0 } ⌝ }
 {
@@ -358,26 +505,15 @@ fn refused(kind: LinearizeErrorKind) -> Linearized
     Linearized::Refused(LinearizeError { kind, at: start() })
 }
 
-fn run_accepted(image: &[u64], depth: u64, out: &mut [u64], trace: &mut [u64]) -> Linearized
-    requires { ⌜ (check (now image) ≡ fine) × (256 ≤ length (now trace)) ⌝ }
-    ensures { λ r. ⌜ Linearizes (now (image .entry)) depth (now (out .entry)) (now (trace .entry)) r (now (out .exit)) (now (trace .exit)) ⌝ }
-{
-    match image::read_contents(image) {
-        Contents::Right(l) => run_laid(image, l, depth, out, trace, start()),
-        Contents::Wrong => refused(LinearizeErrorKind::ShortTrace),
-    }
-}
-
 // Writes the finished operations of an image at a depth into the output, or says why not; a refusal's calls stand in the trace.
 pub fn run(image: &[u64], depth: u64, out: &mut [u64], trace: &mut [u64]) -> Linearized
     ensures { λ r. ⌜ Linearizes (now (image .entry)) depth (now (out .entry)) (now (trace .entry)) r (now (out .exit)) (now (trace .exit)) ⌝ }
 {
-    if trace.len() < 256 {
+    if trace.len() < TRACE_WORDS {
         return refused(LinearizeErrorKind::ShortTrace);
     }
-    let verdict = image_check::check(image);
-    match verdict {
-        CheckAnswer::Accepted => run_accepted(image, depth, out, trace),
-        _ => refused(LinearizeErrorKind::Rejected(verdict)),
+    match image_check::accepted_layout(image) {
+        LayoutAnswer::Accepted(l) => run_accepted(image, l, depth, out, trace, start()),
+        LayoutAnswer::Refused(refusal) => refused(LinearizeErrorKind::Flawed(refusal)),
     }
 }

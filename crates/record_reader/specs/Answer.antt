@@ -1,18 +1,24 @@
--- What the reader's answers say of the words at a position.
+-- What the record reader's answers say of the words at a position.
 use Prim.Native.Nat.{ℕ}
+use mathlib.Core.Bool.{cond}
 use mathlib.Core.List.{List, []}
+use lib.Dec.{leb}
 use lib.ListN.{length}
 use Rattle.model.specs.RecordReader.{Next, next, end, wrong}
 use Rattle.record_reader.specs.declared.NextRecord.{NextRecord}
 use Rattle.record_reader.specs.declared.NextRecord.the-variants as answer
 
--- a record with its length, the end, or 17
+-- a record's length, or 0 if it is longer than the words available
+abbrev pub lengthWithin : ℕ → ℕ → ℕ
+lengthWithin available n = cond (leb n available) n 0
+
+-- a record with its length, the end, or no record, which has the number 17
 abbrev pub nextRecordOf : Next → NextRecord
 nextRecordOf (next ws) = answer.Record (length ws)
 nextRecordOf end = answer.End
-nextRecordOf wrong = answer.Wrong
+nextRecordOf wrong = answer.NoRecord
 
--- the words of the record, none where there is none
+-- the words of the record, none where there is no record
 abbrev pub nextWordsOf : Next → List ℕ
 nextWordsOf (next ws) = ws
 nextWordsOf end = []

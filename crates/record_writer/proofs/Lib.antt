@@ -1,2 +1,3 @@
 pub mod WriteLaws
-pub mod AngleLaws
+pub mod WroteStepsLaws
+pub mod AngleWordsLaws

@@ -1,5 +1,6 @@
-pub mod LoopLaws
+pub mod LoopedLaws
 pub mod RoundLaws
-pub mod OverlapLaws
-pub mod OpaqueLaws
-pub mod MarkLaws
+pub mod OverlapsLaws
+pub mod WroteDistinctLaws
+pub mod MarksLaws
+pub mod WithValuesLaws

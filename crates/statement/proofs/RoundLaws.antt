@@ -6,7 +6,7 @@ use mathlib.Core.List.{List, [], _∷_}
 use lib.ListN.{length}
 use Rattle.value.specs.declared.Value.{Value}
 use Rattle.model.specs.Records.{Record, encode, kind as kindOf, fields}
-use Rattle.model.specs.Steps.{Step, write, refuse, Refusal, Frame, qubitIn, bitIn, writeReset, writeMeasure, writeCX}
+use Rattle.model.specs.Steps.{Step, write, refuse, Refusal, Frame, qubitIn, bitIn, writeReset, writeMeasure, writeCX, writeU}
 use Rattle.model.specs.Image.{argumentAt}
 use Rattle.model.specs.Run.{Answer, refused, play}
 use Rattle.model.specs.Playing.{Plays}
@@ -16,14 +16,14 @@ use Rattle.record_writer.specs.declared.LinearizeErrorKind.the-variants as kind
 use Rattle.record_writer.specs.declared.LinearizeError.{LinearizeError}
 use Rattle.record_writer.specs.declared.Linearized.{Linearized}
 use Rattle.record_writer.specs.declared.Linearized.the-variants as linearized
-use Rattle.record_writer.specs.Promise.{fullAt, InOutput, WroteSteps, refusalAnswer, stateAt}
-use Rattle.record_writer.proofs.WriteLaws.{full-up}
+use Rattle.record_writer.specs.Promise.{outputFullAt, InOutput, WroteSteps, refusalAnswer, placeAt}
+use Rattle.record_writer.proofs.WroteStepsLaws.{full-up}
 use Rattle.argument.specs.Frames.{scopeFrame}
 use Rattle.statement.specs.Statements.{apartCX, overlapAtCX}
 
-module _ (image : List ℕ) (scope : ℕ) (angles : List Value) (formals : List ℕ) where
+module _ (image : List ℕ) (scope : ℕ) (angles : List Value) (qubits : List ℕ) where
   abbrev frame : Frame
-  frame = scopeFrame image scope angles formals
+  frame = scopeFrame image scope angles qubits
 
   pub reset-round : (a i : ℕ) {q : ℕ} → q ≡ qubitIn image frame i a → _≡_ {A = List Step} (write [] (Record.Reset q) ∷ []) (writeReset image frame a i)
   unfolding writeReset
@@ -37,14 +37,15 @@ module _ (image : List ℕ) (scope : ℕ) (angles : List Value) (formals : List 
   unfolding writeCX apartCX
   cx-round a b i e f = ap₂ (apartCX image a b) e f
 
--- an answer by what is promised of it
-pub wrote-told : {ss : List Step} {out out′ : List ℕ} {at : Position} {r s : Linearized} → r ≡ s → WroteSteps ss out at s out′ → WroteSteps ss out at r out′
-wrote-told {ss} {out} {out′} {at} e w = subst (λ (z : Linearized). WroteSteps ss out at z out′) (sym e) w
+  pub u-round : (theta phi lambda : Value) (a i : ℕ) {q : ℕ} → q ≡ qubitIn image frame i a → _≡_ {A = List Step} (write [] (Record.U theta phi lambda q) ∷ []) (writeU image frame a (theta ∷ phi ∷ lambda ∷ []) i)
+  unfolding writeU
+  u-round theta phi lambda a i e = ap (λ (q : ℕ). write [] (Record.U theta phi lambda q) ∷ []) e
 
-pub overlap-told : (image : List ℕ) (a b : ℕ) {at : Position} {m n : ℕ} → m ≡ argumentAt image a → n ≡ argumentAt image b → linearized.Refused (record { kind = kind.OverlappingRegs m n; at = at }) ≡ overlapAtCX image a b at
-overlap-told image a b e f = rw (e, f) refl
+-- the refusal of a CX whose arguments have one qubit
+pub overlap-refusal : (image : List ℕ) (a b : ℕ) {at : Position} {m n : ℕ} → m ≡ argumentAt image a → n ≡ argumentAt image b → linearized.Refused (record { kind = kind.OverlappingRegs m n; at = at }) ≡ overlapAtCX image a b at
+overlap-refusal image a b e f = rw (e, f) refl
 
--- the ways of a CX
+-- the three ends of a round of a CX
 module _ (image : List ℕ) (a b : ℕ) {out : List ℕ} {p q : ℕ} {at : Position} where
   pub cx-overlaps : InOutput out at → p ≡ q → WroteSteps (apartCX image a b p q) out at (overlapAtCX image a b at) out
   unfolding apartCX play
@@ -54,16 +55,6 @@ module _ (image : List ℕ) (a b : ℕ) {out : List ℕ} {p q : ℕ} {at : Posit
   unfolding apartCX
   cx-apart e f n w = rw (← e, ← f, ne-eqb _ _ n) w
 
-  pub cx-full : {p′ q′ : ℕ} → p′ ≡ p → q′ ≡ q → ¬ (p′ ≡ q′) → InOutput out at → length out < at .words + 3 → WroteSteps (apartCX image a b p q) out at (fullAt at) out
+  pub cx-full : {p′ q′ : ℕ} → p′ ≡ p → q′ ≡ q → ¬ (p′ ≡ q′) → InOutput out at → length out < at .words + 3 → WroteSteps (apartCX image a b p q) out at (outputFullAt at) out
   unfolding encode kindOf fields
   cx-full {p′} {q′} e f n o h = cx-apart e f n (full-up (Record.CX p′ q′) o h)
-
--- a refusal that nothing is written before
-pub refuses : (x : Refusal) (e : LinearizeError) {out : List ℕ} {at : Position} → e .at ≡ at → ((t : List ℕ) → refusalAnswer (e .kind) t ≡ refused t x) → InOutput out at → WroteSteps (refuse [] x ∷ []) out at (linearized.Refused e) out
-unfolding play
-refuses x e {out} {at} p q o =
-    record {
-      plays = subst (λ (z : Position). Plays (refuse [] x ∷ []) (stateAt out at) (stateAt out z) (refusalAnswer (e .kind) [])) (sym p)
-          (subst (λ (z : Answer). Plays (refuse [] x ∷ []) (stateAt out at) (stateAt out at) z) (sym (q [])) (plays-stop (refuse [] x ∷ []) (o .inside) refl));
-      level = ap (λ (z : Position). z .trace) p;
-    }

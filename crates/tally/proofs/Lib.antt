@@ -1,6 +1,6 @@
-pub mod Cuts
-pub mod StatementKinds
-pub mod GateLaws
-pub mod Scopes
-pub mod TableLaws
-pub mod NineFigures
+pub mod BodyTallyLaws
+pub mod CappedLaws
+pub mod FigureTableLaws
+pub mod FiguresLaws
+pub mod GateTallyLaws
+pub mod PlainTallyLaws

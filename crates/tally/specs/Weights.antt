@@ -6,11 +6,9 @@ use mathlib.Core.List.{List, [], _∷_}
 use mathlib.Core.Option.{Option}
 use lib.Dec.{eqb, ltb}
 use lib.ListN.{getD}
-use Rattle.model.specs.Check.{Flaw, fine, bad, check}
+use Rattle.model.specs.Check.{Flaw, fine, bad}
 use Rattle.model.specs.Tally.{bodyTally, openingTally, TallyAnswer, tallied, refused}
-use Rattle.image.specs.declared.Layout.{Layout}
-use Rattle.image.specs.Layout.{LayoutOf}
-use Rattle.image.specs.Answer.{answerFlaw}
+use Rattle.image.specs.Answer.{refusalFlaw}
 use Rattle.tally.specs.declared.Figures.{Figures}
 use Rattle.tally.specs.declared.Tallied.{Tallied}
 use Rattle.tally.specs.declared.Tallied.the-variants as answer
@@ -23,7 +21,7 @@ weightOf j kind n = cond (ltb j 7) (cond (eqb kind (suc j)) 1 0) (cond (eqb j 8)
 unfoldable pub entryOf : ℕ → ℕ
 entryOf j = cond (eqb j 7) 1 0
 
--- a figure, cut to the first number that is refused
+-- a figure, capped to the first number that is refused
 abbrev pub capped : ℕ → ℕ
 capped n = min n (2 ^ 32)
 
@@ -35,12 +33,7 @@ openingFor image j n = openingTally image (weightOf j) (entryOf j) n
 abbrev pub body : List ℕ → ℕ → ℕ → ℕ → ℕ
 body image n g j = bodyTally image (weightOf j) (entryOf j) (openingFor image j n) (suc g)
 
--- an accepted image with its counts
-pub record AcceptedLayout (image : List ℕ) (l : Layout) : Type 0 where
-  pub laid : LayoutOf image l
-  pub accepted : check image ≡ fine
-
--- where bodies are opened n deep, the table has the nine figures, cut, of the body of each gate below m
+-- where bodies are opened n deep, the table has the nine figures, capped, of the body of each gate below m
 pub record FigureTable (image : List ℕ) (n m : ℕ) (table : List ℕ) : Type 0 where
   pub holds : (k g j : ℕ) → n ≡ suc k → g < m → j < 9 → getD table (9 * g + j) 0 ≡ capped (body image k g j)
 
@@ -53,12 +46,13 @@ pub record RowFilled (image : List ℕ) (n g : ℕ) (table next : List ℕ) : Ty
 abbrev pub nineOf : Figures → List ℕ
 nineOf f = f .u ∷ f .cx ∷ f .opaque ∷ f .barrier ∷ f .measure ∷ f .reset ∷ f .conditional ∷ f .entries ∷ f .words ∷ []
 
--- what the answers say in document 01's numbers
+-- the tally's answer where the check finds a flaw
 abbrev pub refusedAs : Flaw → TallyAnswer
 refusedAs fine = refused 0 0
 refusedAs (bad n p) = refused n p
 
+-- what the answers say in document 01's numbers
 abbrev pub tallyAnswerOf : Tallied → TallyAnswer
 tallyAnswerOf (answer.Figures f) = tallied (nineOf f)
-tallyAnswerOf (answer.Refused c) = refusedAs (answerFlaw c)
+tallyAnswerOf (answer.Refused c) = refusedAs (refusalFlaw c)
 tallyAnswerOf answer.TooLarge = refused 16 0

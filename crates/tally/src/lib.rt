@@ -1,19 +1,19 @@
 // The tally of an image at a depth: nine figures, before the first record.
-use image::CheckAnswer;
-use image::Contents;
+use image::CheckRefusal;
 use image::Layout;
+use image_check::LayoutAnswer;
 ghost use mathlib.Core.Path.{_≡_};
 ghost use mathlib.Core.Bool.{cond};
 ghost use mathlib.Core.List.{[], _∷_, map};
 ghost use lib.Dec.{eqb};
 ghost use Prim.Native.Nat.{suc, _+_, _-_, _*_, _<_, _≤_, _^_, min};
 ghost use Rattle.model.specs.Lists.{range, sum, largest};
-ghost use Rattle.model.specs.Image.{word, statement, argumentSize, classicalArgumentSize, rounds, gates, gateArguments, qubits, bits};
-ghost use Rattle.model.specs.Check.{fine, check};
+ghost use Rattle.model.specs.Image.{statement, argumentSize, classicalArgumentSize, rounds, gates, gateArguments, qubits, bits};
 ghost use Rattle.model.specs.Tally.{gateTally, plainTally, conditionalTally, statementTally, bodyTally, weightTally, figures, tally};
 ghost use Rattle.model.specs.Accepted.{PlainFacts, Facts, callsBelow};
 ghost use Rattle.image.specs.Layout.{LayoutOf};
-ghost use Rattle.tally.specs.Weights.{weightOf, entryOf, capped, openingFor, AcceptedLayout, FigureTable, RowFilled, nineOf, tallyAnswerOf};
+ghost use Rattle.image_check.specs.Answer.{AcceptedLayout};
+ghost use Rattle.tally.specs.Weights.{weightOf, entryOf, capped, openingFor, FigureTable, RowFilled, nineOf, tallyAnswerOf};
 
 // The records of kinds 1 to 7, the body entries and the word bound.
 pub struct Figures {
@@ -28,14 +28,43 @@ pub struct Figures {
     pub words: u64,
 }
 
+// What a tally answers: the figures, why the check refuses the image, or that a figure is too large.
 pub enum Tallied {
     Figures(Figures),
-    Refused(CheckAnswer),
+    Refused(CheckRefusal),
     TooLarge,
 }
 
-// The first figure that is refused: what passes it is cut to it.
+// The first figure that is refused: what passes it is capped to it.
 const LIMIT: u64 = 0x1_0000_0000;
+
+// How many figures there are, which is how long a row of the table is.
+const FIGURES: u64 = 9;
+
+// The table has a row for each gate that an image may have.
+const TABLE_WORDS: usize = (FIGURES * image::MOST_GATES) as usize;
+
+// The words of each kind of record: those of a barrier and of an opaque gate's call are these and one for each qubit, those of an
+// opaque gate's call also four for each angle, those of the head also two for each qubit and each bit.
+const HEAD_WORDS: u64 = 3;
+
+const U_WORDS: u64 = 14;
+
+const CX_WORDS: u64 = 3;
+
+const OPAQUE_WORDS: u64 = 4;
+
+const ANGLE_WORDS: u64 = 4;
+
+const BARRIER_WORDS: u64 = 2;
+
+const MEASURE_WORDS: u64 = 3;
+
+const RESET_WORDS: u64 = 2;
+
+const CONDITIONAL_START_WORDS: u64 = 4;
+
+const CONDITIONAL_END_WORDS: u64 = 1;
 
 // What a record of a kind and a length adds to figure j.
 fn weight(j: u64, kind: u64, words: u64) -> u64
@@ -60,14 +89,16 @@ fn entry_weight(j: u64) -> u64
     if j == 7 { 1 } else { 0 }
 }
 
-fn cut_sum(a: u64, b: u64) -> u64
+// The sum of a capped figure and a number, capped.
+fn capped_sum(a: u64, b: u64) -> u64
     requires { ⌜ a ≤ 2 ^ 32 ⌝ }
     ensures { λ r. ⌜ r ≡ capped (a + b) ⌝ }
 {
     if b < LIMIT - a { a + b } else { LIMIT }
 }
 
-fn cut_product(k: u64, a: u64) -> u64
+// A figure times k, capped.
+fn capped_product(k: u64, a: u64) -> u64
     ensures { λ r. ⌜ r ≡ capped (k * a) ⌝ }
 {
     if a == 0 {
@@ -76,32 +107,33 @@ fn cut_product(k: u64, a: u64) -> u64
     if k <= LIMIT / a { k * a } else { LIMIT }
 }
 
-// Some rounds of a record.
+// What a record adds to figure j in some rounds.
 fn record_figure(rounds: u64, j: u64, kind: u64, words: u64) -> u64
     ensures { λ r. ⌜ r ≡ capped (rounds * weightOf j kind words) ⌝ }
 {
-    cut_product(rounds, weight(j, kind, words))
+    capped_product(rounds, weight(j, kind, words))
 }
 
 // ---- statements
 
-// The words of a barrier: 2, and its argument sizes added up. In a body each size is 1.
+// The words of a barrier: its argument sizes are added up, of which each is 1 in a body.
 fn barrier_words(image: &[u64], l: Layout, scope: u64, a: u64, n: u64) -> u64
     requires { ⌜ LayoutOf (now image) l × (a + n ≤ 8192) ⌝ }
     ensures { λ r. ⌜ r ≡ capped (2 + sum (map (argumentSize (now (image .entry)) scope) (range a n))) ⌝ }
 {
     if scope != 0 {
-        return cut_sum(2, n);
+        return capped_sum(BARRIER_WORDS, n);
     }
-    let mut total = 2u64;
+    let mut total = BARRIER_WORDS;
     let mut i = 0u64;
     while i < n {
-        total = cut_sum(total, image::argument_size(image, l, scope, a + i));
+        total = capped_sum(total, image::argument_size(image, l, scope, a + i));
         i += 1;
     }
     total
 }
 
+// What a barrier adds to figure j.
 fn barrier_figure(image: &[u64], l: Layout, scope: u64, a: u64, n: u64, j: u64) -> u64
     requires { ⌜ LayoutOf (now image) l × (a + n ≤ 8192) ⌝ }
     ensures { λ r. ⌜ r ≡ capped (weightOf j 4 (2 + sum (map (argumentSize (now (image .entry)) scope) (range a n)))) ⌝ }
@@ -117,6 +149,7 @@ fn rounds_of_one(image: &[u64], l: Layout, scope: u64, a: u64) -> u64
     image::argument_size(image, l, scope, a)
 }
 
+// The rounds of a statement with two arguments.
 fn rounds_of_two(image: &[u64], l: Layout, scope: u64, a: u64, b: u64) -> u64
     requires { ⌜ LayoutOf (now image) l × (a ≤ 8192) × (b ≤ 8192) ⌝ }
     ensures { λ r. ⌜ r ≡ rounds (now (image .entry)) scope (a ∷ b ∷ []) ⌝ }
@@ -127,6 +160,7 @@ fn rounds_of_two(image: &[u64], l: Layout, scope: u64, a: u64, b: u64) -> u64
     )
 }
 
+// The rounds of a measurement.
 fn rounds_of_measure(image: &[u64], l: Layout, scope: u64, q: u64, c: u64) -> u64
     requires { ⌜ LayoutOf (now image) l × (q ≤ 8192) × (c ≤ 8192) ⌝ }
     ensures { λ r. ⌜ r ≡ largest (argumentSize (now (image .entry)) scope q ∷ classicalArgumentSize (now (image .entry)) c ∷ []) ⌝ }
@@ -137,11 +171,11 @@ fn rounds_of_measure(image: &[u64], l: Layout, scope: u64, q: u64, c: u64) -> u6
     )
 }
 
-// Some rounds of a call of gate g, with bodies opened n deep.
+// What a call of gate g adds to figure j in some rounds, with bodies opened n deep.
 fn gate_figure(
     image: &[u64],
     l: Layout,
-    table: &[u64; 1152],
+    table: &[u64; TABLE_WORDS],
     n: u64,
     g: u64,
     rounds: u64,
@@ -150,24 +184,30 @@ fn gate_figure(
     requires { ⌜ AcceptedLayout (now image) l × FigureTable (now image) n (suc g) (now table) × (g < l .gates) × (j < 9) ⌝ }
     ensures { λ r. ⌜ r ≡ capped (rounds * gateTally (now (image .entry)) (weightOf j) (entryOf j) (openingFor (now (image .entry)) j n) g) ⌝ }
 {
-    let at = image::gate_at(image, l, g);
+    let at = l.gate_at(g);
     let parameters = image::word(image, at);
     let arguments = image::word(image, at + 1);
     if image::word(image, at + 2) == 0 {
-        return record_figure(rounds, j, 3, 4 + 4 * parameters + arguments);
+        return record_figure(
+            rounds,
+            j,
+            3,
+            OPAQUE_WORDS + ANGLE_WORDS * parameters + arguments,
+        );
     }
     if n == 0 {
-        return record_figure(rounds, j, 3, 4 + arguments);
+        return record_figure(rounds, j, 3, OPAQUE_WORDS + arguments);
     }
-    let i = (9 * g + j) as usize;
-    let entries = cut_product(rounds, entry_weight(j));
-    cut_sum(entries, cut_product(rounds, table[i]))
+    let i = (FIGURES * g + j) as usize;
+    let entries = capped_product(rounds, entry_weight(j));
+    capped_sum(entries, capped_product(rounds, table[i]))
 }
 
+// What a call of gate g with arguments from a on adds to figure j.
 fn call_figure(
     image: &[u64],
     l: Layout,
-    table: &[u64; 1152],
+    table: &[u64; TABLE_WORDS],
     n: u64,
     scope: u64,
     g: u64,
@@ -177,16 +217,16 @@ fn call_figure(
     requires { ⌜ AcceptedLayout (now image) l × FigureTable (now image) n (suc g) (now table) × (g < l .gates) × (a + gateArguments (now image) g ≤ 8192) × (j < 9) ⌝ }
     ensures { λ r. ⌜ r ≡ capped (rounds (now (image .entry)) scope (range a (gateArguments (now (image .entry)) g)) * gateTally (now (image .entry)) (weightOf j) (entryOf j) (openingFor (now (image .entry)) j n) g) ⌝ }
 {
-    let arguments = image::word(image, image::gate_at(image, l, g) + 1);
+    let arguments = image::word(image, l.gate_at(g) + 1);
     let rounds = image::rounds_of(image, l, scope, a, arguments);
     gate_figure(image, l, table, n, g, rounds, j)
 }
 
-// A statement other than an if.
+// What statement s, which is no if, adds to figure j.
 fn plain_figure(
     image: &[u64],
     l: Layout,
-    table: &[u64; 1152],
+    table: &[u64; TABLE_WORDS],
     n: u64,
     scope: u64,
     s: u64,
@@ -195,28 +235,33 @@ fn plain_figure(
     requires { ⌜ AcceptedLayout (now image) l × FigureTable (now image) n (callsBelow (now image) scope) (now table) × PlainFacts (now image) scope (statement (now image) s) × (s ≤ 8192) × (j < 9) ⌝ }
     ensures { λ r. ⌜ r ≡ capped (plainTally (now (image .entry)) (weightOf j) (entryOf j) (λ t. 0) (openingFor (now (image .entry)) j n) scope (statement (now (image .entry)) s)) ⌝ }
 {
-    let at = image::statement_at(image, l, s);
+    let at = l.statement_at(s);
     let kind = image::word(image, at);
     let a = image::word(image, at + 1);
     let b = image::word(image, at + 2);
     let c = image::word(image, at + 3);
     let d = image::word(image, at + 4);
     match kind {
-        1 => record_figure(rounds_of_one(image, l, scope, d), j, 1, 14),
-        2 => record_figure(rounds_of_two(image, l, scope, a, b), j, 2, 3),
+        1 => record_figure(rounds_of_one(image, l, scope, d), j, 1, U_WORDS),
+        2 => record_figure(rounds_of_two(image, l, scope, a, b), j, 2, CX_WORDS),
         3 => call_figure(image, l, table, n, scope, a, c, j),
         4 => barrier_figure(image, l, scope, a, b, j),
-        5 => record_figure(rounds_of_measure(image, l, scope, a, b), j, 5, 3),
-        6 => record_figure(rounds_of_one(image, l, scope, a), j, 6, 2),
+        5 => record_figure(
+            rounds_of_measure(image, l, scope, a, b),
+            j,
+            5,
+            MEASURE_WORDS,
+        ),
+        6 => record_figure(rounds_of_one(image, l, scope, a), j, 6, RESET_WORDS),
         _ => 0,
     }
 }
 
-// An if around statement t: a kind 7, t, and a kind 8.
+// What an if around statement t adds to figure j: its start, t, and its end.
 fn conditional_figure(
     image: &[u64],
     l: Layout,
-    table: &[u64; 1152],
+    table: &[u64; TABLE_WORDS],
     n: u64,
     scope: u64,
     t: u64,
@@ -226,13 +271,15 @@ fn conditional_figure(
     ensures { λ r. ⌜ r ≡ capped (conditionalTally (now (image .entry)) (weightOf j) (entryOf j) (openingFor (now (image .entry)) j n) scope t) ⌝ }
 {
     let inner = plain_figure(image, l, table, n, scope, t, j);
-    cut_sum(cut_sum(inner, weight(j, 7, 4)), weight(j, 8, 1))
+    let started = capped_sum(inner, weight(j, 7, CONDITIONAL_START_WORDS));
+    capped_sum(started, weight(j, 8, CONDITIONAL_END_WORDS))
 }
 
+// What statement s adds to figure j.
 fn statement_figure(
     image: &[u64],
     l: Layout,
-    table: &[u64; 1152],
+    table: &[u64; TABLE_WORDS],
     n: u64,
     scope: u64,
     s: u64,
@@ -241,7 +288,7 @@ fn statement_figure(
     requires { ⌜ AcceptedLayout (now image) l × FigureTable (now image) n (callsBelow (now image) scope) (now table) × Facts (now image) scope (statement (now image) s) × (s ≤ 8192) × (j < 9) ⌝ }
     ensures { λ r. ⌜ r ≡ capped (statementTally (now (image .entry)) (weightOf j) (entryOf j) (openingFor (now (image .entry)) j n) scope s) ⌝ }
 {
-    let at = image::statement_at(image, l, s);
+    let at = l.statement_at(s);
     if image::word(image, at) == 7 {
         let t = image::word(image, at + 3);
         return conditional_figure(image, l, table, n, scope, t, j);
@@ -251,8 +298,15 @@ fn statement_figure(
 
 // ---- scopes
 
-// The statements of a scope.
-fn body_figure(image: &[u64], l: Layout, table: &[u64; 1152], n: u64, scope: u64, j: u64) -> u64
+// What the statements of a scope come to in figure j.
+fn body_figure(
+    image: &[u64],
+    l: Layout,
+    table: &[u64; TABLE_WORDS],
+    n: u64,
+    scope: u64,
+    j: u64,
+) -> u64
     requires { ⌜ AcceptedLayout (now image) l × FigureTable (now image) n (callsBelow (now image) scope) (now table) × (scope ≤ l .gates) × (j < 9) ⌝ }
     ensures { λ r. ⌜ r ≡ capped (bodyTally (now (image .entry)) (weightOf j) (entryOf j) (openingFor (now (image .entry)) j n) scope) ⌝ }
 {
@@ -262,7 +316,7 @@ fn body_figure(image: &[u64], l: Layout, table: &[u64; 1152], n: u64, scope: u64
     let mut total = 0u64;
     let mut i = 0u64;
     while i < count {
-        total = cut_sum(
+        total = capped_sum(
             total,
             statement_figure(image, l, table, n, scope, first + i, j),
         );
@@ -272,20 +326,20 @@ fn body_figure(image: &[u64], l: Layout, table: &[u64; 1152], n: u64, scope: u64
 }
 
 // Puts the nine figures of gate g's body into its row. The body calls only gates before g, whose rows stay.
-fn fill_row(image: &[u64], l: Layout, n: u64, g: u64, table: &mut [u64; 1152])
+fn fill_row(image: &[u64], l: Layout, n: u64, g: u64, table: &mut [u64; TABLE_WORDS])
     requires { ⌜ AcceptedLayout (now image) l × FigureTable (now image) n g (now table) × (g < l .gates) ⌝ }
     ensures { λ r. ⌜ RowFilled (now (image .entry)) n g (now (table .entry)) (now (table .exit)) ⌝ }
 {
     let mut j = 0u64;
-    while j < 9 {
+    while j < FIGURES {
         let figure = body_figure(image, l, table, n, g + 1, j);
-        image::put(table, (9 * g + j) as usize, figure);
+        image::store(table, (FIGURES * g + j) as usize, figure);
         j += 1;
     }
 }
 
 // Opens bodies one level deeper, from the last gate down: each row is made of those that are not yet deeper.
-fn deepen_table(image: &[u64], l: Layout, n: u64, table: &mut [u64; 1152])
+fn deepen_table(image: &[u64], l: Layout, n: u64, table: &mut [u64; TABLE_WORDS])
     requires { ⌜ AcceptedLayout (now image) l × FigureTable (now image) n (gates (now image)) (now table) ⌝ }
     ensures { λ r. ⌜ FigureTable (now (image .entry)) (suc n) (gates (now (image .entry))) (now (table .exit)) ⌝ }
 {
@@ -297,11 +351,11 @@ fn deepen_table(image: &[u64], l: Layout, n: u64, table: &mut [u64; 1152])
 }
 
 // The table with bodies opened n deep, level by level.
-fn level_table(image: &[u64], l: Layout, n: u64) -> [u64; 1152]
+fn level_table(image: &[u64], l: Layout, n: u64) -> [u64; TABLE_WORDS]
     requires { ⌜ AcceptedLayout (now image) l ⌝ }
     ensures { λ r. ⌜ FigureTable (now (image .entry)) n (gates (now (image .entry))) r ⌝ }
 {
-    let mut table = [0u64; 1152];
+    let mut table = [0u64; TABLE_WORDS];
     let mut i = 0u64;
     while i < n {
         deepen_table(image, l, i, &mut table);
@@ -311,12 +365,12 @@ fn level_table(image: &[u64], l: Layout, n: u64) -> [u64; 1152]
 }
 
 // The table with all bodies opened: one pass from the first gate on, since each row is made of those before it.
-fn whole_table(image: &[u64], l: Layout) -> [u64; 1152]
+fn whole_table(image: &[u64], l: Layout) -> [u64; TABLE_WORDS]
     requires { ⌜ AcceptedLayout (now image) l ⌝ }
     ensures { λ r. ⌜ FigureTable (now (image .entry)) (l .gates) (gates (now (image .entry))) r ⌝ }
 {
     let gates = l.gates;
-    let mut table = [0u64; 1152];
+    let mut table = [0u64; TABLE_WORDS];
     let mut g = 0u64;
     while g < gates {
         fill_row(image, l, gates, g, &mut table);
@@ -326,7 +380,7 @@ fn whole_table(image: &[u64], l: Layout) -> [u64; 1152]
 }
 
 // The table with bodies opened n deep.
-fn opened_table(image: &[u64], l: Layout, n: u64) -> [u64; 1152]
+fn opened_table(image: &[u64], l: Layout, n: u64) -> [u64; TABLE_WORDS]
     requires { ⌜ AcceptedLayout (now image) l ⌝ }
     ensures { λ r. ⌜ FigureTable (now (image .entry)) n (gates (now (image .entry))) r ⌝ }
 {
@@ -338,27 +392,14 @@ fn opened_table(image: &[u64], l: Layout, n: u64) -> [u64; 1152]
 
 // ---- in all
 
-// The sizes of the registers from a place on.
-fn size_of_all(image: &[u64], at: u64, n: u64) -> u64
-    requires { ⌜ at + n ≤ 16384 ⌝ }
-    ensures { λ r. ⌜ r ≡ capped (sum (map (λ i. word (now (image .entry)) (at + i)) (range 0 n))) ⌝ }
-{
-    let mut total = 0u64;
-    let mut i = 0u64;
-    while i < n {
-        total = cut_sum(total, image::word(image, at + i));
-        i += 1;
-    }
-    total
-}
-
+// The words of the head.
 fn head_words(image: &[u64], l: Layout) -> u64
     requires { ⌜ AcceptedLayout (now image) l ⌝ }
     ensures { λ r. ⌜ r ≡ 3 + 2 * (qubits (now (image .entry)) + bits (now (image .entry))) ⌝ }
 {
-    let quantum = size_of_all(image, 9, l.quantum);
-    let classical = size_of_all(image, 9 + l.quantum, l.classical);
-    3 + 2 * (quantum + classical)
+    let quantum = image::size_in_all(image, l.quantum_register_at(0), l.quantum_registers);
+    let classical = image::size_in_all(image, l.classical_register_at(0), l.classical_registers);
+    HEAD_WORDS + 2 * (quantum + classical)
 }
 
 // The head comes with the first main statement.
@@ -368,18 +409,19 @@ fn if_any(main: u64, head: u64) -> u64
     if main == 0 { 0 } else { head }
 }
 
-fn total_figure(image: &[u64], l: Layout, table: &[u64; 1152], n: u64, j: u64) -> u64
+// Figure j of the whole image.
+fn total_figure(image: &[u64], l: Layout, table: &[u64; TABLE_WORDS], n: u64, j: u64) -> u64
     requires { ⌜ AcceptedLayout (now image) l × FigureTable (now image) n (gates (now image)) (now table) × (j < 9) ⌝ }
     ensures { λ r. ⌜ r ≡ capped (weightTally (now (image .entry)) (weightOf j) (entryOf j) (n + 1)) ⌝ }
 {
-    let main = l.main;
+    let main = l.main_statements;
     let head = weight(j, 0, head_words(image, l));
     let statements = body_figure(image, l, table, n, 0, j);
-    cut_sum(statements, if_any(main, head))
+    capped_sum(statements, if_any(main, head))
 }
 
 // How deep bodies are opened: as many levels as there are gates open them all.
-fn levels(depth: u64, gates: u64) -> u64
+fn opened_levels(depth: u64, gates: u64) -> u64
     ensures { λ r. ⌜ r ≡ min (depth - 1) gates ⌝ }
 {
     if depth == 0 {
@@ -388,7 +430,8 @@ fn levels(depth: u64, gates: u64) -> u64
     if depth <= gates { depth - 1 } else { gates }
 }
 
-fn nine_figures(image: &[u64], l: Layout, table: &[u64; 1152], n: u64) -> Figures
+// The nine figures of the whole image, capped.
+fn nine_figures(image: &[u64], l: Layout, table: &[u64; TABLE_WORDS], n: u64) -> Figures
     requires { ⌜ AcceptedLayout (now image) l × FigureTable (now image) n (gates (now image)) (now table) ⌝ }
     ensures { λ r. ⌜ nineOf r ≡ map capped (figures (now (image .entry)) (n + 1)) ⌝ }
 {
@@ -405,6 +448,7 @@ fn nine_figures(image: &[u64], l: Layout, table: &[u64; 1152], n: u64) -> Figure
     }
 }
 
+// The largest of the nine figures.
 fn largest_figure(f: Figures) -> u64
     ensures { λ r. ⌜ r ≡ largest (nineOf f) ⌝ }
 {
@@ -414,11 +458,12 @@ fn largest_figure(f: Figures) -> u64
     image::larger(f.u, image::larger(f.cx, image::larger(f.opaque, most)))
 }
 
-fn laid_tally(image: &[u64], l: Layout, depth: u64) -> Tallied
+// The nine figures of an accepted image at a depth, or that one of them is too large.
+fn accepted_tally(image: &[u64], l: Layout, depth: u64) -> Tallied
     requires { ⌜ AcceptedLayout (now image) l ⌝ }
     ensures { λ r. ⌜ tallyAnswerOf r ≡ tally (now (image .entry)) depth ⌝ }
 {
-    let n = levels(depth, l.gates);
+    let n = opened_levels(depth, l.gates);
     let table = opened_table(image, l, n);
     let figures = nine_figures(image, l, &table, n);
     if largest_figure(figures) < LIMIT {
@@ -428,23 +473,12 @@ fn laid_tally(image: &[u64], l: Layout, depth: u64) -> Tallied
     }
 }
 
-fn accepted_tally(image: &[u64], depth: u64) -> Tallied
-    requires { ⌜ check (now image) ≡ fine ⌝ }
-    ensures { λ r. ⌜ tallyAnswerOf r ≡ tally (now (image .entry)) depth ⌝ }
-{
-    match image::read_contents(image) {
-        Contents::Right(l) => laid_tally(image, l, depth),
-        Contents::Wrong => Tallied::TooLarge,
-    }
-}
-
 // The nine figures at a depth, or why there are none.
 pub fn tally(image: &[u64], depth: u64) -> Tallied
     ensures { λ r. ⌜ tallyAnswerOf r ≡ tally (now (image .entry)) depth ⌝ }
 {
-    let verdict = image_check::check(image);
-    match verdict {
-        CheckAnswer::Accepted => accepted_tally(image, depth),
-        _ => Tallied::Refused(verdict),
+    match image_check::accepted_layout(image) {
+        LayoutAnswer::Accepted(l) => accepted_tally(image, l, depth),
+        LayoutAnswer::Refused(refused) => Tallied::Refused(refused),
     }
 }

@@ -1,3 +1,4 @@
+-- Each operation on two angles is the one of its kind.
 use mathlib.Core.Path.{refl}
 use Rattle.model.specs.Image.{expressionOf, Add, Sub, Mul, Div, Pow}
 use Rattle.model.specs.Evaluate.{binary}

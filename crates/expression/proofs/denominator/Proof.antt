@@ -1,4 +1,5 @@
-use Rattle.expression.proofs.TableLaws.{denominator-zero, denominator-other}
+-- A word 0 stands for the denominator 1, and any other for itself.
+use Rattle.expression.proofs.AnglesLaws.{denominator-zero, denominator-other}
 use Rattle.expression.proofs.denominator.Statement.{statement}
 use Rattle.expression.proofs.denominator.Tie as tie
 

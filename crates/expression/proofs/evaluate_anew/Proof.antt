@@ -1,3 +1,4 @@
+-- A constant is read back, a parameter alone is read from the frame, and anything else is evaluated with no value known.
 use Prim.Native.Nat.{_<_, _+_, _*_}
 use native.Mathlib.Omega.{arith}
 use mathlib.Core.Path.{refl, sym, ap, _∙_}
@@ -6,23 +7,23 @@ use denote.Ref.{now}
 use borrow.Author.Needs.{needs}
 use Rattle.model.specs.Image.{expressions, expressionAt, expressionOf, word}
 use Rattle.model.specs.Evaluate.{valueOf, evaluate as evaluated}
-use Rattle.expression.specs.Table.{anglesIn}
+use Rattle.expression.specs.Angles.{anglesIn}
 use Rattle.expression.proofs.EntryLaws.{inside, entry, value-is}
-use Rattle.expression.proofs.TableLaws.{keeps-none, constant-value}
+use Rattle.expression.proofs.KeptValuesLaws.{keeps-none, constant-value}
 use Rattle.expression.proofs.evaluate_anew.Statement.{statement}
 use Rattle.expression.proofs.evaluate_anew.Tie as tie
 
 listed : (s : tie.Start) → s .args .e < expressions (now (s .args .image))
-listed s = inside (now (s .args .image)) (s .args .e) (s .pre .2)
+listed s = inside (now (s .args .image)) (s .args .e) (s .pre .1)
 
 few : (s : tie.Start) → s .args .e < 2728
-few s = omega (arith, s .pre .0 .whole, s .pre .0 .short, listed s)
+few s = omega (arith, s .pre .0 .laid .whole, s .pre .0 .laid .short, listed s)
 
-room : (s : tie.Start) → 7 * s .args .e + 1 + 5 < length (now (s .args .table))
-room s = omega (arith, s .pre .3 .room, listed s)
+room : (s : tie.Start) → 7 * s .args .e + 1 + 5 < length (now (s .args .kept-values))
+room s = omega (arith, s .pre .0 .constants .room, listed s)
 
 within : (s : tie.Start) → expressionAt (now (s .args .image)) (s .args .e) < 8192
-within s = omega (arith, s .pre .0 .whole, s .pre .0 .short, listed s)
+within s = omega (arith, s .pre .0 .laid .whole, s .pre .0 .laid .short, listed s)
 
 mul-if1 : tie.Need-mul-if1
 mul-if1 c = record { fits = omega (arith, few (c .before .before)) }
@@ -46,10 +47,12 @@ same-length : tie.Need-same-length
 same-length c = search needs
 
 returns : tie.Need-returns
-returns c = let s = c .before .before .before .before .before .before in (constant-value (now (s .args .image)) (anglesIn (now (s .args .variables))) (now (s .args .table)) (s .args .e) (c .value-at .result) (s .pre .3) (listed s) (c .before .before .if1 .taken) (c .value-at .ensures), s .pre .3)
+returns c =
+    let s = c .before .before .before .before .before .before in
+    (constant-value (now (s .args .image)) (anglesIn (now (s .args .angles))) (now (s .args .kept-values)) (s .args .e) (c .value-at .result) (s .pre .0 .constants) (listed s) (c .before .before .if1 .taken) (c .value-at .ensures), s .pre .0 .constants)
 
 expression-at-requires : tie.Need-expression-at-requires
-expression-at-requires c κs = let s = c .before .before .before .before in (s .pre .0, omega (arith, within s))
+expression-at-requires c κs = let s = c .before .before .before .before in (s .pre .0 .laid, omega (arith, within s))
 
 word-requires : tie.Need-word-requires
 word-requires c κs = tt
@@ -60,20 +63,32 @@ add-word c = record { fits = omega (arith, c .before .before .expression-at .ens
 word-requires-2 : tie.Need-word-requires-2
 word-requires-2 c κs = tt
 
-leaf-requires : tie.Need-leaf-requires
-leaf-requires c κs = let s = c .before .before .before .before .before .before .before .before in (s .pre .1, omega arith, (λ e. absurd (omega arith)), λ e. let k = entry (now (s .args .image)) (anglesIn (now (s .args .variables))) (s .args .e) (s .pre .2) _ _ _ (word (now (s .args .image)) (c .before .before .before .expression-at .result + 2)) (c .before .before .before .expression-at .ensures) (c .before .before .word .ensures) (c .word2 .ensures) refl in let h = k .variable (c .before .if2 .taken) in omega (arith, s .pre .2 .few))
+nullary-requires : tie.Need-nullary-requires
+nullary-requires c κs =
+    let s = c .before .before .before .before .before .before .before .before in
+    (s .pre .0 .sound, omega arith, (λ e. absurd (omega arith)), λ e. let k = entry (now (s .args .image)) (anglesIn (now (s .args .angles))) (s .args .e) (s .pre .1) _ _ _ (word (now (s .args .image)) (c .before .before .before .expression-at .result + 2)) (c .before .before .before .expression-at .ensures) (c .before .before .word .ensures) (c .word2 .ensures) refl in let h = k .variable (c .before .if2 .taken) in omega (arith, s .pre .1 .few))
 
 returns-2 : tie.Need-returns-2
-returns-2 c = let s = c .before .before .before .before .before .before .before .before .before in let image = now (s .args .image) in let b = word image (c .before .before .before .before .expression-at .result + 2) in (record { is = c .leaf .ensures .told _ b ∙ ap (λ k. valueOf (anglesIn (now (s .args .variables))) (evaluated image (anglesIn (now (s .args .variables))) 32) (expressionOf k (c .before .word2 .result) b)) (sym (c .before .before .if2 .taken)) ∙ sym (value-is image (anglesIn (now (s .args .variables))) (s .args .e) (s .pre .2) _ _ _ b (c .before .before .before .before .expression-at .ensures) (c .before .before .before .word .ensures) (c .before .word2 .ensures) refl); sound = c .leaf .ensures .sound }, s .pre .3)
+returns-2 c =
+    let s = c .before .before .before .before .before .before .before .before .before in
+    let expression-at = c .before .before .before .before .expression-at in
+    let expression-at-2 = c .before .before .before .before .expression-at .ensures in
+    let image = now (s .args .image) in
+    let b = word image (expression-at .result + 2) in
+    (record { is = c .nullary .ensures .value _ b ∙ ap (λ k. valueOf (anglesIn (now (s .args .angles))) (evaluated image (anglesIn (now (s .args .angles))) 32) (expressionOf k (c .before .word2 .result) b)) (sym (c .before .before .if2 .taken)) ∙ sym (value-is image (anglesIn (now (s .args .angles))) (s .args .e) (s .pre .1) _ _ _ b (expression-at .ensures) (c .before .before .before .word .ensures) (c .before .word2 .ensures) refl); sound = c .nullary .ensures .sound }, s .pre .0 .constants)
 
 evaluate-requires : tie.Need-evaluate-requires
-evaluate-requires c κs = let s = c .before .before .before .before .before .before .before .before .before in (s .pre .0, s .pre .1, s .pre .2, keeps-none _ _ _ (omega (arith, s .pre .0 .whole, s .pre .0 .short)) (s .pre .3))
+evaluate-requires c κs =
+    let s = c .before .before .before .before .before .before .before .before .before in
+    (s .pre .0 .laid, s .pre .0 .sound, s .pre .1, keeps-none _ _ _ (omega (arith, s .pre .0 .laid .whole, s .pre .0 .laid .short)) (s .pre .0 .constants))
 
 same-length-2 : tie.Need-same-length-2
 same-length-2 c = search needs
 
 returns-3 : tie.Need-returns-3
-returns-3 c = (c .before .before .evaluate .ensures .0, c .before .before .evaluate .ensures .1 .fixed)
+returns-3 c =
+    let evaluate = c .before .before .evaluate .ensures in
+    (evaluate .0, evaluate .1 .constants)
 
 pub evaluate-anew-spec : {M : Type 1} → statement M
 evaluate-anew-spec =
@@ -91,7 +106,7 @@ evaluate-anew-spec =
     word-requires
     add-word
     word-requires-2
-    leaf-requires
+    nullary-requires
     returns-2
     evaluate-requires
     same-length-2

@@ -1,3 +1,4 @@
+-- Each evaluation without a value has the refusal that the definition says.
 use Rattle.expression.proofs.ParameterLaws.{refuses-division, refuses-float, refuses-function, refuses-overflow}
 use borrow.Author.Needs.{needs}
 use Rattle.expression.proofs.refusal.Statement.{statement}

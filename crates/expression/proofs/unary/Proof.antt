@@ -1,3 +1,4 @@
+-- Each operation on one angle is the one of its kind.
 use mathlib.Core.Path.{refl}
 use Rattle.model.specs.Image.{expressionOf, Neg, Sin, Cos, Tan, Exp, Ln, Sqrt}
 use Rattle.model.specs.Evaluate.{unary}

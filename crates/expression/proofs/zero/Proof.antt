@@ -1,3 +1,4 @@
+-- The angle 0 is in lowest terms.
 use mathlib.Core.Path.{refl}
 use Rattle.model.proofs.AnglesSound.{zero-sound}
 use Rattle.expression.proofs.zero.Statement.{statement}

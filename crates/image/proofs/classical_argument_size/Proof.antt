@@ -1,5 +1,5 @@
 use denote.Ref.{now}
-use Rattle.image.proofs.SizeLaws.{classical-size-index, classical-size-whole}
+use Rattle.image.proofs.ArgumentSizeLaws.{classical-size-index, classical-size-whole}
 use borrow.Author.Needs.{needs}
 use Rattle.image.proofs.classical_argument_size.Statement.{statement}
 use Rattle.image.proofs.classical_argument_size.Tie as tie
@@ -17,10 +17,10 @@ returns : tie.Need-returns
 returns c =
     let m = c .before in
     let p = m .before .before .before in
-    classical-size-index (now (p .args .image)) _ _ _ (m .before .argument-at .ensures) (m .word .ensures) (c .if1 .taken)
+    classical-size-index (now (p .args .image)) _ _ _ (m .before .argument-at .ensures .in-image _ (p .pre .0)) (m .word .ensures) (c .if1 .taken)
 
-add-word-after : tie.Need-add-word-after
-add-word-after c = search needs
+classical-register-at-requires : tie.Need-classical-register-at-requires
+classical-register-at-requires c κs = search needs
 
 word-requires-2 : tie.Need-word-requires-2
 word-requires-2 c κs = search needs
@@ -30,10 +30,11 @@ word-after-requires c κs = search needs
 
 returns-2 : tie.Need-returns-2
 returns-2 c =
-    let m = c .before .before .before .before in
+    let r = c .before .before in
+    let m = r .before .before in
     let p = m .before .before .before in
-    classical-size-whole (now (p .args .image)) _ _ _ (m .before .argument-at .ensures) (m .word .ensures) _ _ _
-    (c .before .before .before .if1 .left) (p .pre .0 .quantum-is) (c .before .word2 .ensures) (c .word-after .ensures)
+    classical-size-whole (now (p .args .image)) _ _ _ (m .before .argument-at .ensures .in-image _ (p .pre .0)) (m .word .ensures) _ _ _
+    (r .before .if1 .left) (r .classical-register-at .ensures .in-image _ (p .pre .0)) (c .before .word2 .ensures) (c .word-after .ensures)
 
 pub classical-argument-size-spec : {M : Type 1} → statement M
 classical-argument-size-spec =
@@ -43,7 +44,7 @@ classical-argument-size-spec =
     add-word
     word-requires
     returns
-    add-word-after
+    classical-register-at-requires
     word-requires-2
     word-after-requires
     returns-2)

@@ -7,9 +7,9 @@ use denote.Ref.{now}
 use borrow.Author.Needs.{needs}
 use Rattle.model.specs.Lists.{range, sum}
 use Rattle.model.specs.Image.{word}
-use Rattle.image.specs.Firsts.{RegisterStarts}
-use Rattle.image.proofs.FirstLaws.{firsts-none, firsts-next, total-within}
-use Rattle.image.proofs.FirstLaws.{total-next}
+use Rattle.image.specs.RegisterStarts.{RegisterStarts}
+use Rattle.image.proofs.RegisterStartsLaws.{firsts-none, firsts-next, total-within}
+use Rattle.image.proofs.RegisterStartsLaws.{total-next}
 use Rattle.image.proofs.first_of_each.Statement.{statement}
 use Rattle.image.proofs.first_of_each.Tie as tie
 
@@ -23,8 +23,8 @@ loop-holds : tie.Need-loop-holds Inv-loop μ-loop
 unfolding sum range
 loop-holds c = (omega arith, refl, refl, firsts-none _ _)
 
-put-requires : tie.Need-put-requires Inv-loop μ-loop
-put-requires c κs = search needs
+store-requires : tie.Need-store-requires Inv-loop μ-loop
+store-requires c κs = search needs
 
 add-word : tie.Need-add-word Inv-loop μ-loop
 add-word c = record { fits = omega arith }
@@ -50,9 +50,9 @@ loop-again c =
     let a = c .before .before .before .before .before .before .before .before .before in
     let size : ℕ → ℕ = λ (i : ℕ). word (now (a .args .image)) (a .args .at + i) in (
       omega arith,
-      ap length (c .before .before .before .put .ensures) ∙ length-set (l .firsts) (l .r) (l .total) ∙ l .inv .1,
+      ap length (c .before .before .before .store .ensures) ∙ length-set (l .firsts) (l .r) (l .total) ∙ l .inv .1,
       ap (λ (z : ℕ). l .total + z) (c .word .ensures) ∙ sym (total-next size (l .r) (l .total) (l .inv .2)),
-      rw (c .before .before .before .put .ensures) (firsts-next size (l .r) (l .total) (l .firsts) (search needs) (l .inv .2) (l .inv .3)),
+      rw (c .before .before .before .store .ensures) (firsts-next size (l .r) (l .total) (l .firsts) (search needs) (l .inv .2) (l .inv .3)),
     )
 
 same-length : tie.Need-same-length Inv-loop μ-loop
@@ -71,7 +71,7 @@ first-of-each-spec =
     Inv-loop
     μ-loop
     loop-holds
-    put-requires
+    store-requires
     add-word
     word-requires
     add-total

@@ -7,7 +7,7 @@ use native.Mathlib.Omega.{arith}
 use borrow.Author.Needs.{needs}
 use Rattle.model.specs.Lists.{range, largest}
 use Rattle.model.specs.Image.{argumentSize, rounds}
-use Rattle.image.proofs.SizeLaws.{most-start, most-next, most-done}
+use Rattle.image.proofs.ArgumentSizeLaws.{most-start, most-next, most-done}
 use Rattle.image.proofs.rounds_of.Statement.{statement}
 use Rattle.image.proofs.rounds_of.Tie as tie
 

@@ -1,6 +1,6 @@
 use mathlib.Core.Path.{sym, _∙_}
 use borrow.Author.Tests.{not-true, not-false}
-use Rattle.image_check.proofs.TestLaws.{three-first, three-second, three-third}
+use Rattle.image_check.proofs.FirstOfLaws.{three-first, three-second, three-third}
 use borrow.Author.Needs.{needs}
 use Rattle.image_check.proofs.angles_ok.Statement.{statement}
 use Rattle.image_check.proofs.angles_ok.Tie as tie

@@ -9,7 +9,7 @@ use denote.Ref.{now}
 use Rattle.model.specs.Lists.{every}
 use Rattle.model.specs.Image.{arguments}
 use Rattle.model.specs.Check.{unused, plainFlaw}
-use Rattle.image_check.proofs.TestLaws.{fails, passes, none, out, then, whole, run-told}
+use Rattle.image_check.proofs.FirstOfLaws.{fails, passes, none, out, then, whole, run-fits}
 use borrow.Author.Needs.{needs}
 use Rattle.image_check.proofs.barrier_flaw.Statement.{statement}
 use Rattle.image_check.proofs.barrier_flaw.Tie as tie
@@ -18,7 +18,7 @@ rest : (c : tie.Else1) → (let a = c .before .before .before .args in unused (n
 rest c = sym (c .before .unused-after .ensures) ∙ not-false _ (c .if1 .left)
 
 run : (c : tie.After-fits2) → (let a = c .before .before .before .before .args in leb (a .a + a .n) (arguments (now (a .image))) ≡ c .fits2 .result)
-run c = run-told (c .before .before .before .before .args .a) (c .fits2 .ensures) refl (c .before .before .before .before .pre .0 .arguments-is)
+run c = run-fits (c .before .before .before .before .args .a) (c .fits2 .ensures) refl (c .before .before .before .before .pre .0 .arguments-is)
 
 form : (c : tie.Else2) → (let a = c .before .before .before .before .before .args in every (unused (now (a .image)) (a .s) 3 ∷ leb (a .a + a .n) (arguments (now (a .image))) ∷ []) ≡ true)
 form c = then _ (rest (c .before .before)) (then _ (run (c .before) ∙ not-false _ (c .if2 .left)) whole)

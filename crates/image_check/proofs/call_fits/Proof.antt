@@ -6,8 +6,8 @@ use borrow.Author.Tests.{not-true, not-false}
 use denote.Ref.{now}
 use Rattle.model.specs.Image.{gates, arguments, parameters, gateParameters, gateArguments}
 use Rattle.model.specs.Check.{unused}
-use Rattle.image_check.proofs.CallLaws.{parameters-of, arguments-of}
-use Rattle.image_check.proofs.TestLaws.{out, then, last, below, beyond, run-told}
+use Rattle.image_check.proofs.CallFitsLaws.{parameters-of, arguments-of}
+use Rattle.image_check.proofs.FirstOfLaws.{out, then, last, below, beyond, run-fits}
 use borrow.Author.Needs.{needs}
 use Rattle.image_check.proofs.call_fits.Statement.{statement}
 use Rattle.image_check.proofs.call_fits.Tie as tie
@@ -21,12 +21,12 @@ inside c = below (c .before .before .before .before .before .pre .0 .gates-is) (
 parameters-fit : (c : tie.After-fits2) → (let a = c .before .before .before .before .before .before .before .before .before .args in leb (a .p + gateParameters (now (a .image)) (a .g)) (parameters (now (a .image)))) ≡ c .fits2 .result
 parameters-fit c =
     let s = c .before .before .before .before .before .before .before .before .before in
-    run-told (s .args .p) (c .fits2 .ensures) (parameters-of (now (s .args .image)) (s .args .g) _ (c .before .before .before .gate-at .ensures) _ (c .before .before .word .ensures)) (s .pre .0 .parameters-is)
+    run-fits (s .args .p) (c .fits2 .ensures) (parameters-of (now (s .args .image)) (s .args .g) _ (c .before .before .before .gate-at .ensures .in-image _ (c .before .before .before .before .before .before .before .before .before .pre .0)) _ (c .before .before .word .ensures)) (s .pre .0 .parameters-is)
 
 arguments-fit : (c : tie.After-fits3) → (let a = c .before .before .before .before .before .before .before .before .before .before .before .args in leb (a .a + gateArguments (now (a .image)) (a .g)) (arguments (now (a .image)))) ≡ c .fits3 .result
 arguments-fit c =
     let s = c .before .before .before .before .before .before .before .before .before .before .before in
-    run-told (s .args .a) (c .fits3 .ensures) (arguments-of (now (s .args .image)) (s .args .g) _ (c .before .before .before .before .before .gate-at .ensures) _ (c .before .before .before .word2 .ensures)) (s .pre .0 .arguments-is)
+    run-fits (s .args .a) (c .fits3 .ensures) (arguments-of (now (s .args .image)) (s .args .g) _ (c .before .before .before .before .before .gate-at .ensures .in-image _ (c .before .before .before .before .before .before .before .before .before .before .before .pre .0)) _ (c .before .before .before .word2 .ensures)) (s .pre .0 .arguments-is)
 
 unused-after-requires : tie.Need-unused-after-requires
 unused-after-requires c κs = search needs

@@ -9,10 +9,10 @@ use Rattle.model.specs.Lists.{range, all}
 use Rattle.model.specs.Image.{gateParameters, gateArguments, variables, argumentSize}
 use Rattle.model.specs.Check.{plainFlaw, downward, argumentOk, matching}
 use Rattle.image_check.specs.Statements.{callFits}
-use Rattle.image_check.proofs.CallLaws.{call-gate, call-parameters, call-arguments, parameters-of, arguments-of}
-use Rattle.image_entries.proofs.ExpressionLaws.{parameterOk}
+use Rattle.image_check.proofs.CallFitsLaws.{call-gate, call-parameters, call-arguments, parameters-of, arguments-of}
+use Rattle.image_entries.proofs.JudgementLaws.{parameterOk}
 use Rattle.image_check.proofs.ScopeLaws.{variables-few}
-use Rattle.image_check.proofs.TestLaws.{fails, passes, found}
+use Rattle.image_check.proofs.FirstOfLaws.{fails, passes, found}
 use borrow.Author.Needs.{needs}
 use Rattle.image_check.proofs.call_flaw.Statement.{statement}
 use Rattle.image_check.proofs.call_flaw.Tie as tie
@@ -24,10 +24,10 @@ down : (c : tie.After-calls-down) → (let a = c .before .before .before .before
 down c = sym (c .calls-down .ensures (now (c .before .before .before .before .before .before .args .image)))
 
 parameters-is : (c : tie.After-word2) → (let a = c .before .before .before .before .before .before .before .before .before .before .args in c .before .word .result ≡ gateParameters (now (a .image)) (a .g))
-parameters-is c = let a = c .before .before .before .before .before .before .before .before .before .before .args in parameters-of (now (a .image)) (a .g) _ (c .before .before .gate-at .ensures) _ (c .before .word .ensures)
+parameters-is c = let a = c .before .before .before .before .before .before .before .before .before .before .args in parameters-of (now (a .image)) (a .g) _ (c .before .before .gate-at .ensures .in-image _ (c .before .before .before .before .before .before .before .before .before .before .pre .0 .laid)) _ (c .before .word .ensures)
 
 arguments-is : (c : tie.After-word2) → (let a = c .before .before .before .before .before .before .before .before .before .before .args in c .word2 .result ≡ gateArguments (now (a .image)) (a .g))
-arguments-is c = let a = c .before .before .before .before .before .before .before .before .before .before .args in arguments-of (now (a .image)) (a .g) _ (c .before .before .gate-at .ensures) _ (c .word2 .ensures)
+arguments-is c = let a = c .before .before .before .before .before .before .before .before .before .before .args in arguments-of (now (a .image)) (a .g) _ (c .before .before .gate-at .ensures .in-image _ (c .before .before .before .before .before .before .before .before .before .before .pre .0 .laid)) _ (c .word2 .ensures)
 
 few-arguments : (c : tie.After-word2) → c .before .before .before .before .before .before .before .before .before .before .args .a + c .word2 .result ≤ 8192
 few-arguments c =
@@ -60,16 +60,13 @@ returns-2 c = passes _ _ (fit (c .before .before)) (fails _ (down (c .before) �
 gate-at-requires : tie.Need-gate-at-requires
 gate-at-requires c κs =
     let s = c .before .before .before .before .before .before .before in
-    (s .pre .0 .laid, call-gate (now (s .args .image)) (s .args .l) (s .args .s) (s .args .g) (s .args .p) (s .args .a) (s .pre .0 .laid) (fit (c .before .before)))
+    (s .pre .0 .laid .limits, omega (arith, call-gate (now (s .args .image)) (s .args .l) (s .args .s) (s .args .g) (s .args .p) (s .args .a) (s .pre .0 .laid) (fit (c .before .before))))
 
 word-requires : tie.Need-word-requires
 word-requires c κs = search needs
 
 add-word : tie.Need-add-word
-add-word c =
-    let s = c .before .before .before .before .before .before .before .before .before in
-    let few = call-gate (now (s .args .image)) (s .args .l) (s .args .s) (s .args .g) (s .args .p) (s .args .a) (s .pre .0 .laid) (fit (c .before .before .before .before)) in
-    omega (arith, c .before .gate-at .ensures)
+add-word c = search needs
 
 word-requires-2 : tie.Need-word-requires-2
 word-requires-2 c κs = search needs

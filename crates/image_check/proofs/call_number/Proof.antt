@@ -1,5 +1,5 @@
 use borrow.Author.Tests.{not-true, not-false}
-use Rattle.image_check.proofs.TestLaws.{fails, passes, none}
+use Rattle.image_check.proofs.FirstOfLaws.{fails, passes, none}
 use Rattle.image_check.proofs.call_number.Statement.{statement}
 use Rattle.image_check.proofs.call_number.Tie as tie
 

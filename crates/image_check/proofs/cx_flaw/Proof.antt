@@ -7,7 +7,7 @@ use denote.Ref.{now}
 use Rattle.model.specs.Lists.{every}
 use Rattle.model.specs.Image.{arguments, argumentSize}
 use Rattle.model.specs.Check.{unused, plainFlaw, argumentOk, matching}
-use Rattle.image_check.proofs.TestLaws.{fails, passes, none, out, then, whole, below, beyond}
+use Rattle.image_check.proofs.FirstOfLaws.{fails, passes, none, out, then, whole, below, beyond}
 use borrow.Author.Needs.{needs}
 use Rattle.image_check.proofs.cx_flaw.Statement.{statement}
 use Rattle.image_check.proofs.cx_flaw.Tie as tie

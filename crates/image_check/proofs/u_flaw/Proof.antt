@@ -6,7 +6,7 @@ use Rattle.model.specs.Lists.{every}
 use denote.Ref.{now}
 use Rattle.model.specs.Image.{expressions, arguments}
 use Rattle.image_check.proofs.ScopeLaws.{variables-few}
-use Rattle.image_check.proofs.TestLaws.{fails, passes, none, out, then, whole, below, beyond}
+use Rattle.image_check.proofs.FirstOfLaws.{fails, passes, none, out, then, whole, below, beyond}
 use native.Mathlib.Omega.{arith}
 use mathlib.Core.Path.{_≡_, sym, _∙_}
 use Rattle.model.specs.Check.{plainFlaw}

@@ -7,7 +7,7 @@ use borrow.Author.Needs.{needs}
 use Rattle.model.specs.Lists.{range, all}
 use Rattle.model.specs.Check.{argumentOk}
 use Rattle.model.proofs.Ranges.{all-start, all-next, all-fails}
-use Rattle.image_entries.proofs.RunLaws.{all-done}
+use Rattle.image_entries.proofs.UnusedLaws.{all-done}
 use Rattle.image_entries.proofs.arguments_ok.Statement.{statement}
 use Rattle.image_entries.proofs.arguments_ok.Tie as tie
 

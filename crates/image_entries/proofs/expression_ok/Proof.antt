@@ -1,7 +1,7 @@
 use native.Mathlib.Omega.{arith}
 use denote.Ref.{now}
 use borrow.Author.Needs.{needs}
-use Rattle.image_entries.proofs.ExpressionLaws.{told-reach, told-none, past-none}
+use Rattle.image_entries.proofs.JudgementLaws.{judged-ok, judged-bad, past-none}
 use Rattle.image_entries.proofs.expression_ok.Statement.{statement}
 use Rattle.image_entries.proofs.expression_ok.Tie as tie
 
@@ -26,19 +26,19 @@ shared-slice-read-result c = search needs
 returns : tie.Need-returns
 returns c =
     let s = c .before .before .before .before .before .before .before in
-    told-reach (now (s .args .image)) (s .args .v) (s .args .e) (s .args .l .expressions) (now (s .args .levels)) (now (s .args .reaches)) (s .pre .1) (s .pre .2)
+    judged-ok (now (s .args .image)) (s .args .v) (s .args .e) (s .args .l .expressions) (now (s .args .levels)) (now (s .args .variables)) (s .pre .1) (s .pre .2)
     (c .before .before .before .before .before .if1 .taken) (c .before .before .before .if2 .taken) (c .before .if3 .taken)
 
 returns-2 : tie.Need-returns-2
 returns-2 c =
     let s = c .before .before .before .before .before .before in
-    told-none (now (s .args .image)) (s .args .v) (s .args .e) (s .args .l .expressions) (now (s .args .levels)) (now (s .args .reaches)) (s .pre .1) (s .pre .2)
+    judged-bad (now (s .args .image)) (s .args .v) (s .args .e) (s .args .l .expressions) (now (s .args .levels)) (now (s .args .variables)) (s .pre .1) (s .pre .2)
     (c .before .before .before .before .if1 .taken) (λ p q. omega arith)
 
 returns-3 : tie.Need-returns-3
 returns-3 c =
     let s = c .before .before .before .before in
-    told-none (now (s .args .image)) (s .args .v) (s .args .e) (s .args .l .expressions) (now (s .args .levels)) (now (s .args .reaches)) (s .pre .1) (s .pre .2)
+    judged-bad (now (s .args .image)) (s .args .v) (s .args .e) (s .args .l .expressions) (now (s .args .levels)) (now (s .args .variables)) (s .pre .1) (s .pre .2)
     (c .before .before .if1 .taken) (λ p q. omega arith)
 
 returns-4 : tie.Need-returns-4

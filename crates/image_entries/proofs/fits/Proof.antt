@@ -1,4 +1,4 @@
-use Rattle.image_entries.proofs.RunLaws.{fits-is, fits-not}
+use Rattle.image_entries.proofs.UnusedLaws.{fits-is, fits-not}
 use Rattle.image_entries.proofs.fits.Statement.{statement}
 use Rattle.image_entries.proofs.fits.Tie as tie
 

@@ -5,30 +5,30 @@ use lib.ListN.{length, length-set}
 use denote.Ref.{now}
 use borrow.Author.Needs.{needs}
 use Rattle.image_entries.specs.Judging.{JudgementTables}
-use Rattle.image_entries.proofs.ExpressionLaws.{judged-none, judged-next}
+use Rattle.image_entries.proofs.JudgementLaws.{judged-none, judged-next}
 use Rattle.image_entries.proofs.judge_expressions.Statement.{statement}
 use Rattle.image_entries.proofs.judge_expressions.Tie as tie
 
 abbrev Inv-loop : tie.InvT-loop
-Inv-loop image l levels₀ reaches₀ n e₀ levels reaches e = (e ≤ n) × (length levels ≡ length levels₀) × (length reaches ≡ length reaches₀) × JudgementTables image e levels reaches
+Inv-loop image l levels₀ variable-counts₀ n e₀ levels variable-counts e = (e ≤ n) × (length levels ≡ length levels₀) × (length variable-counts ≡ length variable-counts₀) × JudgementTables image e levels variable-counts
 
 abbrev μ-loop : tie.MeasureT-loop
-μ-loop image l levels₀ reaches₀ n e₀ levels reaches e = n - e
+μ-loop image l levels₀ variable-counts₀ n e₀ levels variable-counts e = n - e
 
 loop-holds : tie.Need-loop-holds Inv-loop μ-loop
 loop-holds c = (search needs, refl, refl, judged-none _ _ _)
 
-judge-requires : tie.Need-judge-requires Inv-loop μ-loop
-judge-requires c κs = search needs
+judge-expression-requires : tie.Need-judge-expression-requires Inv-loop μ-loop
+judge-expression-requires c κs = search needs
 
-put-requires : tie.Need-put-requires Inv-loop μ-loop
-put-requires c κs =
+store-requires : tie.Need-store-requires Inv-loop μ-loop
+store-requires c κs =
     let l = c .before .before .before .before .before in
     let s = l .before .before .before .before in
     omega (arith, l .loop .inv .1, s .pre .1)
 
-put-requires-2 : tie.Need-put-requires-2 Inv-loop μ-loop
-put-requires-2 c κs =
+store-requires-2 : tie.Need-store-requires-2 Inv-loop μ-loop
+store-requires-2 c κs =
     let l = c .before .before .before .before .before .before .before .before .before in
     let s = l .before .before .before .before in
     omega (arith, l .loop .inv .2, s .pre .2)
@@ -45,13 +45,13 @@ loop-again c =
     let p = q .before .before .before .before in
     let l = p .before .before .before .before .before .before in
     let s = l .before .before .before .before in
-    let j = p .before .before .judge in
+    let j = p .before .before .judge-expression in
     let more = p .before .before .before .before .before .loop-test .taken in (
       omega (arith, more),
-      ap length (p .put .ensures) ∙ length-set (l .loop .levels) (l .loop .e) (j .result .level) ∙ l .loop .inv .1,
-      ap length (q .put2 .ensures) ∙ length-set (l .loop .reaches) (l .loop .e) (j .result .reach) ∙ l .loop .inv .2,
-      rw (p .put .ensures, q .put2 .ensures)
-          (judged-next (now (s .args .image)) (l .loop .e) _ _ (l .loop .levels) (l .loop .reaches) (omega (arith, more, l .loop .inv .1, s .pre .1)) (omega (arith, more, l .loop .inv .2, s .pre .2)) (l .loop .inv .3) (j .ensures)),
+      ap length (p .store .ensures) ∙ length-set (l .loop .levels) (l .loop .e) (j .result .level) ∙ l .loop .inv .1,
+      ap length (q .store2 .ensures) ∙ length-set (l .loop .variables) (l .loop .e) (j .result .variables) ∙ l .loop .inv .2,
+      rw (p .store .ensures, q .store2 .ensures)
+          (judged-next (now (s .args .image)) (l .loop .e) _ _ (l .loop .levels) (l .loop .variables) (omega (arith, more, l .loop .inv .1, s .pre .1)) (omega (arith, more, l .loop .inv .2, s .pre .2)) (l .loop .inv .3) (j .ensures)),
     )
 
 same-length : tie.Need-same-length Inv-loop μ-loop
@@ -74,9 +74,9 @@ judge-expressions-spec =
     Inv-loop
     μ-loop
     loop-holds
-    judge-requires
-    put-requires
-    put-requires-2
+    judge-expression-requires
+    store-requires
+    store-requires-2
     add-e
     loop-less
     loop-again

@@ -1,7 +1,7 @@
 use native.Mathlib.Omega.{arith}
 use mathlib.Core.Path.{refl}
 use borrow.Author.Needs.{needs}
-use Rattle.image_entries.proofs.ExpressionLaws.{no-leaf}
+use Rattle.image_entries.proofs.JudgementLaws.{no-leaf}
 use Rattle.image_entries.proofs.leaf_fits.Statement.{statement}
 use Rattle.image_entries.proofs.leaf_fits.Tie as tie
 

@@ -6,15 +6,15 @@ use denote.Ref.{now}
 use borrow.Author.Needs.{needs}
 use Rattle.model.proofs.Ranges.{all-start, all-next, all-fails}
 use Rattle.model.specs.Lists.{range, all}
-use Rattle.image_entries.proofs.ExpressionLaws.{parameterOk, parameter-judged}
+use Rattle.image_entries.proofs.JudgementLaws.{parameterOk, parameter-judged}
 use Rattle.image_entries.proofs.parameters_ok.Statement.{statement}
 use Rattle.image_entries.proofs.parameters_ok.Tie as tie
 
 abbrev Inv-loop : tie.InvT-loop
-Inv-loop image l levels reaches v p n i₀ i = (i ≤ n) × (all (parameterOk image v) (range p i) ≡ true)
+Inv-loop image l levels variable-counts v p n i₀ i = (i ≤ n) × (all (parameterOk image v) (range p i) ≡ true)
 
 abbrev μ-loop : tie.MeasureT-loop
-μ-loop image l levels reaches v p n i₀ i = n - i
+μ-loop image l levels variable-counts v p n i₀ i = n - i
 
 loop-holds : tie.Need-loop-holds Inv-loop μ-loop
 loop-holds c = (search needs, all-start _ _)
@@ -43,7 +43,7 @@ loop-again c =
     let l = x .before .before .before .before in
     let s = l .before .before .before .before in
     let a = s .args in
-    let judged = parameter-judged (now (a .image)) (a .v) (a .p + l .loop .i) _ _ _ (x .before .before .parameter-at .ensures) (x .before .word .ensures) (x .expression-ok .ensures) in
+    let judged = parameter-judged (now (a .image)) (a .v) (a .p + l .loop .i) _ _ _ (x .before .before .parameter-at .ensures .in-image _ (s .pre .0)) (x .before .word .ensures) (x .expression-ok .ensures) in
     (search needs, all-next (parameterOk (now (a .image)) (a .v)) (a .p) (l .loop .i) (l .loop .inv .1) (judged ∙ c .if1 .taken))
 
 returns : tie.Need-returns Inv-loop μ-loop
@@ -52,7 +52,7 @@ returns c =
     let l = x .before .before .before .before in
     let s = l .before .before .before .before in
     let a = s .args in
-    let judged = parameter-judged (now (a .image)) (a .v) (a .p + l .loop .i) _ _ _ (x .before .before .parameter-at .ensures) (x .before .word .ensures) (x .expression-ok .ensures) in
+    let judged = parameter-judged (now (a .image)) (a .v) (a .p + l .loop .i) _ _ _ (x .before .before .parameter-at .ensures .in-image _ (s .pre .0)) (x .before .word .ensures) (x .expression-ok .ensures) in
     all-fails (parameterOk (now (a .image)) (a .v)) (a .p) (l .loop .i) (a .n) (x .before .before .before .loop-test .taken) (judged ∙ c .if1 .left)
 
 returns-2 : tie.Need-returns-2 Inv-loop μ-loop

@@ -8,8 +8,8 @@ use borrow.Author.Needs.{needs}
 use Rattle.model.specs.Lists.{range, all}
 use Rattle.model.specs.Image.{argumentSize, rounds}
 use Rattle.model.proofs.Ranges.{all-start, all-next, all-fails}
-use Rattle.image_entries.proofs.RunLaws.{all-done}
-use Rattle.image_entries.proofs.MatchLaws.{fit, fitting, fit-one, fit-most, fit-not, matching-is}
+use Rattle.image_entries.proofs.UnusedLaws.{all-done}
+use Rattle.image_entries.proofs.MatchingLaws.{fit, fitting, fit-one, fit-most, fit-not, matching-is}
 use Rattle.image_entries.proofs.sizes_match.Statement.{statement}
 use Rattle.image_entries.proofs.sizes_match.Tie as tie
 

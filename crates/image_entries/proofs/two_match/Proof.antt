@@ -1,4 +1,4 @@
-use Rattle.image_entries.proofs.MatchLaws.{two-same, two-left, two-right, two-not}
+use Rattle.image_entries.proofs.MatchingLaws.{two-same, two-left, two-right, two-not}
 use Rattle.image_entries.proofs.two_match.Statement.{statement}
 use Rattle.image_entries.proofs.two_match.Tie as tie
 

@@ -6,7 +6,7 @@ use native.Mathlib.Omega.{arith}
 use borrow.Author.Needs.{needs}
 use borrow.Author.Tests.{eq-eqb, ne-eqb}
 use Rattle.model.specs.Lists.{range, all}
-use Rattle.image_entries.proofs.RunLaws.{zeroAt, words-start, words-next, words-fail, words-done}
+use Rattle.image_entries.proofs.UnusedLaws.{zeroAt, words-start, words-next, words-fail, words-done}
 use Rattle.image_entries.proofs.unused_words.Statement.{statement}
 use Rattle.image_entries.proofs.unused_words.Tie as tie
 

@@ -1,5 +1,5 @@
 use denote.Ref.{now}
-use Rattle.image_entries.proofs.ArgumentLaws.{variables-main, variables-gate}
+use Rattle.image_entries.proofs.ArgumentOkLaws.{variables-main, variables-gate}
 use borrow.Author.Needs.{needs}
 use Rattle.image_entries.proofs.variables_of.Statement.{statement}
 use Rattle.image_entries.proofs.variables_of.Tie as tie
@@ -17,7 +17,7 @@ word-requires : tie.Need-word-requires
 word-requires c κs = search needs
 
 returns-2 : tie.Need-returns-2
-returns-2 c = let a = c .before .before .before .before .args in variables-gate (now (a .image)) (a .scope) _ _ (c .before .before .if1 .left) (c .before .gate-at .ensures) (c .word .ensures)
+returns-2 c = let a = c .before .before .before .before .args in variables-gate (now (a .image)) (a .scope) _ _ (c .before .before .if1 .left) (c .before .gate-at .ensures .in-image _ (c .before .before .before .before .pre .0)) (c .word .ensures)
 
 pub variables-of-spec : {M : Type 1} → statement M
 variables-of-spec =

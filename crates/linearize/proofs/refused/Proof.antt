@@ -1,3 +1,4 @@
+-- A refusal before the first record has its kind and the position where nothing is written.
 use mathlib.Core.Path.{refl}
 use borrow.Author.Needs.{needs}
 use Rattle.linearize.proofs.refused.Statement.{statement}

@@ -1,42 +1,46 @@
+-- The tables have room for the starts of 64 registers, and say where each starts.
 use native.Mathlib.Omega.{arith}
 use borrow.Author.Needs.{needs}
-use Rattle.linearize.proofs.ProgramLaws.{quantum-fits, classical-fits, tabled}
+use Rattle.linearize.proofs.MainContextLaws.{quantum-fits, classical-fits, with-starts}
 use Rattle.linearize.proofs.visit_few_registers.Statement.{statement}
 use Rattle.linearize.proofs.visit_few_registers.Tie as tie
+
+quantum-register-at-requires : tie.Need-quantum-register-at-requires
+quantum-register-at-requires c κs = search needs
 
 slice-aggregate-first-of-each : tie.Need-slice-aggregate-first-of-each
 slice-aggregate-first-of-each c = search needs
 
 first-of-each-requires : tie.Need-first-of-each-requires
 first-of-each-requires c κs =
-    let s = c .before .before .before .before in
-    let q = quantum-fits (s .pre .0) (s .pre .1) in
-    (omega arith, s .pre .5, q .1)
+    let s = c .before .before .before .before .before in
+    let q = quantum-fits (s .pre .0) (c .before .quantum-register-at .ensures) in
+    (q .0, s .pre .1, q .2)
 
-add-first-of-each : tie.Need-add-first-of-each
-add-first-of-each c = search needs
+classical-register-at-requires : tie.Need-classical-register-at-requires
+classical-register-at-requires c κs = search needs
 
 slice-aggregate-first-of-each-2 : tie.Need-slice-aggregate-first-of-each-2
 slice-aggregate-first-of-each-2 c = search needs
 
 first-of-each-requires-2 : tie.Need-first-of-each-requires-2
 first-of-each-requires-2 c κs =
-    let s = c .before .before .before .before .before .before .before .before in
-    let q = classical-fits (s .pre .0) (s .pre .1) in
-    (q .0, s .pre .6, q .2)
+    let s = c .before .before .before .before .before .before .before .before .before in
+    let q = classical-fits (s .pre .0) (c .before .classical-register-at .ensures) in
+    (q .0, s .pre .2, q .2)
 
-slice-aggregate-visit-tabled : tie.Need-slice-aggregate-visit-tabled
-slice-aggregate-visit-tabled c = search needs
+slice-aggregate-visit-with-kept-values : tie.Need-slice-aggregate-visit-with-kept-values
+slice-aggregate-visit-with-kept-values c = search needs
 
-slice-aggregate-visit-tabled-2 : tie.Need-slice-aggregate-visit-tabled-2
-slice-aggregate-visit-tabled-2 c = search needs
+slice-aggregate-visit-with-kept-values-2 : tie.Need-slice-aggregate-visit-with-kept-values-2
+slice-aggregate-visit-with-kept-values-2 c = search needs
 
-visit-tabled-requires : tie.Need-visit-tabled-requires
-visit-tabled-requires c κs =
+visit-with-kept-values-requires : tie.Need-visit-with-kept-values-requires
+visit-with-kept-values-requires c κs =
     let b = c .before .before .before .before .before in
     let q = b .before .before .before .before in
-    let s = q .before .before .before .before .before in
-    (tabled (s .pre .0) (s .pre .1) (q .first-of-each .ensures) (b .first-of-each2 .ensures), s .pre .2, s .pre .3, s .pre .4)
+    let s = q .before .before .before .before .before .before in
+    with-starts (s .pre .0) (q .before .before .quantum-register-at .ensures) (b .before .before .classical-register-at .ensures) (q .first-of-each .ensures) (b .first-of-each2 .ensures)
 
 same-length : tie.Need-same-length
 same-length c = search needs
@@ -51,14 +55,15 @@ pub visit-few-registers-spec : {M : Type 1} → statement M
 visit-few-registers-spec =
     tie.close
     (tie.spec
+    quantum-register-at-requires
     slice-aggregate-first-of-each
     first-of-each-requires
-    add-first-of-each
+    classical-register-at-requires
     slice-aggregate-first-of-each-2
     first-of-each-requires-2
-    slice-aggregate-visit-tabled
-    slice-aggregate-visit-tabled-2
-    visit-tabled-requires
+    slice-aggregate-visit-with-kept-values
+    slice-aggregate-visit-with-kept-values-2
+    visit-with-kept-values-requires
     same-length
     same-length-2
     returns)

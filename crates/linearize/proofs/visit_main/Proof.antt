@@ -1,10 +1,11 @@
+-- A main statement does what the definition says, whether it is a conditional or not.
 use mathlib.Core.Path.{ap, _∙_}
 use borrow.Author.Needs.{needs}
 use denote.Ref.{now}
-use Rattle.gate.proofs.RanLaws.{ran-steps}
-use Rattle.gate.proofs.CycleLaws.{kind-read}
-use Rattle.gate.proofs.BodyLaws.{statement-steps}
-use Rattle.linearize.proofs.ProgramLaws.{plain-in-main}
+use Rattle.gate.proofs.RanStepsLaws.{ran-steps}
+use Rattle.gate.proofs.RunContextLaws.{kind-read}
+use Rattle.gate.proofs.OpenGateLaws.{statement-steps}
+use Rattle.linearize.proofs.MainContextLaws.{plain-in-main}
 use Rattle.model.specs.Image.{word}
 use Rattle.linearize.proofs.visit_main.Statement.{statement}
 use Rattle.linearize.proofs.visit_main.Tie as tie
@@ -16,7 +17,10 @@ word-requires : tie.Need-word-requires
 word-requires c κs = search needs
 
 visit-conditional-requires : tie.Need-visit-conditional-requires
-visit-conditional-requires c κs = (c .before .before .before .before .before .before .before .before .before .before .before .before .pre .0, c .before .before .before .before .before .before .before .before .before .before .before .before .pre .1, c .before .before .before .before .before .before .before .before .before .before .before .before .pre .2, kind-read (now (c .before .before .before .before .before .before .before .before .before .before .before .before .args .image)) (c .before .before .before .before .before .before .before .before .before .before .before .before .args .s) (c .before .before .before .before .before .statement-at .ensures) (c .before .before .before .before .word .ensures) (c .before .before .before .if1 .taken))
+visit-conditional-requires c κs =
+    let pre = c .before .before .before .before .before .before .before .before .before .before .before .before .pre in
+    let args = c .before .before .before .before .before .before .before .before .before .before .before .before .args in
+    (pre .0, pre .1, kind-read (now (args .image)) (args .s) (c .before .before .before .before .before .statement-at .ensures .in-image _ (pre .0 .context .in-scope .laid)) (c .before .before .before .before .word .ensures) (c .before .before .before .if1 .taken))
 
 same-length : tie.Need-same-length
 same-length c = search needs
@@ -31,7 +35,10 @@ returns : tie.Need-returns
 returns c = search needs
 
 visit-statement-requires : tie.Need-visit-statement-requires
-visit-statement-requires c κs = (c .before .before .before .before .before .before .before .before .before .before .before .before .pre .0, c .before .before .before .before .before .before .before .before .before .before .before .before .pre .1, plain-in-main _ _ (λ e. c .before .before .before .if1 .left (c .before .before .before .before .word .ensures ∙ ap (word (now (c .before .before .before .before .before .before .before .before .before .before .before .before .args .image))) (c .before .before .before .before .before .statement-at .ensures) ∙ e)) (c .before .before .before .before .before .before .before .before .before .before .before .before .pre .2))
+visit-statement-requires c κs =
+    let pre = c .before .before .before .before .before .before .before .before .before .before .before .before .pre in
+    let args = c .before .before .before .before .before .before .before .before .before .before .before .before .args in
+    (pre .0, plain-in-main _ _ (λ e. c .before .before .before .if1 .left (c .before .before .before .before .word .ensures ∙ ap (word (now (args .image))) (c .before .before .before .before .before .statement-at .ensures .in-image _ (pre .0 .context .in-scope .laid)) ∙ e)) (pre .1))
 
 same-length-4 : tie.Need-same-length-4
 same-length-4 c = search needs
@@ -43,7 +50,15 @@ same-length-6 : tie.Need-same-length-6
 same-length-6 c = search needs
 
 returns-2 : tie.Need-returns-2
-returns-2 c = (ran-steps (statement-steps _ 0 _ _ _ (plain-in-main _ _ (λ e. c .before .before .before .before .before .before .before .before .before .before .if1 .left (c .before .before .before .before .before .before .before .before .before .before .before .word .ensures ∙ ap (word (now (c .before .before .before .before .before .before .before .before .before .before .before .before .before .before .before .before .before .before .before .args .image))) (c .before .before .before .before .before .before .before .before .before .before .before .before .statement-at .ensures) ∙ e)) (c .before .before .before .before .before .before .before .before .before .before .before .before .before .before .before .before .before .before .before .pre .2))) (c .before .before .before .before .before .before .visit-statement .ensures .0), c .before .before .before .before .before .before .visit-statement .ensures .1)
+returns-2 c =
+    let pre = c .before .before .before .before .before .before .before .before .before .before .before .before .before .before .before .before .before .before .before .pre in
+    let args = c .before .before .before .before .before .before .before .before .before .before .before .before .before .before .before .before .before .before .before .args in
+    let statement-at = c .before .before .before .before .before .before .before .before .before .before .before .before .statement-at .ensures .in-image _ (pre .0 .context .in-scope .laid) in
+    let word-2 = c .before .before .before .before .before .before .before .before .before .before .before .word .ensures in
+    let if1 = c .before .before .before .before .before .before .before .before .before .before .if1 .left in
+    let visit-statement = c .before .before .before .before .before .before .visit-statement .ensures in
+    let plain = plain-in-main _ _ (λ e. if1 (word-2 ∙ ap (word (now (args .image))) statement-at ∙ e)) (pre .1) in
+    (ran-steps (statement-steps _ 0 _ _ _ (plain .facts)) (visit-statement .0), visit-statement .1)
 
 pub visit-main-spec : {M : Type 1} → statement M
 visit-main-spec =

@@ -1,7 +1,8 @@
+-- The room for kept values is enough for the expressions of any image, and nothing is kept at first.
 use native.Mathlib.Omega.{arith}
 use borrow.Author.Needs.{needs}
 use denote.Ref.{now}
-use Rattle.expression.proofs.TableLaws.{fixed-none}
+use Rattle.expression.proofs.KeptValuesLaws.{no-constants}
 use Rattle.linearize.proofs.visit_many_expressions.Statement.{statement}
 use Rattle.linearize.proofs.visit_many_expressions.Tie as tie
 
@@ -9,7 +10,10 @@ slice-aggregate-visit-program : tie.Need-slice-aggregate-visit-program
 slice-aggregate-visit-program c = search needs
 
 visit-program-requires : tie.Need-visit-program-requires
-visit-program-requires c κs = (c .before .before .before .before .before .before .before .before .pre .0, fixed-none (now (c .before .before .before .before .before .before .before .before .args .image)) 19096 (omega (arith, c .before .before .before .before .before .before .before .before .pre .0 .laid .whole, c .before .before .before .before .before .before .before .before .pre .0 .laid .short)), c .before .before .before .before .before .before .before .before .pre .1, c .before .before .before .before .before .before .before .before .pre .2, c .before .before .before .before .before .before .before .before .pre .3)
+visit-program-requires c κs =
+    let pre = c .before .before .before .before .before .before .before .before .pre in
+    let laid = pre .start .laid in
+    (pre, no-constants (now (c .before .before .before .before .before .before .before .before .args .image)) 19089 (omega (arith, laid .whole, laid .short)))
 
 same-length : tie.Need-same-length
 same-length c = search needs

@@ -1,3 +1,4 @@
+-- A barrier's length is answered if it is within the words available, and 0 if it is not.
 use Prim.Native.Nat.{_+_}
 use native.Mathlib.Omega.{arith}
 use Rattle.record_reader.proofs.LengthLaws.{short, whole}
@@ -6,10 +7,10 @@ use Rattle.record_reader.proofs.barrier_length.Statement.{statement}
 use Rattle.record_reader.proofs.barrier_length.Tie as tie
 
 returns : tie.Need-returns
-returns c = short (2 + c .before .args .n) _ (omega arith)
+returns c = short (2 + c .before .args .qubits) _ (omega arith)
 
 returns-2 : tie.Need-returns-2
-returns-2 c = short (2 + c .before .before .args .n) _ (omega arith)
+returns-2 c = short (2 + c .before .before .args .qubits) _ (omega arith)
 
 add-result : tie.Need-add-result
 add-result c = search needs

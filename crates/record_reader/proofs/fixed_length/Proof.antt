@@ -1,3 +1,4 @@
+-- A fixed length is answered if it is within the words available, and 0 if it is not.
 use Rattle.record_reader.proofs.LengthLaws.{short, whole}
 use Rattle.record_reader.proofs.fixed_length.Statement.{statement}
 use Rattle.record_reader.proofs.fixed_length.Tie as tie

@@ -1,3 +1,4 @@
+-- A head's length is answered if it is within the words available, and 0 if it is not.
 use Prim.Native.Nat.{_+_, _*_}
 use native.Mathlib.Omega.{arith}
 use Rattle.record_reader.proofs.LengthLaws.{short, whole}
@@ -9,10 +10,14 @@ returns : tie.Need-returns
 returns c = short (3 + 2 * (c .before .args .qubits + c .before .args .bits)) _ (omega arith)
 
 returns-2 : tie.Need-returns-2
-returns-2 c = short (3 + 2 * (c .before .before .args .qubits + c .before .before .args .bits)) _ (omega arith)
+returns-2 c =
+    let args = c .before .before .args in
+    short (3 + 2 * (args .qubits + args .bits)) _ (omega arith)
 
 returns-3 : tie.Need-returns-3
-returns-3 c = short (3 + 2 * (c .before .before .before .args .qubits + c .before .before .before .args .bits)) _ (omega arith)
+returns-3 c =
+    let args = c .before .before .before .args in
+    short (3 + 2 * (args .qubits + args .bits)) _ (omega arith)
 
 add-result : tie.Need-add-result
 add-result c = search needs

@@ -1,3 +1,4 @@
+-- Each kind's length is that of the record at the position.
 use mathlib.Core.Path.{_∙_, refl}
 use lib.ListN.{drop}
 use Rattle.record_reader.proofs.LengthLaws.{kind-at, nine-up, of-kind, of-none}
@@ -6,8 +7,8 @@ use borrow.Author.Needs.{needs}
 use Rattle.record_reader.proofs.length_at.Statement.{statement}
 use Rattle.record_reader.proofs.length_at.Tie as tie
 
-sub-left : tie.Need-sub-left
-sub-left c = search needs
+sub-available : tie.Need-sub-available
+sub-available c = search needs
 
 mul-kind : tie.Need-mul-kind
 mul-kind c = search needs
@@ -15,11 +16,11 @@ mul-kind c = search needs
 shared-slice-read-kind : tie.Need-shared-slice-read-kind
 shared-slice-read-kind c = search needs
 
-word-behind-requires : tie.Need-word-behind-requires
-word-behind-requires c κs = search needs
+record-word-requires : tie.Need-record-word-requires
+record-word-requires c κs = search needs
 
-word-behind-requires-2 : tie.Need-word-behind-requires-2
-word-behind-requires-2 c κs = search needs
+record-word-requires-2 : tie.Need-record-word-requires-2
+record-word-requires-2 c κs = search needs
 
 head-length-requires : tie.Need-head-length-requires
 head-length-requires c κs = search needs
@@ -30,17 +31,17 @@ fixed-length-requires c κs = search needs
 fixed-length-requires-2 : tie.Need-fixed-length-requires-2
 fixed-length-requires-2 c κs = search needs
 
-word-behind-requires-3 : tie.Need-word-behind-requires-3
-word-behind-requires-3 c κs = search needs
+record-word-requires-3 : tie.Need-record-word-requires-3
+record-word-requires-3 c κs = search needs
 
-word-behind-requires-4 : tie.Need-word-behind-requires-4
-word-behind-requires-4 c κs = search needs
+record-word-requires-4 : tie.Need-record-word-requires-4
+record-word-requires-4 c κs = search needs
 
 opaque-length-requires : tie.Need-opaque-length-requires
 opaque-length-requires c κs = search needs
 
-word-behind-requires-5 : tie.Need-word-behind-requires-5
-word-behind-requires-5 c κs = search needs
+record-word-requires-5 : tie.Need-record-word-requires-5
+record-word-requires-5 c κs = search needs
 
 barrier-length-requires : tie.Need-barrier-length-requires
 barrier-length-requires c κs = search needs
@@ -60,7 +61,7 @@ fixed-length-requires-6 c κs = search needs
 returns : tie.Need-returns
 returns c =
     let a = c .before .before .before .before .before .before in
-    of-kind (drop (a .args .at) (now (a .args .words))) 0 _ _ _ _ (kind-at (now (a .args .words)) (a .args .at)) (c .before .before .before .match .keys1) refl (c .head-length .ensures ∙ rw (c .before .before .word-behind .ensures, c .before .word-behind2 .ensures))
+    of-kind (drop (a .args .at) (now (a .args .words))) 0 _ _ _ _ (kind-at (now (a .args .words)) (a .args .at)) (c .before .before .before .match .keys1) refl (c .head-length .ensures ∙ rw (c .before .before .record-word .ensures, c .before .record-word2 .ensures))
 
 returns-2 : tie.Need-returns-2
 returns-2 c =
@@ -75,12 +76,12 @@ returns-3 c =
 returns-4 : tie.Need-returns-4
 returns-4 c =
     let a = c .before .before .before .before .before .before in
-    of-kind (drop (a .args .at) (now (a .args .words))) 3 _ _ _ _ (kind-at (now (a .args .words)) (a .args .at)) (c .before .before .before .match .keys4) refl (c .opaque-length .ensures ∙ rw (c .before .before .word-behind3 .ensures, c .before .word-behind4 .ensures))
+    of-kind (drop (a .args .at) (now (a .args .words))) 3 _ _ _ _ (kind-at (now (a .args .words)) (a .args .at)) (c .before .before .before .match .keys4) refl (c .opaque-length .ensures ∙ rw (c .before .before .record-word3 .ensures, c .before .record-word4 .ensures))
 
 returns-5 : tie.Need-returns-5
 returns-5 c =
     let a = c .before .before .before .before .before in
-    of-kind (drop (a .args .at) (now (a .args .words))) 4 _ _ _ _ (kind-at (now (a .args .words)) (a .args .at)) (c .before .before .match .keys5) refl (c .barrier-length .ensures ∙ rw (c .before .word-behind5 .ensures))
+    of-kind (drop (a .args .at) (now (a .args .words))) 4 _ _ _ _ (kind-at (now (a .args .words)) (a .args .at)) (c .before .before .match .keys5) refl (c .barrier-length .ensures ∙ rw (c .before .record-word5 .ensures))
 
 returns-6 : tie.Need-returns-6
 returns-6 c =
@@ -113,18 +114,18 @@ pub length-at-spec : {M : Type 1} → statement M
 length-at-spec =
     tie.close
     (tie.spec
-    sub-left
+    sub-available
     mul-kind
     shared-slice-read-kind
-    word-behind-requires
-    word-behind-requires-2
+    record-word-requires
+    record-word-requires-2
     head-length-requires
     fixed-length-requires
     fixed-length-requires-2
-    word-behind-requires-3
-    word-behind-requires-4
+    record-word-requires-3
+    record-word-requires-4
     opaque-length-requires
-    word-behind-requires-5
+    record-word-requires-5
     barrier-length-requires
     fixed-length-requires-3
     fixed-length-requires-4

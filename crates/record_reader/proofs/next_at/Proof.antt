@@ -1,3 +1,4 @@
+-- The answer is the record with its length, the end, or no record.
 use mathlib.Core.Path.{ap}
 use Rattle.record_reader.specs.Answer.{nextRecordOf}
 use native.Mathlib.Omega.{arith}
@@ -11,16 +12,24 @@ length-at-requires : tie.Need-length-at-requires
 length-at-requires c κs = search needs
 
 returns : tie.Need-returns
-returns c = ap nextRecordOf (none (now (c .before .before .before .before .args .words)) (c .before .before .before .before .args .at) _ (c .before .before .if1 .taken) (c .before .length-at .ensures) (c .if2 .taken))
+returns c =
+    let args = c .before .before .before .before .args in
+    ap nextRecordOf (none (now (args .words)) (args .at) _ (c .before .before .if1 .taken) (c .before .length-at .ensures) (c .if2 .taken))
 
 returns-2 : tie.Need-returns-2
-returns-2 c = found-length (now (c .before .before .before .before .args .words)) (c .before .before .before .before .args .at) _ (c .before .before .if1 .taken) (c .before .length-at .ensures) (c .if2 .left)
+returns-2 c =
+    let args = c .before .before .before .before .args in
+    found-length (now (args .words)) (args .at) _ (c .before .before .if1 .taken) (c .before .length-at .ensures) (c .if2 .left)
 
 returns-3 : tie.Need-returns-3
-returns-3 c = ap nextRecordOf (at-end (now (c .before .before .before .args .words)) (c .before .before .before .args .at) (c .if3 .taken))
+returns-3 c =
+    let args = c .before .before .before .args in
+    ap nextRecordOf (at-end (now (args .words)) (args .at) (c .if3 .taken))
 
 returns-4 : tie.Need-returns-4
-returns-4 c = ap nextRecordOf (past-end (now (c .before .before .before .args .words)) (c .before .before .before .args .at) (λ h. omega arith) (c .if3 .left))
+returns-4 c =
+    let args = c .before .before .before .args in
+    ap nextRecordOf (past-end (now (args .words)) (args .at) (λ h. omega arith) (c .if3 .left))
 
 pub next-at-spec : {M : Type 1} → statement M
 next-at-spec = tie.close (tie.spec length-at-requires returns returns-2 returns-3 returns-4)

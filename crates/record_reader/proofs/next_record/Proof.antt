@@ -1,3 +1,4 @@
+-- The part of the slice that is handed back is the record at the position.
 use Rattle.record_reader.proofs.LengthLaws.{part-is, no-part, fits-left}
 use native.Mathlib.Omega.{arith}
 use denote.Ref.{now}
@@ -9,7 +10,9 @@ length-at-requires : tie.Need-length-at-requires
 length-at-requires c κs = search needs
 
 add-e : tie.Need-add-e
-add-e c = record { fits = omega (arith, fits-left (now (c .before .before .before .args .words)) (c .before .before .before .args .at) _ (c .length-at .ensures)) }
+add-e c =
+    let args = c .before .before .before .args in
+    record { fits = omega (arith, fits-left (now (args .words)) (args .at) _ (c .length-at .ensures)) }
 
 mul-result : tie.Need-mul-result
 mul-result c = search needs
@@ -21,10 +24,14 @@ part-result-start : tie.Need-part-result-start
 part-result-start c = search needs
 
 part-result-end : tie.Need-part-result-end
-part-result-end c = omega (arith, fits-left (now (c .before .before .before .args .words)) (c .before .before .before .args .at) _ (c .length-at .ensures))
+part-result-end c =
+    let args = c .before .before .before .args in
+    omega (arith, fits-left (now (args .words)) (args .at) _ (c .length-at .ensures))
 
 returns : tie.Need-returns
-returns c = part-is (now (c .before .before .before .before .args .words)) (c .before .before .before .before .args .at) _ (c .before .before .if1 .taken) (c .before .length-at .ensures)
+returns c =
+    let args = c .before .before .before .before .args in
+    part-is (now (args .words)) (args .at) _ (c .before .before .if1 .taken) (c .before .length-at .ensures)
 
 sub-result-2 : tie.Need-sub-result-2
 sub-result-2 c = search needs
@@ -36,7 +43,9 @@ part-result-end-2 : tie.Need-part-result-end-2
 part-result-end-2 c = search needs
 
 returns-2 : tie.Need-returns-2
-returns-2 c = no-part (now (c .before .before .before .args .words)) (c .before .before .before .args .at) (λ h. omega arith)
+returns-2 c =
+    let args = c .before .before .before .args in
+    no-part (now (args .words)) (args .at) (λ h. omega arith)
 
 pub next-record-spec : {M : Type 1} → statement M
 next-record-spec =

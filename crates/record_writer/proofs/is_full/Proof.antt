@@ -1,3 +1,4 @@
+-- The test over the words left is the test over the position.
 use denote.Ref.{now}
 use lib.ListN.{length}
 use Rattle.record_writer.proofs.WriteLaws.{left-test}

@@ -1,13 +1,14 @@
+-- Four stores are the four words of an angle.
 use native.Mathlib.Omega.{arith}
 use lib.ListN.{length-set}
 use denote.Ref.{now}
 use borrow.Author.Needs.{needs}
-use Rattle.record_writer.proofs.AngleLaws.{angle-put}
+use Rattle.record_writer.proofs.AngleWordsLaws.{angle-put}
 use Rattle.record_writer.proofs.put_angle.Statement.{statement}
 use Rattle.record_writer.proofs.put_angle.Tie as tie
 
-signed-requires : tie.Need-signed-requires
-signed-requires c κs = search needs
+signed-numerator-requires : tie.Need-signed-numerator-requires
+signed-numerator-requires c κs = search needs
 
 mul-words : tie.Need-mul-words
 mul-words c = search needs
@@ -24,8 +25,8 @@ mul-words-2 c = search needs
 slice-write-words-2 : tie.Need-slice-write-words-2
 slice-write-words-2 c = simp length-set (omega arith)
 
-signed-requires-2 : tie.Need-signed-requires-2
-signed-requires-2 c κs = search needs
+signed-numerator-requires-2 : tie.Need-signed-numerator-requires-2
+signed-numerator-requires-2 c κs = search needs
 
 add-words-2 : tie.Need-add-words-2
 add-words-2 c = search needs
@@ -52,19 +53,19 @@ returns : tie.Need-returns
 returns c =
     let s = c .before in
     let a = s .before .before .before .before .args in
-    angle-put (now (a .words)) (a .start) (a .x) (s .signed .ensures) (c .signed2 .ensures)
+    angle-put (now (a .words)) (a .start) (a .x) (s .signed-numerator .ensures) (c .signed-numerator2 .ensures)
 
 pub put-angle-spec : {M : Type 1} → statement M
 put-angle-spec =
     tie.close
     (tie.spec
-    signed-requires
+    signed-numerator-requires
     mul-words
     slice-write-words
     add-words
     mul-words-2
     slice-write-words-2
-    signed-requires-2
+    signed-numerator-requires-2
     add-words-2
     mul-words-3
     slice-write-words-3

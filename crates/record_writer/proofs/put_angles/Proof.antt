@@ -1,3 +1,4 @@
+-- The angles are put in turn: after i turns of the loop the words of the first i stand.
 use Prim.Native.Nat.{ℕ, _-_, _≤_}
 use native.Mathlib.Nat.{le-antisymm}
 use native.Mathlib.Omega.{arith}
@@ -7,7 +8,7 @@ use lib.ListN.{length, take}
 use lib.Seq.{sets}
 use denote.Ref.{now}
 use borrow.Author.Needs.{needs}
-use Rattle.record_writer.proofs.AngleLaws.{angle-sound, angles-none, angles-more}
+use Rattle.record_writer.proofs.AngleWordsLaws.{angle-sound, angles-none, angles-more}
 use Rattle.model.specs.Records.{angleWords}
 use Rattle.record_writer.proofs.put_angles.Statement.{statement}
 use Rattle.record_writer.proofs.put_angles.Tie as tie
@@ -37,7 +38,7 @@ put-angle-requires : tie.Need-put-angle-requires Inv-loop μ-loop
 put-angle-requires c κs =
     let l = c .before .before .before in
     let s = l .before .before in
-    (omega (arith, l .loop .inv .2), angle-sound (s .pre .0) (l .loop .i) _ (omega (arith, s .pre .1)))
+    (omega (arith, l .loop .inv .2), angle-sound (s .pre .0 .sound) (l .loop .i) _ (omega (arith, s .pre .0 .few)))
 
 add-i : tie.Need-add-i Inv-loop μ-loop
 add-i c = search needs

@@ -1,3 +1,4 @@
+-- Three stores are the words of a CX, and the position after them is a position in the output.
 use native.Mathlib.Omega.{arith}
 use mathlib.Core.Path.{refl}
 use Prim.Native.Nat.{_+_}
@@ -5,7 +6,8 @@ use lib.ListN.{set, length-set}
 use denote.Ref.{now}
 use borrow.Author.Needs.{needs}
 use Rattle.model.specs.Records.{Record, encode, kind, fields}
-use Rattle.record_writer.proofs.WriteLaws.{written, three-put}
+use Rattle.record_writer.proofs.WriteLaws.{three-put}
+use Rattle.record_writer.proofs.WroteStepsLaws.{written}
 use Rattle.record_writer.proofs.put_cx.Statement.{statement}
 use Rattle.record_writer.proofs.put_cx.Tie as tie
 
@@ -22,7 +24,9 @@ mul-out-2 : tie.Need-mul-out-2
 mul-out-2 c = search needs
 
 slice-write-out-2 : tie.Need-slice-write-out-2
-slice-write-out-2 c = let a = c .before .args in omega (arith, c .before .pre .1, length-set (now (a .out)) (a .at .words) 2)
+slice-write-out-2 c =
+    let a = c .before .args in
+    omega (arith, c .before .pre .1, length-set (now (a .out)) (a .at .words) 2)
 
 add-out-2 : tie.Need-add-out-2
 add-out-2 c = search needs
@@ -34,17 +38,19 @@ slice-write-out-3 : tie.Need-slice-write-out-3
 slice-write-out-3 c =
     let a = c .before .args in
     let t = set (now (a .out)) (a .at .words) 2 in
-    omega (arith, c .before .pre .1, length-set (now (a .out)) (a .at .words) 2, length-set t (a .at .words + 1) (a .copy))
+    omega (arith, c .before .pre .1, length-set (now (a .out)) (a .at .words) 2, length-set t (a .at .words + 1) (a .control))
 
-behind-requires : tie.Need-behind-requires
-behind-requires c κs = search needs
+after-record-requires : tie.Need-after-record-requires
+after-record-requires c κs = search needs
 
 same-length : tie.Need-same-length
 same-length c = search needs
 
 returns : tie.Need-returns
 unfolding encode kind fields
-returns c = let a = c .before .before .args in written (Record.CX (a .copy) (a .xor)) 3 (c .behind .ensures) refl (c .before .before .pre .1) (three-put (now (a .out)) (a .at .words) 2 (a .copy) (a .xor))
+returns c =
+    let a = c .before .before .args in
+    written (Record.CX (a .control) (a .target)) 3 (c .after-record .ensures) refl (c .before .before .pre .1) (three-put (now (a .out)) (a .at .words) 2 (a .control) (a .target))
 
 pub put-cx-spec : {M : Type 1} → statement M
 put-cx-spec =
@@ -58,6 +64,6 @@ put-cx-spec =
     add-out-2
     mul-out-3
     slice-write-out-3
-    behind-requires
+    after-record-requires
     same-length
     returns)

@@ -1,3 +1,4 @@
+-- The word that is appended is the record of a conditional's end.
 use mathlib.Core.Path.{refl}
 use borrow.Author.Needs.{needs}
 use Rattle.model.specs.Records.{Record, encode, kind, fields}

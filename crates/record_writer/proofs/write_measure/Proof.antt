@@ -1,3 +1,4 @@
+-- The words that are appended are the record of a measurement.
 use mathlib.Core.Path.{refl}
 use borrow.Author.Needs.{needs}
 use Rattle.model.specs.Records.{Record, encode, kind, fields}
@@ -15,7 +16,9 @@ same-length c = search needs
 
 returns : tie.Need-returns
 unfolding encode kind fields
-returns c = let a = c .before .before .before .before .before .before .args in c .before .before .append .ensures .wrote (Record.Measure (a .qubit) (a .bit)) refl
+returns c =
+    let args = c .before .before .before .before .before .before .args in
+    let a = args in c .before .before .append .ensures .wrote (Record.Measure (a .qubit) (a .bit)) refl
 
 pub write-measure-spec : {M : Type 1} → statement M
 write-measure-spec =

@@ -1,7 +1,8 @@
+-- The words that are appended are the record of a gate that is not opened.
 use native.Mathlib.Omega.{arith}
 use lib.ListN.{take, length-take}
 use borrow.Author.Needs.{needs}
-use Rattle.record_writer.proofs.AngleLaws.{opaque-words}
+use Rattle.record_writer.proofs.AngleWordsLaws.{opaque-words}
 use Rattle.model.specs.Records.{Record}
 use Rattle.record_writer.proofs.write_opaque.Statement.{statement}
 use Rattle.record_writer.proofs.write_opaque.Tie as tie
@@ -30,17 +31,17 @@ mul-end c = search needs
 add-end : tie.Need-add-end
 add-end c = search needs
 
-slice-aggregate-copy : tie.Need-slice-aggregate-copy
-slice-aggregate-copy c = search needs
+slice-aggregate-put-words : tie.Need-slice-aggregate-put-words
+slice-aggregate-put-words c = search needs
 
 array-share-prefix-qubits : tie.Need-array-share-prefix-qubits
 array-share-prefix-qubits c = search needs
 
-slice-aggregate-copy-2 : tie.Need-slice-aggregate-copy-2
-slice-aggregate-copy-2 c = simp length-take (omega arith)
+slice-aggregate-put-words-2 : tie.Need-slice-aggregate-put-words-2
+slice-aggregate-put-words-2 c = simp length-take (omega arith)
 
-copy-requires : tie.Need-copy-requires
-copy-requires c κs = simp length-take (omega (arith, c .before .before .before .put-angles .kept .0))
+put-words-requires : tie.Need-put-words-requires
+put-words-requires c κs = simp length-take (omega (arith, c .before .before .before .put-angles .kept .0))
 
 add-n : tie.Need-add-n
 add-n c = search needs
@@ -64,8 +65,8 @@ returns c =
     let o = p .before .before .before .before in
     let s = o .before .before .before in
     let a = s .args in
-    w .append .ensures .wrote (Record.Opaque (a .gate) (take (a .p) (a .angles)) (take (a .q) (a .t6)))
-    (opaque-words (a .gate) (a .p) (a .q) (a .angles) (a .t6) (s .pre .1 .full) (s .pre .3) (s .pre .2) (s .pre .4) (o .put-angles .ensures) (p .copy .ensures))
+    w .append .ensures .wrote (Record.Opaque (a .gate) (take (a .parameters) (a .angles)) (take (a .arguments) (a .t6)))
+    (opaque-words (a .gate) (a .parameters) (a .arguments) (a .angles) (a .t6) (s .pre .1 .sound .sixteen) (s .pre .1 .few) (s .pre .2 .sixteen) (s .pre .2 .few) (o .put-angles .ensures) (p .put-words .ensures))
 
 pub write-opaque-spec : {M : Type 1} → statement M
 write-opaque-spec =
@@ -79,10 +80,10 @@ write-opaque-spec =
     put-angles-requires
     mul-end
     add-end
-    slice-aggregate-copy
+    slice-aggregate-put-words
     array-share-prefix-qubits
-    slice-aggregate-copy-2
-    copy-requires
+    slice-aggregate-put-words-2
+    put-words-requires
     add-n
     array-share-prefix-words
     slice-aggregate-append

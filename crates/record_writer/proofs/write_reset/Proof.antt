@@ -1,3 +1,4 @@
+-- The words that are appended are the record of a reset.
 use mathlib.Core.Path.{refl}
 use borrow.Author.Needs.{needs}
 use Rattle.model.specs.Records.{Record, encode, kind, fields}
@@ -15,7 +16,9 @@ same-length c = search needs
 
 returns : tie.Need-returns
 unfolding encode kind fields
-returns c = let a = c .before .before .before .before .before .before .args in c .before .before .append .ensures .wrote (Record.Reset (a .qubit)) refl
+returns c =
+    let a = c .before .before .before .before .before .before .args in
+    c .before .before .append .ensures .wrote (Record.Reset (a .qubit)) refl
 
 pub write-reset-spec : {M : Type 1} → statement M
 write-reset-spec = tie.close (tie.spec slice-aggregate-append append-requires same-length returns)

@@ -1,5 +1,6 @@
+-- The words that are appended are the record of a U.
 use borrow.Author.Needs.{needs}
-use Rattle.record_writer.proofs.AngleLaws.{u-words}
+use Rattle.record_writer.proofs.AngleWordsLaws.{u-words}
 use Rattle.model.specs.Records.{Record}
 use Rattle.record_writer.proofs.write_u.Statement.{statement}
 use Rattle.record_writer.proofs.write_u.Tie as tie

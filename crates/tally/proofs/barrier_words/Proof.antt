@@ -7,8 +7,8 @@ use borrow.Author.Needs.{needs}
 use Rattle.model.specs.Image.{argumentSize}
 use Rattle.model.specs.Lists.{range, sum}
 use Rattle.tally.specs.Weights.{capped}
-use Rattle.tally.proofs.StatementKinds.{formal-sizes}
-use Rattle.tally.proofs.Cuts.{sum-start, sum-more, sum-done}
+use Rattle.tally.proofs.PlainTallyLaws.{formal-sizes}
+use Rattle.tally.proofs.CappedLaws.{sum-start, sum-more, sum-done}
 use Rattle.tally.proofs.barrier_words.Statement.{statement}
 use Rattle.tally.proofs.barrier_words.Tie as tie
 
@@ -18,13 +18,13 @@ Inv-loop image l scope a n total₀ i₀ total i = (i ≤ n) × (total ≡ cappe
 abbrev μ-loop : tie.MeasureT-loop
 μ-loop image l scope a n total₀ i₀ total i = n - i
 
-cut-sum-requires : tie.Need-cut-sum-requires Inv-loop μ-loop
-cut-sum-requires c κs = search needs
+capped-sum-requires : tie.Need-capped-sum-requires Inv-loop μ-loop
+capped-sum-requires c κs = search needs
 
 returns : tie.Need-returns Inv-loop μ-loop
 returns c =
     let a = c .before .before .before .args in
-    rw (formal-sizes (now (a .image)) (a .scope) (a .a) (a .n) (c .before .if1 .taken)) (c .cut-sum .ensures)
+    rw (formal-sizes (now (a .image)) (a .scope) (a .a) (a .n) (c .before .if1 .taken)) (c .capped-sum .ensures)
 
 loop-holds : tie.Need-loop-holds Inv-loop μ-loop
 loop-holds c = (omega arith, sum-start _ 2 _ (omega arith))
@@ -35,8 +35,8 @@ add-argument-size c = search needs
 argument-size-requires : tie.Need-argument-size-requires Inv-loop μ-loop
 argument-size-requires c κs = search needs
 
-cut-sum-requires-2 : tie.Need-cut-sum-requires-2 Inv-loop μ-loop
-cut-sum-requires-2 c κs = search needs
+capped-sum-requires-2 : tie.Need-capped-sum-requires-2 Inv-loop μ-loop
+capped-sum-requires-2 c κs = search needs
 
 add-i : tie.Need-add-i Inv-loop μ-loop
 add-i c = search needs
@@ -48,7 +48,7 @@ loop-again : tie.Need-loop-again Inv-loop μ-loop
 loop-again c =
     let l = c .before .before .before in
     let a = l .before .before .before .args in
-    (omega arith, sum-more (argumentSize (now (a .image)) (a .scope)) 2 (a .a) (l .loop .i) _ _ _ (l .loop .inv .1) (ap capped (c .before .argument-size .ensures)) (c .cut-sum2 .ensures))
+    (omega arith, sum-more (argumentSize (now (a .image)) (a .scope)) 2 (a .a) (l .loop .i) _ _ _ (l .loop .inv .1) (ap capped (c .before .argument-size .ensures)) (c .capped-sum2 .ensures))
 
 returns-2 : tie.Need-returns-2 Inv-loop μ-loop
 returns-2 c =
@@ -62,12 +62,12 @@ barrier-words-spec =
     (tie.spec
     Inv-loop
     μ-loop
-    cut-sum-requires
+    capped-sum-requires
     returns
     loop-holds
     add-argument-size
     argument-size-requires
-    cut-sum-requires-2
+    capped-sum-requires-2
     add-i
     loop-less
     loop-again

@@ -9,9 +9,9 @@ use Rattle.model.specs.Image.{gates}
 use Rattle.model.specs.Lists.{range, sum}
 use Rattle.model.proofs.Accepted.{accepts}
 use Rattle.tally.specs.Weights.{weightOf, entryOf, capped, openingFor}
-use Rattle.tally.proofs.Scopes.{body-facts, body-is}
-use Rattle.tally.proofs.StatementKinds.{statements-few}
-use Rattle.tally.proofs.Cuts.{sum-start, sum-more, sum-done}
+use Rattle.tally.proofs.BodyTallyLaws.{body-facts, body-is}
+use Rattle.tally.proofs.PlainTallyLaws.{statements-few}
+use Rattle.tally.proofs.CappedLaws.{sum-start, sum-more, sum-done}
 use Rattle.tally.proofs.body_figure.Statement.{statement}
 use Rattle.tally.proofs.body_figure.Tie as tie
 
@@ -34,7 +34,7 @@ add-statement-figure c =
     let s = c .before .before in
     let laid = s .before .before .pre .0 .laid in
     let few = statements-few _ _ laid in
-    omega (arith, s .statements-of .ensures .listed, laid .all-is)
+    omega (arith, s .statements-of .ensures .listed, laid .statements-is)
 
 statement-figure-requires : tie.Need-statement-figure-requires Inv-loop μ-loop
 statement-figure-requires c κs =
@@ -44,10 +44,10 @@ statement-figure-requires c κs =
     let laid = pre .0 .laid in
     let few = statements-few _ _ laid in
     let within : a .scope ≤ gates (now (a .image)) = omega (arith, laid .gates-is, pre .2) in
-    (pre .0, pre .1, body-facts (now (a .image)) (pre .0 .accepted) (a .scope) _ _ _ within (s .statements-of .ensures .statements-are) (c .loop-test .taken), omega (arith, s .statements-of .ensures .listed, laid .all-is), pre .3)
+    (pre .0, pre .1, body-facts (now (a .image)) (pre .0 .accepted) (a .scope) _ _ _ within (s .statements-of .ensures .statements-are) (c .loop-test .taken), omega (arith, s .statements-of .ensures .listed, laid .statements-is), pre .3)
 
-cut-sum-requires : tie.Need-cut-sum-requires Inv-loop μ-loop
-cut-sum-requires c κs = search needs
+capped-sum-requires : tie.Need-capped-sum-requires Inv-loop μ-loop
+capped-sum-requires c κs = search needs
 
 add-i : tie.Need-add-i Inv-loop μ-loop
 add-i c = search needs
@@ -62,7 +62,7 @@ loop-again c =
     let a = s .before .before .args in
     let first = s .statements-of .result .first in
     let e : capped (c .before .statement-figure .result) ≡ capped (statementTally (now (a .image)) (weightOf (a .j)) (entryOf (a .j)) (openingFor (now (a .image)) (a .j) (a .n)) (a .scope) (first + l .loop .i)) = omega (arith, c .before .statement-figure .ensures) in
-    (omega arith, sum-more (statementTally (now (a .image)) (weightOf (a .j)) (entryOf (a .j)) (openingFor (now (a .image)) (a .j) (a .n)) (a .scope)) 0 first (l .loop .i) _ _ _ (l .loop .inv .1) e (c .cut-sum .ensures))
+    (omega arith, sum-more (statementTally (now (a .image)) (weightOf (a .j)) (entryOf (a .j)) (openingFor (now (a .image)) (a .j) (a .n)) (a .scope)) 0 first (l .loop .i) _ _ _ (l .loop .inv .1) e (c .capped-sum .ensures))
 
 returns : tie.Need-returns Inv-loop μ-loop
 returns c =
@@ -81,7 +81,7 @@ body-figure-spec =
     loop-holds
     add-statement-figure
     statement-figure-requires
-    cut-sum-requires
+    capped-sum-requires
     add-i
     loop-less
     loop-again

@@ -10,14 +10,14 @@ plain-figure-requires c κs = search needs
 weight-requires : tie.Need-weight-requires
 weight-requires c κs = search needs
 
-cut-sum-requires : tie.Need-cut-sum-requires
-cut-sum-requires c κs = search needs
+capped-sum-requires : tie.Need-capped-sum-requires
+capped-sum-requires c κs = search needs
 
 weight-requires-2 : tie.Need-weight-requires-2
 weight-requires-2 c κs = search needs
 
-cut-sum-requires-2 : tie.Need-cut-sum-requires-2
-cut-sum-requires-2 c κs = search needs
+capped-sum-requires-2 : tie.Need-capped-sum-requires-2
+capped-sum-requires-2 c κs = search needs
 
 returns : tie.Need-returns
 unfolding conditionalTally
@@ -29,7 +29,7 @@ conditional-figure-spec =
     (tie.spec
     plain-figure-requires
     weight-requires
-    cut-sum-requires
+    capped-sum-requires
     weight-requires-2
-    cut-sum-requires-2
+    capped-sum-requires-2
     returns)

@@ -2,7 +2,7 @@ use Prim.Native.Nat.{_≤_}
 use native.Mathlib.Omega.{arith}
 use denote.Ref.{now}
 use borrow.Author.Needs.{needs}
-use Rattle.tally.proofs.TableLaws.{Deepened, deepened-none, deepened-next, deepened-done, tabled-fewer}
+use Rattle.tally.proofs.FigureTableLaws.{Deepened, deepened-none, deepened-next, deepened-done, tabled-fewer}
 use Rattle.tally.proofs.deepen_table.Statement.{statement}
 use Rattle.tally.proofs.deepen_table.Tie as tie
 

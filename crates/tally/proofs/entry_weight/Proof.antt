@@ -1,4 +1,4 @@
-use Rattle.tally.proofs.Cuts.{entry-one, entry-none}
+use Rattle.tally.proofs.CappedLaws.{entry-one, entry-none}
 use Rattle.tally.proofs.entry_weight.Statement.{statement}
 use Rattle.tally.proofs.entry_weight.Tie as tie
 

@@ -2,7 +2,7 @@ use Prim.Native.Nat.{_-_, _≤_, _<_}
 use native.Mathlib.Omega.{arith}
 use denote.Ref.{now}
 use borrow.Author.Needs.{needs}
-use Rattle.tally.proofs.TableLaws.{Begun, begun, begun-below, begun-next, begun-done}
+use Rattle.tally.proofs.FigureTableLaws.{Begun, begun, begun-below, begun-next, begun-done}
 use Rattle.tally.proofs.fill_row.Statement.{statement}
 use Rattle.tally.proofs.fill_row.Tie as tie
 
@@ -27,14 +27,14 @@ body-figure-requires c κs =
     let pre = l .before .before .pre in
     (pre .0, begun-below (now (a .image)) (a .n) (a .g) (l .loop .j) (now (a .table)) (l .loop .table) (pre .1) (l .loop .inv .1), search needs, search needs)
 
-mul-put : tie.Need-mul-put Inv-loop μ-loop
-mul-put c = search needs
+mul-store : tie.Need-mul-store Inv-loop μ-loop
+mul-store c = search needs
 
-add-put : tie.Need-add-put Inv-loop μ-loop
-add-put c = search needs
+add-store : tie.Need-add-store Inv-loop μ-loop
+add-store c = search needs
 
-put-requires : tie.Need-put-requires Inv-loop μ-loop
-put-requires c κs = search needs
+store-requires : tie.Need-store-requires Inv-loop μ-loop
+store-requires c κs = search needs
 
 add-j : tie.Need-add-j Inv-loop μ-loop
 add-j c = search needs
@@ -51,7 +51,7 @@ loop-again c =
     let pre = l .before .before .pre in
     let laid = pre .0 .laid in
     let few : a .g < 128 = omega (arith, pre .2, laid .gates-is, laid .few-gates) in
-    (search needs, begun-next (now (a .image)) (a .n) (a .g) (l .loop .j) _ (now (a .table)) (l .loop .table) _ (l .loop .inv .1) (t .loop-test .taken) (search needs) (b .body-figure .ensures) (c .put .ensures))
+    (search needs, begun-next (now (a .image)) (a .n) (a .g) (l .loop .j) _ (now (a .table)) (l .loop .table) _ (l .loop .inv .1) (t .loop-test .taken) (search needs) (b .body-figure .ensures) (c .store .ensures))
 
 returns : tie.Need-returns Inv-loop μ-loop
 returns c =
@@ -68,9 +68,9 @@ fill-row-spec =
     loop-holds
     add-body-figure
     body-figure-requires
-    mul-put
-    add-put
-    put-requires
+    mul-store
+    add-store
+    store-requires
     add-j
     loop-less
     loop-again

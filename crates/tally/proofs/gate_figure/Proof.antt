@@ -5,7 +5,7 @@ use denote.Ref.{now}
 use borrow.Author.Needs.{needs}
 use Rattle.model.specs.Image.{gates}
 use Rattle.tally.specs.Weights.{capped}
-use Rattle.tally.proofs.GateLaws.{gate-opaque, gate-cut, gate-opened, few-parameters, few-arguments}
+use Rattle.tally.proofs.GateTallyLaws.{gate-opaque, gate-cut, gate-opened, few-parameters, few-arguments}
 use Rattle.tally.proofs.gate_figure.Statement.{statement}
 use Rattle.tally.proofs.gate_figure.Tie as tie
 
@@ -34,8 +34,8 @@ mul-record-figure c =
     let ready = g .before .before .pre .0 in
     let laid = ready .laid in
     let h : a .g < gates (now (a .image)) = omega arith in
-    let p = few-parameters _ (ready .accepted) (a .g) (g .gate-at .result) h (g .gate-at .ensures) _ (c .before .before .before .word .ensures) in
-    let q = few-arguments _ (ready .accepted) (a .g) (g .gate-at .result) h (g .gate-at .ensures) _ (c .before .before .word2 .ensures) in
+    let p = few-parameters _ (ready .accepted) (a .g) (g .gate-at .result) h (g .gate-at .ensures .in-image _ (g .before .before .pre .0 .laid)) _ (c .before .before .before .word .ensures) in
+    let q = few-arguments _ (ready .accepted) (a .g) (g .gate-at .result) h (g .gate-at .ensures .in-image _ (g .before .before .pre .0 .laid)) _ (c .before .before .word2 .ensures) in
     omega arith
 
 add-record-figure : tie.Need-add-record-figure
@@ -45,8 +45,8 @@ add-record-figure c =
     let ready = g .before .before .pre .0 in
     let laid = ready .laid in
     let h : a .g < gates (now (a .image)) = omega arith in
-    let p = few-parameters _ (ready .accepted) (a .g) (g .gate-at .result) h (g .gate-at .ensures) _ (c .before .before .before .word .ensures) in
-    let q = few-arguments _ (ready .accepted) (a .g) (g .gate-at .result) h (g .gate-at .ensures) _ (c .before .before .word2 .ensures) in
+    let p = few-parameters _ (ready .accepted) (a .g) (g .gate-at .result) h (g .gate-at .ensures .in-image _ (g .before .before .pre .0 .laid)) _ (c .before .before .before .word .ensures) in
+    let q = few-arguments _ (ready .accepted) (a .g) (g .gate-at .result) h (g .gate-at .ensures .in-image _ (g .before .before .pre .0 .laid)) _ (c .before .before .word2 .ensures) in
     omega arith
 
 add-record-figure-2 : tie.Need-add-record-figure-2
@@ -56,8 +56,8 @@ add-record-figure-2 c =
     let ready = g .before .before .pre .0 in
     let laid = ready .laid in
     let h : a .g < gates (now (a .image)) = omega arith in
-    let p = few-parameters _ (ready .accepted) (a .g) (g .gate-at .result) h (g .gate-at .ensures) _ (c .before .before .before .word .ensures) in
-    let q = few-arguments _ (ready .accepted) (a .g) (g .gate-at .result) h (g .gate-at .ensures) _ (c .before .before .word2 .ensures) in
+    let p = few-parameters _ (ready .accepted) (a .g) (g .gate-at .result) h (g .gate-at .ensures .in-image _ (g .before .before .pre .0 .laid)) _ (c .before .before .before .word .ensures) in
+    let q = few-arguments _ (ready .accepted) (a .g) (g .gate-at .result) h (g .gate-at .ensures .in-image _ (g .before .before .pre .0 .laid)) _ (c .before .before .word2 .ensures) in
     omega arith
 
 record-figure-requires : tie.Need-record-figure-requires
@@ -68,7 +68,7 @@ returns c =
     let w = c .before .before in
     let g = w .before .before .before in
     let a = g .before .before .args in
-    gate-opaque (now (a .image)) (a .j) (a .g) (g .gate-at .result) (a .rounds) (g .gate-at .ensures) (a .n) _ _ _ _ (w .before .before .word .ensures) (w .before .word2 .ensures) (w .word3 .ensures) (c .before .if1 .taken) (c .record-figure .ensures)
+    gate-opaque (now (a .image)) (a .j) (a .g) (g .gate-at .result) (a .rounds) (g .gate-at .ensures .in-image _ (g .before .before .pre .0 .laid)) (a .n) _ _ _ _ (w .before .before .word .ensures) (w .before .word2 .ensures) (w .word3 .ensures) (c .before .if1 .taken) (c .record-figure .ensures)
 
 add-record-figure-3 : tie.Need-add-record-figure-3
 add-record-figure-3 c =
@@ -77,8 +77,8 @@ add-record-figure-3 c =
     let ready = g .before .before .pre .0 in
     let laid = ready .laid in
     let h : a .g < gates (now (a .image)) = omega arith in
-    let p = few-parameters _ (ready .accepted) (a .g) (g .gate-at .result) h (g .gate-at .ensures) _ (c .before .before .before .before .word .ensures) in
-    let q = few-arguments _ (ready .accepted) (a .g) (g .gate-at .result) h (g .gate-at .ensures) _ (c .before .before .before .word2 .ensures) in
+    let p = few-parameters _ (ready .accepted) (a .g) (g .gate-at .result) h (g .gate-at .ensures .in-image _ (g .before .before .pre .0 .laid)) _ (c .before .before .before .before .word .ensures) in
+    let q = few-arguments _ (ready .accepted) (a .g) (g .gate-at .result) h (g .gate-at .ensures .in-image _ (g .before .before .pre .0 .laid)) _ (c .before .before .before .word2 .ensures) in
     omega arith
 
 record-figure-requires-2 : tie.Need-record-figure-requires-2
@@ -89,7 +89,7 @@ returns-2 c =
     let w = c .before .before .before in
     let g = w .before .before .before in
     let a = g .before .before .args in
-    gate-cut (now (a .image)) (a .j) (a .g) (g .gate-at .result) (a .rounds) (g .gate-at .ensures) (a .n) _ _ _ (w .before .word2 .ensures) (w .word3 .ensures) (c .before .before .if1 .left) (c .before .if2 .taken) (c .record-figure2 .ensures)
+    gate-cut (now (a .image)) (a .j) (a .g) (g .gate-at .result) (a .rounds) (g .gate-at .ensures .in-image _ (g .before .before .pre .0 .laid)) (a .n) _ _ _ (w .before .word2 .ensures) (w .word3 .ensures) (c .before .before .if1 .left) (c .before .if2 .taken) (c .record-figure2 .ensures)
 
 mul-i : tie.Need-mul-i
 mul-i c = search needs
@@ -100,20 +100,20 @@ add-i c = search needs
 entry-weight-requires : tie.Need-entry-weight-requires
 entry-weight-requires c κs = search needs
 
-cut-product-requires : tie.Need-cut-product-requires
-cut-product-requires c κs = search needs
+capped-product-requires : tie.Need-capped-product-requires
+capped-product-requires c κs = search needs
 
-mul-cut-product : tie.Need-mul-cut-product
-mul-cut-product c = search needs
+mul-capped-product : tie.Need-mul-capped-product
+mul-capped-product c = search needs
 
-element-copy-out-cut-product : tie.Need-element-copy-out-cut-product
-element-copy-out-cut-product c = search needs
+element-copy-out-capped-product : tie.Need-element-copy-out-capped-product
+element-copy-out-capped-product c = search needs
 
-cut-product-requires-2 : tie.Need-cut-product-requires-2
-cut-product-requires-2 c κs = search needs
+capped-product-requires-2 : tie.Need-capped-product-requires-2
+capped-product-requires-2 c κs = search needs
 
-cut-sum-requires : tie.Need-cut-sum-requires
-cut-sum-requires c κs = search needs
+capped-sum-requires : tie.Need-capped-sum-requires
+capped-sum-requires c κs = search needs
 
 returns-3 : tie.Need-returns-3
 returns-3 c =
@@ -122,8 +122,8 @@ returns-3 c =
     let g = w .before .before .before in
     let a = g .before .before .args in
     let pre = g .before .before .pre in
-    gate-opened (now (a .image)) (a .j) (a .g) (g .gate-at .result) (a .rounds) (g .gate-at .ensures) (a .n) _ _ _ _ _ (pre .1) (pre .3) (w .word3 .ensures) (i .before .if1 .left) (i .if2 .left)
-    (c .before .before .before .cut-product .ensures ∙ ap (λ (k : ℕ). capped (a .rounds * k)) (c .before .before .before .before .entry-weight .ensures)) (c .before .cut-product2 .ensures) (c .cut-sum .ensures)
+    gate-opened (now (a .image)) (a .j) (a .g) (g .gate-at .result) (a .rounds) (g .gate-at .ensures .in-image _ (g .before .before .pre .0 .laid)) (a .n) _ _ _ _ _ (pre .1) (pre .3) (w .word3 .ensures) (i .before .if1 .left) (i .if2 .left)
+    (c .before .before .before .capped-product .ensures ∙ ap (λ (k : ℕ). capped (a .rounds * k)) (c .before .before .before .before .entry-weight .ensures)) (c .before .capped-product2 .ensures) (c .capped-sum .ensures)
 
 pub gate-figure-spec : {M : Type 1} → statement M
 gate-figure-spec =
@@ -146,9 +146,9 @@ gate-figure-spec =
     mul-i
     add-i
     entry-weight-requires
-    cut-product-requires
-    mul-cut-product
-    element-copy-out-cut-product
-    cut-product-requires-2
-    cut-sum-requires
+    capped-product-requires
+    mul-capped-product
+    element-copy-out-capped-product
+    capped-product-requires-2
+    capped-sum-requires
     returns-3)

@@ -5,7 +5,7 @@ use mathlib.Core.Path.{_≡_}
 use borrow.Author.Needs.{needs}
 use Rattle.model.specs.Image.{gates}
 use Rattle.tally.specs.Weights.{FigureTable}
-use Rattle.tally.proofs.TableLaws.{tabled-none}
+use Rattle.tally.proofs.FigureTableLaws.{tabled-none}
 use Rattle.tally.proofs.level_table.Statement.{statement}
 use Rattle.tally.proofs.level_table.Tie as tie
 

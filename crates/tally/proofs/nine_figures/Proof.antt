@@ -1,7 +1,7 @@
 use Prim.Native.Nat.{_+_}
 use denote.Ref.{now}
 use borrow.Author.Needs.{needs}
-use Rattle.tally.proofs.NineFigures.{nine-cut}
+use Rattle.tally.proofs.FiguresLaws.{nine-capped}
 use Rattle.tally.proofs.nine_figures.Statement.{statement}
 use Rattle.tally.proofs.nine_figures.Tie as tie
 
@@ -35,7 +35,7 @@ total-figure-requires-9 c κs = search needs
 returns : tie.Need-returns
 returns c =
     let a = c .before .before .before .before .before .before .before .before .before .before .args in
-    nine-cut (now (a .image)) (a .n + 1) _ _ _ _ _ _ _ _ _ (c .before .before .before .before .before .before .before .before .total-figure .ensures) (c .before .before .before .before .before .before .before .total-figure2 .ensures) (c .before .before .before .before .before .before .total-figure3 .ensures) (c .before .before .before .before .before .total-figure4 .ensures) (c .before .before .before .before .total-figure5 .ensures) (c .before .before .before .total-figure6 .ensures) (c .before .before .total-figure7 .ensures) (c .before .total-figure8 .ensures) (c .total-figure9 .ensures)
+    nine-capped (now (a .image)) (a .n + 1) _ _ _ _ _ _ _ _ _ (c .before .before .before .before .before .before .before .before .total-figure .ensures) (c .before .before .before .before .before .before .before .total-figure2 .ensures) (c .before .before .before .before .before .before .total-figure3 .ensures) (c .before .before .before .before .before .total-figure4 .ensures) (c .before .before .before .before .total-figure5 .ensures) (c .before .before .before .total-figure6 .ensures) (c .before .before .total-figure7 .ensures) (c .before .total-figure8 .ensures) (c .total-figure9 .ensures)
 
 pub nine-figures-spec : {M : Type 1} → statement M
 nine-figures-spec =

@@ -10,8 +10,8 @@ use Rattle.model.specs.Accepted.{PlainFacts}
 use Rattle.model.proofs.Deep.{called-below}
 use Rattle.image.proofs.KindLaws.{words-are, u-is, cx-is, gate-is, barrier-is, measure-is, reset-is}
 use Rattle.tally.specs.Weights.{weightOf, capped}
-use Rattle.tally.proofs.StatementKinds.{arguments-few}
-use Rattle.tally.proofs.TableLaws.{tabled-fewer}
+use Rattle.tally.proofs.PlainTallyLaws.{arguments-few}
+use Rattle.tally.proofs.FigureTableLaws.{tabled-fewer}
 use Rattle.tally.proofs.plain_figure.Statement.{statement}
 use Rattle.tally.proofs.plain_figure.Tie as tie
 
@@ -51,7 +51,7 @@ module _ (w : tie.After-word5) where
       Image.statement (now (w .before .before .before .before .before .before .before .args .image)) (w .before .before .before .before .before .before .before .args .s)
       ≡ Image.statementOf (w .before .before .before .before .word .result) (w .before .before .before .word2 .result) (w .before .before .word3 .result) (w .before .word4 .result) (w .word5 .result)
   stands =
-      words-are _ _ (w .before .before .before .before .before .statement-at .result) _ _ _ _ _ (w .before .before .before .before .before .statement-at .ensures)
+      words-are _ _ (w .before .before .before .before .before .statement-at .result) _ _ _ _ _ (w .before .before .before .before .before .statement-at .ensures .in-image _ (w .before .before .before .before .before .before .before .pre .0 .laid))
       (w .before .before .before .before .word .ensures) (w .before .before .before .word2 .ensures) (w .before .before .word3 .ensures) (w .before .word4 .ensures) (w .word5 .ensures)
 
   known-as : {x : Image.Statement} → Image.statementOf (w .before .before .before .before .word .result) (w .before .before .before .word2 .result) (w .before .before .word3 .result) (w .before .word4 .result) (w .word5 .result) ≡ x

@@ -8,11 +8,11 @@ use Rattle.tally.proofs.record_figure.Tie as tie
 weight-requires : tie.Need-weight-requires
 weight-requires c κs = search needs
 
-cut-product-requires : tie.Need-cut-product-requires
-cut-product-requires c κs = search needs
+capped-product-requires : tie.Need-capped-product-requires
+capped-product-requires c κs = search needs
 
 returns : tie.Need-returns
-returns c = c .cut-product .ensures ∙ ap (λ (w : ℕ). capped (c .before .before .args .rounds * w)) (c .before .weight .ensures)
+returns c = c .capped-product .ensures ∙ ap (λ (w : ℕ). capped (c .before .before .args .rounds * w)) (c .before .weight .ensures)
 
 pub record-figure-spec : {M : Type 1} → statement M
-record-figure-spec = tie.close (tie.spec weight-requires cut-product-requires returns)
+record-figure-spec = tie.close (tie.spec weight-requires capped-product-requires returns)

@@ -1,31 +1,28 @@
-use mathlib.Core.Path.{sym, ap, _∙_}
+-- An accepted image is tallied by its layout; a refused one has the check's refusal.
+use denote.Ref.{now}
 use borrow.Author.Needs.{needs}
-use Rattle.model.specs.Tally as Model
-use Rattle.image.specs.Answer.{answerFlaw}
-use Rattle.tally.proofs.NineFigures.{not-accepted}
+use Rattle.tally.proofs.FiguresLaws.{tally-refused}
 use Rattle.tally.proofs.tally.Statement.{statement}
 use Rattle.tally.proofs.tally.Tie as tie
 
-check-requires : tie.Need-check-requires
-check-requires c κs = search needs
+accepted-layout-requires : tie.Need-accepted-layout-requires
+accepted-layout-requires c κs = search needs
 
-enum-told : tie.Need-enum-told
-enum-told c = search needs
+enum-known-l : tie.Need-enum-known-l
+enum-known-l c = search needs
 
 accepted-tally-requires : tie.Need-accepted-tally-requires
-accepted-tally-requires c κs =
-    let r = c .before .before in
-    sym (r .check .ensures) ∙ ap answerFlaw (c .enum-told .given .1)
+accepted-tally-requires c κs = rw (c .before .l .given .1) at (c .before .before .before .accepted-layout .ensures)
+
+enum-known-refused : tie.Need-enum-known-refused
+enum-known-refused c = search needs
 
 returns : tie.Need-returns
 returns c = search needs
 
 returns-2 : tie.Need-returns-2
-unfolding Model.tally
-returns-2 c =
-    let r = c .before in
-    rw (← r .check .ensures) (not-accepted (r .check .result) _ (c .match .keys2))
+returns-2 c = let r = c .before .before .before in tally-refused (now (r .before .before .args .image)) _ _ _ (c .before .refused .given .1) (r .accepted-layout .ensures)
 
 pub tally-spec : {M : Type 1} → statement M
 tally-spec =
-    tie.close (tie.spec check-requires enum-told accepted-tally-requires returns returns-2)
+    tie.close (tie.spec accepted-layout-requires enum-known-l accepted-tally-requires enum-known-refused returns returns-2)

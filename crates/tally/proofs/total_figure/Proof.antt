@@ -1,6 +1,6 @@
 use denote.Ref.{now}
 use borrow.Author.Needs.{needs}
-use Rattle.tally.proofs.Scopes.{total-is}
+use Rattle.tally.proofs.BodyTallyLaws.{total-is}
 use Rattle.tally.proofs.total_figure.Statement.{statement}
 use Rattle.tally.proofs.total_figure.Tie as tie
 
@@ -16,8 +16,8 @@ body-figure-requires c κs = search needs
 if-any-requires : tie.Need-if-any-requires
 if-any-requires c κs = search needs
 
-cut-sum-requires : tie.Need-cut-sum-requires
-cut-sum-requires c κs = search needs
+capped-sum-requires : tie.Need-capped-sum-requires
+capped-sum-requires c κs = search needs
 
 returns : tie.Need-returns
 returns c =
@@ -25,7 +25,7 @@ returns c =
     let w = b .before in
     let h = w .before in
     let a = h .before .before .args in
-    total-is (now (a .image)) (a .j) (a .n) _ _ _ _ _ _ (h .before .before .pre .0 .laid .main-is) (h .head-words .ensures) (w .weight .ensures) (b .body-figure .ensures) (c .before .if-any .ensures) (c .cut-sum .ensures)
+    total-is (now (a .image)) (a .j) (a .n) _ _ _ _ _ _ (h .before .before .pre .0 .laid .main-statements-is) (h .head-words .ensures) (w .weight .ensures) (b .body-figure .ensures) (c .before .if-any .ensures) (c .capped-sum .ensures)
 
 pub total-figure-spec : {M : Type 1} → statement M
 total-figure-spec =
@@ -35,5 +35,5 @@ total-figure-spec =
     weight-requires
     body-figure-requires
     if-any-requires
-    cut-sum-requires
+    capped-sum-requires
     returns)

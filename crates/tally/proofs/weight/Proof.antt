@@ -1,5 +1,5 @@
 use borrow.Author.Needs.{needs}
-use Rattle.tally.proofs.Cuts.{weight-one, weight-other, weight-words, weight-none}
+use Rattle.tally.proofs.CappedLaws.{weight-one, weight-other, weight-words, weight-none}
 use Rattle.tally.proofs.weight.Statement.{statement}
 use Rattle.tally.proofs.weight.Tie as tie
 

@@ -4,7 +4,7 @@ use denote.Ref.{now}
 use borrow.Author.Needs.{needs}
 use Rattle.model.proofs.Accepted.{accepts}
 use Rattle.tally.specs.Weights.{FigureTable}
-use Rattle.tally.proofs.TableLaws.{whole-next, tabled-fewer, tabled-of-none}
+use Rattle.tally.proofs.FigureTableLaws.{whole-next, tabled-fewer, tabled-of-none}
 use Rattle.tally.proofs.whole_table.Statement.{statement}
 use Rattle.tally.proofs.whole_table.Tie as tie
 

@@ -1,0 +1,36 @@
+-- Angles in words: an array of numbers can be lent, an array of angles cannot.
+use Prim.Native.Nat.{ℕ, _+_, _*_}
+use mathlib.Core.Bool.{Bool, cond}
+use mathlib.Core.List.{List, map}
+use lib.ListN.{getD, set}
+use lib.Dec.{eqb}
+use Rattle.rational.specs.declared.Rational64.{Rational64}
+use Rattle.value.specs.declared.Value.{Value}
+use Rattle.model.specs.Lists.{range}
+
+-- a denominator from its word: 0 stands for 1
+abbrev pub denominatorOf : ℕ → ℕ
+denominatorOf d = cond (eqb d 0) 1 d
+
+-- a fraction in three words: 1 for a negative one, the numerator, the denominator; three zeros are the fraction 0
+abbrev pub fractionAt : List ℕ → ℕ → Rational64
+fractionAt words p = record { negative = eqb (getD words p 0) 1; numer = getD words (p + 1) 0; denom = denominatorOf (getD words (p + 2) 0) }
+
+-- the first word of a fraction: 1 if it is negative
+abbrev pub signWord : Bool → ℕ
+signWord negative = cond negative 1 0
+
+-- a fraction put into three words
+abbrev pub putFraction : List ℕ → ℕ → Rational64 → List ℕ
+putFraction words p x = set (set (set words p (signWord (x .negative))) (p + 1) (x .numer)) (p + 2) (x .denom)
+
+-- the angle in six words, and an angle put into them
+abbrev pub valueAt : List ℕ → ℕ → Value
+valueAt words p = record { a = fractionAt words p; b = fractionAt words (p + 3) }
+
+abbrev pub putValue : List ℕ → ℕ → Value → List ℕ
+putValue words p x = putFraction (putFraction words p (x .a)) (p + 3) (x .b)
+
+-- the sixteen angles of a frame, in 96 words
+unfoldable pub anglesIn : List ℕ → List Value
+anglesIn words = map (λ i. valueAt words (6 * i)) (range 0 16)
