@@ -4,7 +4,7 @@ ghost use mathlib.Core.Bool.{cond};
 ghost use lib.Dec.{leb};
 ghost use lib.ListN.{length, getD, drop};
 ghost use Prim.Native.Nat.{_+_, _-_, _*_, _/_, _<_};
-ghost use Rattle.model.specs.Reader.{recordLength, nextAt};
+ghost use Rattle.model.specs.RecordReader.{recordLength, nextAt};
 ghost use Rattle.record_reader.specs.Answer.{nextRecordOf, nextWordsOf};
 
 // A record of so many words, the end, or no record: 17.

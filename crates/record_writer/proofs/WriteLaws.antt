@@ -16,7 +16,7 @@ use Rattle.model.specs.Steps.{write}
 use Rattle.model.specs.Run.{full, play}
 use Rattle.model.proofs.ListLaws.{range-snoc, flat-snoc}
 use Rattle.model.proofs.PlayLaws.{sets-append, plays-write, plays-stop}
-use Rattle.record_writer.specs.Promise.{afterRecord, InOutput, WroteSteps, AppendedWords, placeAt}
+use Rattle.record_writer.specs.Promise.{afterRecord, InOutput, WroteSteps, AppendedWords, stateAt}
 use Rattle.record_writer.specs.declared.Position.{Position}
 use Rattle.record_writer.specs.declared.LinearizeErrorKind.the-variants as kind
 use Rattle.record_writer.specs.declared.Linearized.the-variants as linearized
@@ -48,7 +48,7 @@ pub full-up : (x : Record) {out : List ℕ} {at : Position} → InOutput out at 
 unfolding play
 full-up x {out} {at} k h =
     record {
-      plays = plays-stop (write [] x ∷ []) {p = placeAt out at} {a = full []} (k .inside) (rw (lt-leb (length (encode x)) (length out - at .words) (omega arith)) refl);
+      plays = plays-stop (write [] x ∷ []) {p = stateAt out at} {a = full []} (k .inside) (rw (lt-leb (length (encode x)) (length out - at .words) (omega arith)) refl);
       level = refl;
     }
 

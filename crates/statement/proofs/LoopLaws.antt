@@ -15,7 +15,7 @@ use Rattle.record_writer.specs.declared.LinearizeErrorKind.the-variants as kind
 use Rattle.record_writer.specs.declared.LinearizeError.{LinearizeError}
 use Rattle.record_writer.specs.declared.Linearized.{Linearized}
 use Rattle.record_writer.specs.declared.Linearized.the-variants as linearized
-use Rattle.record_writer.specs.Promise.{refusalAnswer, placeAt, InOutput, WroteSteps}
+use Rattle.record_writer.specs.Promise.{refusalAnswer, stateAt, InOutput, WroteSteps}
 
 pub not-done : (k : LinearizeErrorKind) (t : List ℕ) → ¬ (refusalAnswer k t ≡ done)
 not-done (kind.DivideByZero p) t e = absurd (let z : _≡_ {A = ℕ} 0 1 = cc in omega arith)
@@ -30,7 +30,7 @@ not-done kind.ShortTrace t e = absurd (let z : _≡_ {A = ℕ} 0 1 = cc in omega
 -- of n rounds the first i are played
 pub record Looped (g : ℕ → List Step) (n : ℕ) (out : List ℕ) (at : Position) (i : ℕ) (out′ : List ℕ) (now : Position) : Type 0 where
   pub few : i ≤ n
-  pub going : Going (inRounds n g) (flatMap g (range i (n - i))) (placeAt out at) (placeAt out′ now)
+  pub going : Going (inRounds n g) (flatMap g (range i (n - i))) (stateAt out at) (stateAt out′ now)
   pub level : now .trace ≡ at .trace
   pub opens : InOutput out′ now
 
@@ -42,7 +42,7 @@ module _ (g : ℕ → List Step) (n : ℕ) {out : List ℕ} {at : Position} wher
   looped-start o =
       record {
         few = zero-le;
-        going = subst (λ (rest : List Step). Going (inRounds n g) rest (placeAt out at) (placeAt out at)) (rounds-all g n) (going-start (inRounds n g) (o .inside));
+        going = subst (λ (rest : List Step). Going (inRounds n g) rest (stateAt out at) (stateAt out at)) (rounds-all g n) (going-start (inRounds n g) (o .inside));
         level = refl;
         opens = o;
       }

@@ -16,7 +16,7 @@ use Rattle.record_writer.specs.declared.LinearizeErrorKind.the-variants as kind
 use Rattle.record_writer.specs.declared.LinearizeError.{LinearizeError}
 use Rattle.record_writer.specs.declared.Linearized.{Linearized}
 use Rattle.record_writer.specs.declared.Linearized.the-variants as linearized
-use Rattle.record_writer.specs.Promise.{fullAt, InOutput, WroteSteps, refusalAnswer, placeAt}
+use Rattle.record_writer.specs.Promise.{fullAt, InOutput, WroteSteps, refusalAnswer, stateAt}
 use Rattle.record_writer.proofs.WriteLaws.{full-up}
 use Rattle.argument.specs.Frames.{scopeFrame}
 use Rattle.statement.specs.Statements.{apartCX, overlapAtCX}
@@ -63,7 +63,7 @@ pub refuses : (x : Refusal) (e : LinearizeError) {out : List ℕ} {at : Position
 unfolding play
 refuses x e {out} {at} p q o =
     record {
-      plays = subst (λ (z : Position). Plays (refuse [] x ∷ []) (placeAt out at) (placeAt out z) (refusalAnswer (e .kind) [])) (sym p)
-          (subst (λ (z : Answer). Plays (refuse [] x ∷ []) (placeAt out at) (placeAt out at) z) (sym (q [])) (plays-stop (refuse [] x ∷ []) (o .inside) refl));
+      plays = subst (λ (z : Position). Plays (refuse [] x ∷ []) (stateAt out at) (stateAt out z) (refusalAnswer (e .kind) [])) (sym p)
+          (subst (λ (z : Answer). Plays (refuse [] x ∷ []) (stateAt out at) (stateAt out at) z) (sym (q [])) (plays-stop (refuse [] x ∷ []) (o .inside) refl));
       level = ap (λ (z : Position). z .trace) p;
     }

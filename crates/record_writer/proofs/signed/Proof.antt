@@ -1,6 +1,6 @@
 use native.Mathlib.Omega.{arith}
 use borrow.Author.Needs.{needs}
-use Rattle.rational.proofs.Soundness.{nonzero}
+use Rattle.rational.proofs.LowestTermsLaws.{nonzero}
 use Rattle.record_writer.proofs.AngleLaws.{complement}
 use Rattle.record_writer.proofs.signed.Statement.{statement}
 use Rattle.record_writer.proofs.signed.Tie as tie
