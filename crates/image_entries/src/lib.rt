@@ -3,16 +3,16 @@ use image::Layout;
 use image::refusal;
 ghost use mathlib.Core.Path.{_≡_};
 ghost use mathlib.Core.Bool.{false, cond, _&&_, _||_};
-ghost use mathlib.Core.List.{[], _∷_, map};
+ghost use mathlib.Core.List.{List, [], _∷_, map};
 ghost use lib.Dec.{ltb, leb, eqb};
 ghost use lib.ListN.{length, getD};
-ghost use Prim.Native.Nat.{_+_, _-_, _<_, _≤_, suc};
+ghost use Prim.Native.Nat.{ℕ, _+_, _-_, _<_, _≤_, suc};
 ghost use Rattle.model.specs.Lists.{range, every, all};
 ghost use Rattle.model.specs.Image.{word, parameter, variables, argumentSize};
 ghost use Rattle.model.specs.Check.{firstBad, gateOk, expressionOk, argumentOk, classicalArgumentOk, unused, matching, gateEntries};
 ghost use Rattle.image.specs.Layout.{LayoutOf, SmallPlace};
 ghost use Rattle.image_entries.specs.Flaws.{flawOf, registerFlaw, bodyWordsOk};
-ghost use Rattle.image_entries.specs.Judging.{accepts, JudgementTables, leafFits, wordsOk, JudgementIs};
+ghost use Rattle.image_entries.specs.Judging.{accepts, JudgementTables, TablesFit, TablesOf, leafFits, wordsOk, JudgementIs};
 
 // What is wrong with an image: a number of document 01 with its place. Number 0 is nothing wrong.
 pub struct Flaw {
@@ -248,7 +248,7 @@ fn judge_expression(
 
 // Judges each expression once, in ascending order: an operand has a smaller number than its user.
 pub fn judge_expressions(image: &[u64], l: Layout, levels: &mut [u64], variables: &mut [u64])
-    requires { ⌜ LayoutOf (now image) l × (l .expressions ≤ length (now levels)) × (l .expressions ≤ length (now variables)) ⌝ }
+    requires { ⌜ LayoutOf (now image) l × TablesFit l (now levels) (now variables) ⌝ }
     ensures { λ r. ⌜ JudgementTables (now (image .entry)) (l .expressions) (now (levels .exit)) (now (variables .exit)) ⌝ }
 {
     let n = l.expressions;
@@ -262,17 +262,10 @@ pub fn judge_expressions(image: &[u64], l: Layout, levels: &mut [u64], variables
     }
 }
 
-// Whether expression e is well formed with v variables.
-pub fn expression_ok(
-    image: &[u64],
-    l: Layout,
-    levels: &[u64],
-    variables: &[u64],
-    v: u64,
-    e: u64,
-) -> bool
-    requires { ⌜ LayoutOf (now image) l × JudgementTables (now image) (l .expressions) (now levels) (now variables) × (v ≤ 16) ⌝ }
-    ensures { λ r. ⌜ r ≡ expressionOk (now (image .entry)) v 32 e ⌝ }
+// Whether expression e is well formed with v variables, by the tables.
+pub fn expression_ok(l: Layout, levels: &[u64], variables: &[u64], v: u64, e: u64) -> bool
+    requires { ⌜ TablesFit l (now levels) (now variables) × (v ≤ 16) ⌝ }
+    ensures { λ r. ⌜ ((image : List ℕ) → TablesOf image l (now (levels .entry)) (now (variables .entry)) → r ≡ expressionOk image v 32 e) ⌝ }
 {
     if e < l.expressions {
         let i = e as usize;
@@ -295,13 +288,13 @@ pub fn parameters_ok(
     p: u64,
     n: u64,
 ) -> bool
-    requires { ⌜ LayoutOf (now image) l × JudgementTables (now image) (l .expressions) (now levels) (now variables) × (v ≤ 16) × (p + n ≤ 8192) ⌝ }
+    requires { ⌜ TablesOf (now image) l (now levels) (now variables) × (v ≤ 16) × (p + n ≤ 8192) ⌝ }
     ensures { λ r. ⌜ r ≡ all (λ i. expressionOk (now (image .entry)) v 32 (parameter (now (image .entry)) i)) (range p n) ⌝ }
 {
     let mut i = 0u64;
     while i < n {
         let e = image::word(image, l.parameter_at(p + i));
-        if expression_ok(image, l, levels, variables, v, e) {
+        if expression_ok(l, levels, variables, v, e) {
             i += 1;
         } else {
             return false;

@@ -9,11 +9,11 @@ ghost use lib.Dec.{eqb};
 ghost use Prim.Native.Nat.{suc, _+_, _-_, _*_, _<_, _≤_, _^_, min};
 ghost use Rattle.model.specs.Lists.{range, sum, largest};
 ghost use Rattle.model.specs.Image.{statement, argumentSize, classicalArgumentSize, rounds, gates, gateArguments, qubits, bits};
-ghost use Rattle.model.specs.Tally.{gateTally, plainTally, conditionalTally, statementTally, bodyTally, weightTally, figures, tally};
-ghost use Rattle.model.specs.Accepted.{PlainFacts, Facts, callsBelow};
+ghost use Rattle.model.specs.Tally.{weightTally, figures, tally};
+ghost use Rattle.model.specs.Accepted.{PlainFacts, Facts};
 ghost use Rattle.image.specs.Layout.{LayoutOf};
 ghost use Rattle.image_check.specs.Answer.{AcceptedLayout};
-ghost use Rattle.tally.specs.Weights.{weightOf, entryOf, capped, openingFor, FigureTable, RowFilled, nineOf, tallyAnswerOf};
+ghost use Rattle.tally.specs.Weights.{weightOf, entryOf, capped, FigureTable, FigureContext, CallContext, RowFilled, gateFigure, plainFigure, conditionalFigure, statementFigure, bodyFigure, nineOf, tallyAnswerOf};
 
 // The records of kinds 1 to 7, the body entries and the word bound.
 pub struct Figures {
@@ -181,8 +181,8 @@ fn gate_figure(
     rounds: u64,
     j: u64,
 ) -> u64
-    requires { ⌜ AcceptedLayout (now image) l × FigureTable (now image) n (suc g) (now table) × (g < l .gates) × (j < 9) ⌝ }
-    ensures { λ r. ⌜ r ≡ capped (rounds * gateTally (now (image .entry)) (weightOf j) (entryOf j) (openingFor (now (image .entry)) j n) g) ⌝ }
+    requires { ⌜ CallContext (now image) l n g j (now table) ⌝ }
+    ensures { λ r. ⌜ r ≡ capped (rounds * gateFigure (now (image .entry)) n g j) ⌝ }
 {
     let at = l.gate_at(g);
     let parameters = image::word(image, at);
@@ -214,8 +214,8 @@ fn call_figure(
     a: u64,
     j: u64,
 ) -> u64
-    requires { ⌜ AcceptedLayout (now image) l × FigureTable (now image) n (suc g) (now table) × (g < l .gates) × (a + gateArguments (now image) g ≤ 8192) × (j < 9) ⌝ }
-    ensures { λ r. ⌜ r ≡ capped (rounds (now (image .entry)) scope (range a (gateArguments (now (image .entry)) g)) * gateTally (now (image .entry)) (weightOf j) (entryOf j) (openingFor (now (image .entry)) j n) g) ⌝ }
+    requires { ⌜ CallContext (now image) l n g j (now table) × (a + gateArguments (now image) g ≤ 8192) ⌝ }
+    ensures { λ r. ⌜ r ≡ capped (rounds (now (image .entry)) scope (range a (gateArguments (now (image .entry)) g)) * gateFigure (now (image .entry)) n g j) ⌝ }
 {
     let arguments = image::word(image, l.gate_at(g) + 1);
     let rounds = image::rounds_of(image, l, scope, a, arguments);
@@ -232,8 +232,8 @@ fn plain_figure(
     s: u64,
     j: u64,
 ) -> u64
-    requires { ⌜ AcceptedLayout (now image) l × FigureTable (now image) n (callsBelow (now image) scope) (now table) × PlainFacts (now image) scope (statement (now image) s) × (s ≤ 8192) × (j < 9) ⌝ }
-    ensures { λ r. ⌜ r ≡ capped (plainTally (now (image .entry)) (weightOf j) (entryOf j) (λ t. 0) (openingFor (now (image .entry)) j n) scope (statement (now (image .entry)) s)) ⌝ }
+    requires { ⌜ FigureContext (now image) l n scope j (now table) × PlainFacts (now image) scope (statement (now image) s) × (s ≤ 8192) ⌝ }
+    ensures { λ r. ⌜ r ≡ capped (plainFigure (now (image .entry)) n scope s j) ⌝ }
 {
     let at = l.statement_at(s);
     let kind = image::word(image, at);
@@ -267,8 +267,8 @@ fn conditional_figure(
     t: u64,
     j: u64,
 ) -> u64
-    requires { ⌜ AcceptedLayout (now image) l × FigureTable (now image) n (callsBelow (now image) scope) (now table) × PlainFacts (now image) scope (statement (now image) t) × (t ≤ 8192) × (j < 9) ⌝ }
-    ensures { λ r. ⌜ r ≡ capped (conditionalTally (now (image .entry)) (weightOf j) (entryOf j) (openingFor (now (image .entry)) j n) scope t) ⌝ }
+    requires { ⌜ FigureContext (now image) l n scope j (now table) × PlainFacts (now image) scope (statement (now image) t) × (t ≤ 8192) ⌝ }
+    ensures { λ r. ⌜ r ≡ capped (conditionalFigure (now (image .entry)) n scope t j) ⌝ }
 {
     let inner = plain_figure(image, l, table, n, scope, t, j);
     let started = capped_sum(inner, weight(j, 7, CONDITIONAL_START_WORDS));
@@ -285,8 +285,8 @@ fn statement_figure(
     s: u64,
     j: u64,
 ) -> u64
-    requires { ⌜ AcceptedLayout (now image) l × FigureTable (now image) n (callsBelow (now image) scope) (now table) × Facts (now image) scope (statement (now image) s) × (s ≤ 8192) × (j < 9) ⌝ }
-    ensures { λ r. ⌜ r ≡ capped (statementTally (now (image .entry)) (weightOf j) (entryOf j) (openingFor (now (image .entry)) j n) scope s) ⌝ }
+    requires { ⌜ FigureContext (now image) l n scope j (now table) × Facts (now image) scope (statement (now image) s) × (s ≤ 8192) ⌝ }
+    ensures { λ r. ⌜ r ≡ capped (statementFigure (now (image .entry)) n scope s j) ⌝ }
 {
     let at = l.statement_at(s);
     if image::word(image, at) == 7 {
@@ -307,8 +307,8 @@ fn body_figure(
     scope: u64,
     j: u64,
 ) -> u64
-    requires { ⌜ AcceptedLayout (now image) l × FigureTable (now image) n (callsBelow (now image) scope) (now table) × (scope ≤ l .gates) × (j < 9) ⌝ }
-    ensures { λ r. ⌜ r ≡ capped (bodyTally (now (image .entry)) (weightOf j) (entryOf j) (openingFor (now (image .entry)) j n) scope) ⌝ }
+    requires { ⌜ FigureContext (now image) l n scope j (now table) × (scope ≤ l .gates) ⌝ }
+    ensures { λ r. ⌜ r ≡ capped (bodyFigure (now (image .entry)) n scope j) ⌝ }
 {
     let span = image::statements_of(image, l, scope);
     let first = span.first;
@@ -411,7 +411,7 @@ fn if_any(main: u64, head: u64) -> u64
 
 // Figure j of the whole image.
 fn total_figure(image: &[u64], l: Layout, table: &[u64; TABLE_WORDS], n: u64, j: u64) -> u64
-    requires { ⌜ AcceptedLayout (now image) l × FigureTable (now image) n (gates (now image)) (now table) × (j < 9) ⌝ }
+    requires { ⌜ FigureContext (now image) l n 0 j (now table) ⌝ }
     ensures { λ r. ⌜ r ≡ capped (weightTally (now (image .entry)) (weightOf j) (entryOf j) (n + 1)) ⌝ }
 {
     let main = l.main_statements;
