@@ -1,3 +1,4 @@
+-- The statements of main are the first ones, those of a body stand in its gate's entry.
 use denote.Ref.{now}
 use Rattle.image.proofs.StatementsOfLaws.{holds-main, holds-body}
 use borrow.Author.Needs.{needs}
@@ -5,7 +6,9 @@ use Rattle.image.proofs.statements_of.Statement.{statement}
 use Rattle.image.proofs.statements_of.Tie as tie
 
 returns : tie.Need-returns
-returns c = let s = c .before .before in holds-main (now (s .args .image)) (s .args .l) (s .args .scope) (s .pre .0) (c .if1 .taken)
+returns c =
+    let s = c .before .before in
+    holds-main (now (s .args .image)) (s .args .l) (s .args .scope) (s .pre .0) (c .if1 .taken)
 
 sub-gate-at : tie.Need-sub-gate-at
 sub-gate-at c = search needs

@@ -1,3 +1,4 @@
+-- The tests of a call's own words in their order give what callFits says.
 use Prim.Native.Nat.{_+_}
 use lib.Dec.{leb, ltb}
 use mathlib.Core.Path.{_≡_, sym, _∙_}
@@ -53,13 +54,19 @@ fits-requires : tie.Need-fits-requires
 fits-requires c κs = search needs
 
 returns-3 : tie.Need-returns-3
-returns-3 c = sym (then _ (rest (c .before .before .before .before .before .before .before)) (then _ (inside (c .before .before .before .before .before)) (out _ (parameters-fit (c .before) ∙ not-true _ (c .if3 .taken)))))
+returns-3 c =
+    let before = c .before .before .before .before .before .before .before in
+    let before-2 = c .before .before .before .before .before in
+    sym (then _ (rest before) (then _ (inside before-2) (out _ (parameters-fit (c .before) ∙ not-true _ (c .if3 .taken)))))
 
 fits-requires-2 : tie.Need-fits-requires-2
 fits-requires-2 c κs = search needs
 
 returns-4 : tie.Need-returns-4
-returns-4 c = sym (then _ (rest (c .before .before .before .before .before .before .before .before)) (then _ (inside (c .before .before .before .before .before .before)) (then _ (parameters-fit (c .before .before) ∙ not-false _ (c .before .if3 .left)) (last (arguments-fit c)))))
+returns-4 c =
+    let before = c .before .before .before .before .before .before .before .before in
+    let before-2 = c .before .before .before .before .before .before in
+    sym (then _ (rest before) (then _ (inside before-2) (then _ (parameters-fit (c .before .before) ∙ not-false _ (c .before .if3 .left)) (last (arguments-fit c)))))
 
 pub call-fits-spec : {M : Type 1} → statement M
 call-fits-spec =

@@ -1,3 +1,4 @@
+-- The first register of size 0, or past the limit in all, is the first bad one.
 use borrow.Author.Needs.{needs}
 use Prim.Native.Nat.{ℕ, _+_, _-_, _≤_}
 use mathlib.Core.Path.{_≡_, _∙_, ap, refl, sym}

@@ -1,3 +1,4 @@
+-- The capped figures are the tally if all are below the limit, and else one is too large.
 use denote.Ref.{now}
 use borrow.Author.Needs.{needs}
 use Rattle.tally.proofs.FiguresLaws.{tally-figures, tally-large}

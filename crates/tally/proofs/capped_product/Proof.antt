@@ -1,3 +1,4 @@
+-- A product that passes the limit is found by a division before it is made.
 use Prim.Native.Nat.{_<_}
 use native.Mathlib.Omega.{arith}
 use borrow.Author.Needs.{needs}

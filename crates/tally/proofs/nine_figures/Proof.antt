@@ -1,3 +1,4 @@
+-- The nine figures are those of the nine weights, capped.
 use Prim.Native.Nat.{_+_}
 use denote.Ref.{now}
 use borrow.Author.Needs.{needs}
