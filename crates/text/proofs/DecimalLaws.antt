@@ -1,5 +1,5 @@
--- A number's digits: how many suffice, the last one, and the bounds of a word.
-use Prim.Native.Nat.{ℕ, zero, suc, _+_, _-_, _/_, _%_, _^_, _≤_, _<_}
+-- A number in decimal is one digit, or a number in decimal and a digit, and a word has at most 20 digits.
+use Prim.Native.Nat.{ℕ, zero, suc, _+_, _/_, _%_, _^_, _≤_, _<_}
 use native.Mathlib.Nat.{not-suc-le-zero, div-lt-iff-lt-mul, pow-suc}
 use native.Mathlib.Omega.{arith}
 use mathlib.Core.Path.{_≡_, refl, ap}
@@ -9,7 +9,6 @@ use borrow.Author.Tests.{lt-ltb, le-ltb, ltb-false}
 use lib.Dec.{ltb}
 use lib.ListN.{length, length-append}
 use Rattle.model.specs.Listing.{digits, decimal}
-use Rattle.listing_text.specs.WordText.{signedText, wordText}
 
 -- more digits than the number are as good as others
 digits-enough : (j k n : ℕ) → n < j → n < k → digits j n ≡ digits k n
@@ -32,7 +31,7 @@ unfolding decimal digits
 decimal-more n h = rw (le-ltb n 10 h) (ap (λ (l : List ℕ). l ++ (48 + n % 10) ∷ []) (digits-enough n (suc (n / 10)) (n / 10) (omega arith) (omega arith)))
 
 -- a number below a power of ten
-digits-few : (k d n : ℕ) → n < 10 ^ suc d → length (digits k n) ≤ suc d
+pub digits-few : (k d n : ℕ) → n < 10 ^ suc d → length (digits k n) ≤ suc d
 unfolding digits
 digits-few zero d n h = omega arith
 digits-few (suc k) d n h = go (λ e m. digits-few k e m) (ltb n 10) refl d h
@@ -48,15 +47,3 @@ digits-few (suc k) d n h = go (λ e m. digits-few k e m) (ltb n 10) refl d h
 pub decimal-short : (n : ℕ) → n < 2 ^ 64 → length (decimal n) ≤ 20
 unfolding decimal
 decimal-short n h = digits-few (suc n) 19 n (omega arith)
-
-pub signed-short : (n : ℕ) → n < 2 ^ 64 → length (signedText n) ≤ 20
-unfolding signedText decimal
-signed-short n h = go (ltb n (2 ^ 63)) refl
-  where
-    go : (b : Bool) → ltb n (2 ^ 63) ≡ b → length (cond b (digits (suc n) n) (45 ∷ digits (suc (2 ^ 64 - n)) (2 ^ 64 - n))) ≤ 20
-    go true e = digits-few (suc n) 19 n (omega arith)
-    go false e = let p = digits-few (suc (2 ^ 64 - n)) 18 (2 ^ 64 - n) (omega (arith, ltb-false n (2 ^ 63) e)) in omega arith
-
-pub word-short : (b : Bool) (n : ℕ) → n < 2 ^ 64 → length (wordText b n) ≤ 20
-word-short true n h = signed-short n h
-word-short false n h = decimal-short n h

@@ -1,13 +1,14 @@
--- Bytes behind bytes.
-use Prim.Native.Nat.{ℕ, _≤_}
-use native.Mathlib.Nat.{add-zero}
+-- Bytes that are put behind bytes are put together.
+use Prim.Native.Nat.{ℕ, _+_, _≤_, _<_}
+use native.Mathlib.Nat.{add-zero, zero-add}
+use native.Mathlib.Numerals.{add-one}
 use native.Mathlib.Omega.{arith}
 use mathlib.Core.Path.{_≡_, refl, sym, ap, subst, _∙_}
-use mathlib.Core.List.{List, [], _++_, append-assoc, append-nil}
-use lib.ListN.{length, length-append}
-use lib.Seq.{length-sets}
+use mathlib.Core.List.{List, [], _∷_, _++_, append-assoc, append-nil}
+use lib.ListN.{length, getD, drop, length-append, drop-of-length-le}
+use lib.Seq.{length-sets, sets-eq, drop-cons}
 use Rattle.model.proofs.PlayLaws.{sets-append}
-use Rattle.listing_text.specs.Put.{Room, Put}
+use Rattle.text.specs.Put.{Room, Put, InFront}
 
 pub put-none : (text : List ℕ) (at : ℕ) → at ≤ length text → Put [] text at at text
 put-none text at h = record { contents = refl; ends = sym (add-zero at); fits = h }
@@ -67,3 +68,22 @@ module _ {all rest text text′ : List ℕ} {at now : ℕ} (g : Putting all rest
 
   pub putting-end : rest ≡ [] → Put all text at now text′
   putting-end e = put-same (sym (g .split ∙ ap (λ (l : List ℕ). g .before ++ l) e ∙ append-nil (g .before))) (g .done)
+
+-- ---- bytes one by one
+
+pub bytes-next : (bs : List ℕ) (i : ℕ) → i < length bs → drop i bs ≡ (getD bs i 0 ∷ []) ++ drop (i + 1) bs
+bytes-next bs i h = drop-cons bs i 0 h ∙ rw (add-one i) refl
+
+pub bytes-end : (bs : List ℕ) (i : ℕ) → length bs ≤ i → drop i bs ≡ []
+bytes-end bs i h = drop-of-length-le bs h
+
+-- ---- a whole text
+
+-- what is put from the start on is laid over
+pub in-front : {bytes text text′ : List ℕ} {n : ℕ} → Put bytes text 0 n text′ → InFront bytes text n text′
+in-front {bytes} {text} p =
+    record {
+      contents = p .contents ∙ sets-eq bytes text 0 (omega (arith, p .ends, p .fits)) ∙ rw zero-add refl;
+      count = omega (arith, p .ends);
+      inside = omega (arith, p .fits, put-length p);
+    }

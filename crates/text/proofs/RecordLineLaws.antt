@@ -1,4 +1,4 @@
--- A record's line, word after word.
+-- The line of a record is put word after word, and has at most 21 bytes a word.
 use Prim.Native.Nat.{ℕ, suc, _+_, _-_, _*_, _/_, _%_, _^_, _≤_, _<_}
 use native.Mathlib.Numerals.{add-one}
 use native.Mathlib.Omega.{arith}
@@ -10,9 +10,10 @@ use lib.Dec.{eqb}
 use lib.ListN.{length, getD, drop, length-append, drop-of-length-le}
 use lib.Seq.{drop-cons}
 use Rattle.model.specs.Listing.{decimal}
-use Rattle.listing_text.specs.WordText.{wordText, numerator, wordsText, recordLine}
-use Rattle.listing_text.specs.Put.{Room, Put, PutMost}
-use Rattle.listing_text.proofs.DigitLaws.{decimal-short, word-short}
+use Rattle.text.specs.RecordLine.{wordText, numerator, wordsText, recordLine}
+use Rattle.text.specs.Put.{Room, Put, PutMost}
+use Rattle.text.proofs.DecimalLaws.{decimal-short}
+use Rattle.text.proofs.SignedTextLaws.{word-short}
 
 -- ---- which words are numerators
 

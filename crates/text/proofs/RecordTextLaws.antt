@@ -1,4 +1,4 @@
--- The line of an encoded record is the record's text, as its angles are sound.
+-- The line of an encoded record is the record's text, where its angles are sound.
 use Prim.Native.Nat.{ℕ, suc, _+_, _-_, _*_, _%_, _^_, _≤_, _<_}
 use native.Mathlib.Nat.{le-of-lt}
 use native.Mathlib.Omega.{arith}
@@ -16,18 +16,11 @@ use Rattle.model.specs.Records.{Record, kind, fields, encode, fractionWords, an
 use Rattle.model.specs.Claims.{anglesOf}
 use Rattle.model.specs.Listing.{decimal, line, fractionText, angleText, fieldsText, recordText}
 use Rattle.model.proofs.All.{All, head-All, tail-All}
-use Rattle.listing_text.specs.WordText.{signedText, numerator, wordsText, recordLine}
-use Rattle.listing_text.proofs.SignLaws.{no-sign, minus-sign}
-use Rattle.listing_text.proofs.LineLaws.{numerator-opaque, numerator-behind}
-
--- words, each behind a space
-abbrev pub spaced : List (List ℕ) → List ℕ
-spaced l = flatMap (λ w. 32 ∷ w) l
-
-pub line-spaced : (w : List ℕ) (l : List (List ℕ)) → line (w ∷ l) ≡ w ++ (spaced l ++ 10 ∷ [])
-unfolding line flatMap
-line-spaced w [] = refl
-line-spaced w (v ∷ l) = ap (λ (x : List ℕ). w ++ 32 ∷ x) (line-spaced v l ∙ sym (append-assoc v (spaced l) (10 ∷ [])))
+use Rattle.text.specs.NumberLine.{spaced}
+use Rattle.text.specs.RecordLine.{signedText, numerator, wordsText, recordLine}
+use Rattle.text.proofs.SignedTextLaws.{no-sign, minus-sign}
+use Rattle.text.proofs.RecordLineLaws.{numerator-opaque, numerator-behind}
+use Rattle.text.proofs.NumberLineLaws.{line-spaced}
 
 -- ---- angles
 

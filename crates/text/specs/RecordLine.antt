@@ -1,21 +1,16 @@
--- A record's line from its words, and the end from an answer and its trace.
+-- The line of a record, from the record's words.
 use Prim.Native.Nat.{ℕ, suc, _-_, _/_, _%_, _^_}
 use mathlib.Core.Bool.{Bool, false, _&&_, cond}
-use mathlib.Core.Path.{_≡_}
-use mathlib.Core.List.{List, [], _∷_, _++_, flatMap}
+use mathlib.Core.List.{List, [], _∷_, _++_}
 use lib.Dec.{eqb, ltb, leb}
 use lib.ListN.{getD, drop}
-use Rattle.model.specs.Records.{Record, encode}
-use Rattle.model.specs.Run.{answerNumbers}
-use Rattle.model.specs.Listing.{ascii, decimal, line, fromText, refusedText}
-use Rattle.record_writer.specs.declared.Linearized.{Linearized}
-use Rattle.record_writer.specs.declared.Linearized.the-variants as linearized
-use Rattle.record_writer.specs.Promise.{refusalAnswer}
+use Rattle.model.specs.Listing.{decimal}
 
 -- a numerator's word, "signed in two's complement"
 unfoldable pub signedText : ℕ → List ℕ
 signedText n = cond (ltb n (2 ^ 63)) (decimal n) (45 ∷ decimal (2 ^ 64 - n))
 
+-- a word as text, signed or not
 abbrev pub wordText : Bool → ℕ → List ℕ
 wordText s n = cond s (signedText n) (decimal n)
 
@@ -30,19 +25,6 @@ unfoldable pub wordsText : List ℕ → ℕ → List ℕ → List ℕ
 wordsText ws i [] = []
 wordsText ws i (w ∷ l) = (32 ∷ wordText (numerator ws i) w) ++ wordsText ws (suc i) l
 
+-- the line of the record that some words are
 unfoldable pub recordLine : List ℕ → List ℕ
 recordLine ws = decimal (getD ws 0 0) ++ (wordsText ws 1 (drop 1 ws) ++ 10 ∷ [])
-
--- some words are those of records
-pub record WordsOfRecords (ws : List ℕ) : Type 0 where
-  pub records : List Record
-  pub words : ws ≡ flatMap encode records
-
--- the end of a line of two numbers
-abbrev pub twoText : ℕ → ℕ → List ℕ
-twoText a b = (32 ∷ decimal a) ++ ((32 ∷ decimal b) ++ 10 ∷ [])
-
--- an answer's closing lines, with the words of its trace
-unfoldable pub endText : Linearized → List ℕ → List ℕ
-endText (linearized.Done p) t = line (ascii "done" ∷ decimal (p .records) ∷ [])
-endText (linearized.Refused e) t = fromText t ++ refusedText (answerNumbers (refusalAnswer (e .kind) t))

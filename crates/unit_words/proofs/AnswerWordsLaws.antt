@@ -1,4 +1,4 @@
--- Answers as words are the definitions'.
+-- The words that the code makes of an answer are those of the definition.
 use Prim.Native.Nat.{ℕ}
 use mathlib.Core.Path.{_≡_, refl, ap, ap₂, _∙_}
 use mathlib.Core.List.{List, [], _∷_}
@@ -11,9 +11,9 @@ use Rattle.record_writer.specs.declared.Position.{Position}
 use Rattle.record_writer.specs.declared.Linearized.{Linearized}
 use Rattle.record_writer.specs.Promise.{positionOf}
 use Rattle.linearize.specs.Linearizes.{Linearizes}
 use Rattle.unit.specs.declared.Numbers.{Numbers}
-use Rattle.unit.specs.Told.{RunNumbers}
-use Rattle.unit.specs.Exports.{checkWords, tallyWords, runWords, RunExport}
+use Rattle.unit.specs.AnswerNumbers.{RunNumbers}
+use Rattle.unit_words.specs.AnswerWords.{checkWords, tallyWords, runWords, RunExport}
 
 pub check-words : (v : Flaw) → numberIn v ∷ placeIn v ∷ [] ≡ checkWords v
 check-words fine = refl
@@ -26,9 +26,9 @@ refused-words (bad n p) = refl
 pub exported : {image : List ℕ} {depth : ℕ} {out trace out′ trace′ : List ℕ} {r : Linearized} {n : Numbers} {at : Position} → Linearizes image depth out trace r out′ trace′ → RunNumbers r n → at ≡ positionOf r
     → RunExport image depth out trace out′ trace′ (n .number ∷ n .place ∷ n .second ∷ at .records ∷ at .words ∷ at .trace ∷ [])
 exported {trace′ = trace′} {r} {n} {at} w t e =
-    let told = t .each (take (positionOf r .trace) trace′) in
+    let numbers = t .each (take (positionOf r .trace) trace′) in
     record {
-      answers = ap₂ (λ (m : Model.Numbers) (p : Position). m .number ∷ m .place ∷ m .second ∷ p .records ∷ p .words ∷ p .trace ∷ []) told e ∙ ap runWords (w .outcome);
+      answers = ap₂ (λ (m : Model.Numbers) (p : Position). m .number ∷ m .place ∷ m .second ∷ p .records ∷ p .words ∷ p .trace ∷ []) numbers e ∙ ap runWords (w .outcome);
       output = ap (λ (o : Model.Outcome). o .outputLeft) (w .outcome);
       traces = ap (λ (o : Model.Outcome). o .traceLeft) (w .outcome);
     }

@@ -1,8 +1,9 @@
+-- The closing lines of an answer are its last line, behind the calls of a refused run.
 use mathlib.Core.Path.{sym}
 use borrow.Author.Needs.{needs}
 use denote.Ref.{now}
-use Rattle.listing_text.proofs.PutLaws.{put-length}
-use Rattle.listing_text.proofs.EndLaws.{end-done, calls-inside, calls-room, last-room, end-refused}
+use Rattle.text.proofs.PutLaws.{put-length}
+use Rattle.listing_text.proofs.EndTextLaws.{end-done, calls-inside, calls-room, last-room, end-refused}
 use lib.Seq.{length-take-le}
 use Rattle.listing_text.proofs.put_end.Statement.{statement}
 use Rattle.listing_text.proofs.put_end.Tie as tie

@@ -1,6 +1,7 @@
+-- The text of a run is the lines of its records and the closing lines.
 use Prim.Native.Nat.{ℕ}
 use borrow.Author.Needs.{needs}
-use Rattle.listing_text.proofs.PutLaws.{put-length}
+use Rattle.text.proofs.PutLaws.{put-length}
 use Rattle.listing_text.proofs.RunLaws.{prefix-inside, prefix-length, prefix-recorded, lines-room, trace-inside, trace-short, end-room, run-put}
 use lib.ListN.{length-replicate}
 use Rattle.listing_text.proofs.put_run.Statement.{statement}

@@ -1,9 +1,10 @@
+-- The lines of a trace are put call after call.
 use native.Mathlib.Omega.{arith}
 use Prim.Native.Nat.{_-_}
 use borrow.Author.Needs.{needs}
 use lib.ListN.{length}
-use Rattle.listing_text.proofs.PutLaws.{put-length}
-use Rattle.listing_text.proofs.EndLaws.{Tracing, tracing-start, tracing-room, tracing-more, tracing-end}
+use Rattle.text.proofs.PutLaws.{put-length}
+use Rattle.listing_text.proofs.EndTextLaws.{Tracing, tracing-start, tracing-room, tracing-more, tracing-end}
 use Rattle.listing_text.proofs.put_trace.Statement.{statement}
 use Rattle.listing_text.proofs.put_trace.Tie as tie
 

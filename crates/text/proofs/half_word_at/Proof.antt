@@ -1,10 +1,11 @@
+-- Four bytes, the low one first, are a number below 2^32.
 use native.Mathlib.Omega.{arith}
 use Prim.Native.Nat.{_+_}
 use borrow.Author.Needs.{needs}
 use denote.Ref.{now}
-use Rattle.listing_text.proofs.InputLaws.{half-is}
-use Rattle.listing_text.proofs.half_at.Statement.{statement}
-use Rattle.listing_text.proofs.half_at.Tie as tie
+use Rattle.text.proofs.WordsOfLaws.{half-is}
+use Rattle.text.proofs.half_word_at.Statement.{statement}
+use Rattle.text.proofs.half_word_at.Tie as tie
 
 shared-slice-read-a : tie.Need-shared-slice-read-a
 shared-slice-read-a c = search needs
@@ -88,8 +89,8 @@ returns c =
     let u = q .before in
     (half-is (now (u .args .input)) (u .args .at) (u .pre), omega (arith, q .shared-slice-known .given (u .args .at) .fits, p .shared-slice-known2 .given (u .args .at + 1) .fits, c .before .shared-slice-known3 .given (u .args .at + 2) .fits, c .shared-slice-known4 .given (u .args .at + 3) .fits))
 
-pub half-at-spec : {M : Type 1} → statement M
-half-at-spec =
+pub half-word-at-spec : {M : Type 1} → statement M
+half-word-at-spec =
     tie.close
     (tie.spec
     shared-slice-read-a

@@ -1,7 +1,8 @@
+-- The test of a record's word, by the record's kind and the word's number.
 use borrow.Author.Needs.{needs}
-use Rattle.listing_text.proofs.LineLaws.{numerator-u, numerator-qubit, numerator-count, numerator-opaque, numerator-behind, numerator-none}
-use Rattle.listing_text.proofs.is_numerator.Statement.{statement}
-use Rattle.listing_text.proofs.is_numerator.Tie as tie
+use Rattle.text.proofs.RecordLineLaws.{numerator-u, numerator-qubit, numerator-count, numerator-opaque, numerator-behind, numerator-none}
+use Rattle.text.proofs.is_numerator.Statement.{statement}
+use Rattle.text.proofs.is_numerator.Tie as tie
 
 shared-slice-read-kind : tie.Need-shared-slice-read-kind
 shared-slice-read-kind c = search needs

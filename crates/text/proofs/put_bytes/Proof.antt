@@ -1,12 +1,13 @@
+-- Some bytes are put one after the other.
 use native.Mathlib.Omega.{arith}
 use Prim.Native.Nat.{_-_}
 use borrow.Author.Needs.{needs}
 use lib.ListN.{length}
-use Rattle.listing_text.proofs.PutLaws.{put-length, Putting, putting-start, putting-room, putting-more, putting-end}
-use Rattle.listing_text.proofs.EndLaws.{bytes-next, bytes-end}
+use Rattle.text.proofs.PutLaws.{put-length, Putting, putting-start, putting-room, putting-more, putting-end}
+use Rattle.text.proofs.PutLaws.{bytes-next, bytes-end}
 use lib.ListN.{drop}
-use Rattle.listing_text.proofs.put_bytes.Statement.{statement}
-use Rattle.listing_text.proofs.put_bytes.Tie as tie
+use Rattle.text.proofs.put_bytes.Statement.{statement}
+use Rattle.text.proofs.put_bytes.Tie as tie
 
 abbrev Inv-loop : tie.InvT-loop
 Inv-loop text₀ at bytes end₀ i₀ text end i = Putting bytes (drop i bytes) text₀ at end text
@@ -17,11 +18,11 @@ abbrev μ-loop : tie.MeasureT-loop
 loop-holds : tie.Need-loop-holds Inv-loop μ-loop
 loop-holds c = putting-start _ (omega (arith, c .before .before .pre .room))
 
-shared-slice-read-put : tie.Need-shared-slice-read-put Inv-loop μ-loop
-shared-slice-read-put c = search needs
+shared-slice-read-put-byte : tie.Need-shared-slice-read-put-byte Inv-loop μ-loop
+shared-slice-read-put-byte c = search needs
 
-put-requires : tie.Need-put-requires Inv-loop μ-loop
-put-requires c κs = putting-room (c .before .before .before .loop .inv) _ (bytes-next _ _ (c .before .before .loop-test .taken)) (c .before .before .before .before .before .before .pre)
+put-byte-requires : tie.Need-put-byte-requires Inv-loop μ-loop
+put-byte-requires c κs = putting-room (c .before .before .before .loop .inv) _ (bytes-next _ _ (c .before .before .loop-test .taken)) (c .before .before .before .before .before .before .pre)
 
 add-i : tie.Need-add-i Inv-loop μ-loop
 add-i c = search needs
@@ -30,7 +31,7 @@ loop-less : tie.Need-loop-less Inv-loop μ-loop
 loop-less c = search needs
 
 loop-again : tie.Need-loop-again Inv-loop μ-loop
-loop-again c = putting-more (c .before .before .before .before .before .before .loop .inv) (bytes-next _ _ (c .before .before .before .before .before .loop-test .taken)) (c .before .before .put .ensures)
+loop-again c = putting-more (c .before .before .before .before .before .before .loop .inv) (bytes-next _ _ (c .before .before .before .before .before .loop-test .taken)) (c .before .before .put-byte .ensures)
 
 returns : tie.Need-returns Inv-loop μ-loop
 returns c = putting-end (c .before .loop .inv) (bytes-end _ _ (c .loop-test .left))
@@ -45,8 +46,8 @@ put-bytes-spec =
     Inv-loop
     μ-loop
     loop-holds
-    shared-slice-read-put
-    put-requires
+    shared-slice-read-put-byte
+    put-byte-requires
     add-i
     loop-less
     loop-again

@@ -1,16 +1,17 @@
+-- The words of some bytes are read one after the other.
 use native.Mathlib.Omega.{arith}
 use Prim.Native.Nat.{ℕ, _-_, _≤_}
 use mathlib.Core.Path.{_≡_, refl, ap, _∙_}
 use borrow.Author.Needs.{needs}
 use denote.Ref.{now}
 use lib.ListN.{length}
-use Rattle.listing_text.proofs.InputLaws.{words-more, words-none}
+use Rattle.text.proofs.WordsOfLaws.{words-more, words-none}
 use lib.ListN.{drop, length-set}
 use lib.Seq.{sets}
 use native.Mathlib.Nat.{le-antisymm}
 use Rattle.model.specs.Listing.{wordsOf}
-use Rattle.listing_text.proofs.read_from.Statement.{statement}
-use Rattle.listing_text.proofs.read_from.Tie as tie
+use Rattle.text.proofs.read_words.Statement.{statement}
+use Rattle.text.proofs.read_words.Tie as tie
 
 abbrev Inv-loop : tie.InvT-loop
 Inv-loop words₀ input from n i₀ words i = (i ≤ n) × (words ≡ sets words₀ 0 (wordsOf i (drop from input))) × (length words ≡ length words₀)
@@ -54,8 +55,8 @@ same-length c = c .before .loop .inv .2
 returns : tie.Need-returns Inv-loop μ-loop
 returns c = c .before .loop .inv .1 ∙ ap (λ (k : ℕ). sets (now (c .before .before .before .before .args .words)) 0 (wordsOf k (drop (c .before .before .before .before .args .from) (now (c .before .before .before .before .args .input))))) (le-antisymm (c .before .loop .inv .0) (c .loop-test .left))
 
-pub read-from-spec : {M : Type 1} → statement M
-read-from-spec =
+pub read-words-spec : {M : Type 1} → statement M
+read-words-spec =
     tie.close
     (tie.spec
     Inv-loop

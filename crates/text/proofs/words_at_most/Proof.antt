@@ -1,12 +1,13 @@
-use Rattle.listing_text.proofs.InputLaws.{cut-below, cut-above}
-use Rattle.listing_text.proofs.cut.Statement.{statement}
-use Rattle.listing_text.proofs.cut.Tie as tie
+-- The smaller of a number of words and the most that are looked at.
+use native.Mathlib.Omega.{arith}
+use Rattle.text.proofs.words_at_most.Statement.{statement}
+use Rattle.text.proofs.words_at_most.Tie as tie
 
 returns : tie.Need-returns
-returns c = cut-below _ (c .if1 .taken)
+returns c = omega (arith, c .if1 .taken)
 
 returns-2 : tie.Need-returns-2
-returns-2 c = cut-above _ (c .if1 .left)
+returns-2 c = omega (arith, c .if1 .left)
 
-pub cut-spec : {M : Type 1} → statement M
-cut-spec = tie.close (tie.spec returns returns-2)
+pub words-at-most-spec : {M : Type 1} → statement M
+words-at-most-spec = tie.close (tie.spec returns returns-2)

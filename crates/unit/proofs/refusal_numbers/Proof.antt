@@ -1,8 +1,9 @@
+-- The numbers of each refusal are those of document 01.
 use mathlib.Core.Path.{refl}
 use borrow.Author.Needs.{needs}
 use Rattle.model.specs.Run.{answerNumbers}
-use Rattle.unit.proofs.of_kind.Statement.{statement}
-use Rattle.unit.proofs.of_kind.Tie as tie
+use Rattle.unit.proofs.refusal_numbers.Statement.{statement}
+use Rattle.unit.proofs.refusal_numbers.Tie as tie
 
 enum-known-kind : tie.Need-enum-known-kind
 enum-known-kind c = search needs
@@ -72,8 +73,8 @@ returns-8 : tie.Need-returns-8
 unfolding answerNumbers
 returns-8 c = record { each = λ t. rw (c .enum-told2 .given .1) refl }
 
-pub of-kind-spec : {M : Type 1} → statement M
-of-kind-spec =
+pub refusal-numbers-spec : {M : Type 1} → statement M
+refusal-numbers-spec =
     tie.close
     (tie.spec
     enum-known-kind

@@ -1,10 +1,11 @@
+-- The words of a check are its flaw's number and place.
 use mathlib.Core.Path.{ap, _∙_}
 use borrow.Author.Needs.{needs}
-use Rattle.unit.proofs.WordLaws.{check-words}
-use Rattle.unit.specs.Exports.{checkWords}
+use Rattle.unit_words.proofs.AnswerWordsLaws.{check-words}
+use Rattle.unit_words.specs.AnswerWords.{checkWords}
 use Rattle.image.specs.Answer.{answerFlaw}
-use Rattle.unit.proofs.cowhirame_check.Statement.{statement}
-use Rattle.unit.proofs.cowhirame_check.Tie as tie
+use Rattle.unit_words.proofs.cowhirame_check.Statement.{statement}
+use Rattle.unit_words.proofs.cowhirame_check.Tie as tie
 
 check-requires : tie.Need-check-requires
 check-requires c κs = search needs

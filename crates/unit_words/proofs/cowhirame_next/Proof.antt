@@ -1,8 +1,9 @@
+-- The words of the record reader's answer are those of what the definition finds.
 use mathlib.Core.Path.{ap, _∙_}
 use borrow.Author.Needs.{needs}
-use Rattle.unit.specs.Exports.{nextWords}
-use Rattle.unit.proofs.cowhirame_next.Statement.{statement}
-use Rattle.unit.proofs.cowhirame_next.Tie as tie
+use Rattle.unit_words.specs.AnswerWords.{nextWords}
+use Rattle.unit_words.proofs.cowhirame_next.Statement.{statement}
+use Rattle.unit_words.proofs.cowhirame_next.Tie as tie
 
 next-at-requires : tie.Need-next-at-requires
 next-at-requires c κs = search needs

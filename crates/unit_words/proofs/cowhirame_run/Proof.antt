@@ -1,7 +1,8 @@
+-- The words of a run, its output and its trace are those of the definition's outcome.
 use borrow.Author.Needs.{needs}
-use Rattle.unit.proofs.WordLaws.{exported}
-use Rattle.unit.proofs.cowhirame_run.Statement.{statement}
-use Rattle.unit.proofs.cowhirame_run.Tie as tie
+use Rattle.unit_words.proofs.AnswerWordsLaws.{exported}
+use Rattle.unit_words.proofs.cowhirame_run.Statement.{statement}
+use Rattle.unit_words.proofs.cowhirame_run.Tie as tie
 
 run-requires : tie.Need-run-requires
 run-requires c κs = search needs

@@ -1,8 +1,9 @@
+-- The words of a tally are those of the definition's answer.
 use mathlib.Core.Path.{ap, _∙_}
 use borrow.Author.Needs.{needs}
-use Rattle.unit.specs.Exports.{tallyWords}
-use Rattle.unit.proofs.cowhirame_tally.Statement.{statement}
-use Rattle.unit.proofs.cowhirame_tally.Tie as tie
+use Rattle.unit_words.specs.AnswerWords.{tallyWords}
+use Rattle.unit_words.proofs.cowhirame_tally.Statement.{statement}
+use Rattle.unit_words.proofs.cowhirame_tally.Tie as tie
 
 tally-requires : tie.Need-tally-requires
 tally-requires c κs = search needs

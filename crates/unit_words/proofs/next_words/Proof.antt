@@ -1,7 +1,8 @@
+-- The words of the record reader's answer, case by case.
 use mathlib.Core.Path.{refl}
 use borrow.Author.Needs.{needs}
-use Rattle.unit.proofs.next_words.Statement.{statement}
-use Rattle.unit.proofs.next_words.Tie as tie
+use Rattle.unit_words.proofs.next_words.Statement.{statement}
+use Rattle.unit_words.proofs.next_words.Tie as tie
 
 enum-known-found : tie.Need-enum-known-found
 enum-known-found c = search needs

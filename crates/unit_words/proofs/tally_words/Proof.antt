@@ -1,9 +1,10 @@
+-- The words of a tally's answer, case by case.
 use mathlib.Core.Path.{refl}
 use borrow.Author.Needs.{needs}
-use Rattle.unit.proofs.WordLaws.{refused-words}
+use Rattle.unit_words.proofs.AnswerWordsLaws.{refused-words}
 use Rattle.image.specs.Answer.{answerFlaw}
-use Rattle.unit.proofs.tally_words.Statement.{statement}
-use Rattle.unit.proofs.tally_words.Tie as tie
+use Rattle.unit_words.proofs.tally_words.Statement.{statement}
+use Rattle.unit_words.proofs.tally_words.Tie as tie
 
 enum-known-t : tie.Need-enum-known-t
 enum-known-t c = search needs

@@ -1,87 +1,22 @@
--- The closing lines, part by part.
-use Prim.Native.Nat.{ℕ, suc, _+_, _*_, _^_, _≤_, _<_}
+-- The closing lines of an answer are put one after the other.
+use Prim.Native.Nat.{ℕ, suc, _+_, _*_, _≤_, _<_}
 use native.Mathlib.Numerals.{add-one, add-two}
 use native.Mathlib.Omega.{arith}
-use mathlib.Core.Path.{_≡_, refl, ap, _∙_}
+use mathlib.Core.Path.{_≡_, refl, ap}
 use mathlib.Core.List.{List, [], _∷_, _++_}
-use lib.ListN.{length, getD, drop, take, length-append, length-drop, drop-of-length-le}
+use lib.ListN.{length, getD, drop, take, length-drop}
 use lib.Seq.{drop-cons, length-take-le}
-use Rattle.model.specs.Run.{Numbers}
 use Rattle.model.specs.Listing.{ascii, decimal, line, fromText, refusedText}
 use Rattle.record_writer.specs.declared.Linearized.{Linearized}
 use Rattle.record_writer.specs.declared.LinearizeError.{LinearizeError}
 use Rattle.record_writer.specs.declared.Position.{Position}
 use Rattle.record_writer.specs.declared.Linearized.the-variants as linearized
 use Rattle.record_writer.specs.Promise.{positionOf}
-use Rattle.unit.specs.declared.Numbers.{Numbers as Told3}
-use Rattle.unit.specs.Told.{RunNumbers, numbersOf}
-use Rattle.listing_text.specs.Put.{Room, Put, PutMost}
-use Rattle.listing_text.specs.WordText.{twoText, endText}
-use Rattle.listing_text.proofs.PutLaws.{put-same, put-then, put-length, Putting, putting-start, putting-more, putting-end}
-use Rattle.listing_text.proofs.DigitLaws.{decimal-short}
-
--- ---- bytes one by one
-
-pub bytes-next : (bs : List ℕ) (i : ℕ) → i < length bs → drop i bs ≡ (getD bs i 0 ∷ []) ++ drop (i + 1) bs
-bytes-next bs i h = drop-cons bs i 0 h ∙ rw (add-one i) refl
-
-pub bytes-end : (bs : List ℕ) (i : ℕ) → length bs ≤ i → drop i bs ≡ []
-bytes-end bs i h = drop-of-length-le bs h
-
--- ---- lines of words and numbers
-
-abbrev pub doneParts : ℕ → List ℕ
-doneParts n = (100 ∷ 111 ∷ 110 ∷ 101 ∷ []) ++ ((32 ∷ decimal n) ++ 10 ∷ [])
-
-abbrev pub fromParts : ℕ → ℕ → List ℕ
-fromParts a b = (102 ∷ 114 ∷ 111 ∷ 109 ∷ []) ++ twoText a b
-
-abbrev pub refusedParts : Numbers → List ℕ
-refusedParts n = (114 ∷ 101 ∷ 102 ∷ 117 ∷ 115 ∷ 101 ∷ 100 ∷ []) ++ ((32 ∷ decimal (n .number)) ++ twoText (n .place) (n .second))
-
-pub done-is : (n : ℕ) → doneParts n ≡ line (ascii "done" ∷ decimal n ∷ [])
-unfolding line ascii
-done-is n = refl
-
-pub from-is : (a b : ℕ) → fromParts a b ≡ line (ascii "from" ∷ decimal a ∷ decimal b ∷ [])
-unfolding line ascii
-from-is a b = refl
-
-pub refused-is : (n : Numbers) → refusedParts n ≡ refusedText n
-unfolding line ascii refusedText
-refused-is n = refl
-
--- ---- room for them
-
-pub length-two : (a b : ℕ) → a < 2 ^ 64 → b < 2 ^ 64 → length (twoText a b) ≤ 43
-length-two a b h k =
-    omega (
-      arith,
-      decimal-short a h,
-      decimal-short b k,
-      length-append (decimal a) ((32 ∷ decimal b) ++ 10 ∷ []),
-      length-append (decimal b) (10 ∷ []),
-    )
-
-length-from : (a b : ℕ) → a < 2 ^ 64 → b < 2 ^ 64 → length (fromParts a b) ≤ 48
-length-from a b h k = omega (arith, length-two a b h k)
-
-pub done-room : (n : ℕ) {text : List ℕ} (at : ℕ) → n < 2 ^ 64 → at + 26 ≤ length text → Room (doneParts n) text at
-done-room n at h k = record { room = omega (arith, decimal-short n h, length-append (decimal n) (10 ∷ [])) }
-
-pub from-room : (a b : ℕ) {text : List ℕ} (at : ℕ) → a < 2 ^ 64 → b < 2 ^ 64 → at + 48 ≤ length text → Room (fromParts a b) text at
-from-room a b at h i k = record { room = omega (arith, length-from a b h i) }
-
-pub from-most : {a b : ℕ} {text text′ : List ℕ} {at end : ℕ} → a < 2 ^ 64 → b < 2 ^ 64 → Put (fromParts a b) text at end text′
-    → PutMost (line (ascii "from" ∷ decimal a ∷ decimal b ∷ [])) 48 text at end text′
-from-most {a} {b} h i p = record { put = put-same (from-is a b) p; few = omega (arith, p .ends, length-from a b h i) }
-
-pub refused-room : (n : Numbers) {text : List ℕ} (at : ℕ) → n .number < 2 ^ 64 → n .place < 2 ^ 64 → n .second < 2 ^ 64 → at + 71 ≤ length text → Room (refusedParts n) text at
-refused-room n at h i j k =
-    record {
-      room =
-          omega (arith, decimal-short (n .number) h, length-two (n .place) (n .second) i j, length-append (decimal (n .number)) (twoText (n .place) (n .second)));
-    }
+use Rattle.unit.specs.declared.Numbers.{Numbers}
+use Rattle.unit.specs.AnswerNumbers.{RunNumbers, numbersOf}
+use Rattle.text.specs.Put.{Put, PutMost}
+use Rattle.text.proofs.PutLaws.{put-same, put-then, put-length, Putting, putting-start, putting-more, putting-end}
+use Rattle.listing_text.specs.EndText.{endText}
 
 -- ---- the trace, pair by pair
 
@@ -126,7 +61,7 @@ unfolding endText
 end-done t e h = rw e h
 
 module _ {r : Linearized} {x : LinearizeError} (t : List ℕ) (e : r ≡ linearized.Refused x) where
-  -- its calls
+  -- the calls of a refused run
   abbrev calls : List ℕ
   calls = take (x .at .trace) t
 
@@ -143,7 +78,7 @@ module _ {r : Linearized} {x : LinearizeError} (t : List ℕ) (e : r ≡ lineari
     pub last-room : positionOf r .trace ≤ length t → length t ≤ 256 → at + 6400 ≤ length text → mid + 71 ≤ length text′
     last-room h k l = omega (arith, calls-few h k, p .few, put-length (p .put))
 
-    pub end-refused : {n : Told3} {text″ : List ℕ} {end : ℕ} → RunNumbers (linearized.Refused x) n → Put (refusedText (numbersOf n)) text′ mid end text″
+    pub end-refused : {n : Numbers} {text″ : List ℕ} {end : ℕ} → RunNumbers (linearized.Refused x) n → Put (refusedText (numbersOf n)) text′ mid end text″
         → Put (endText r (take (positionOf r .trace) t)) text at end text″
     unfolding endText
     end-refused k q = rw e (put-then (p .put) (put-same (ap refusedText (k .each calls)) q))
