@@ -11,10 +11,11 @@ use lib.Seq.{length-take-le}
 use Rattle.model.specs.Check.{bad, check}
 use Rattle.model.specs.Tally.{refused, tally}
 use Rattle.model.specs.Listing.{wordsOf}
-use Rattle.unit.specs.Exports.{checkWords, tallyWords}
-use Rattle.listing_text.proofs.InputLaws.{length-words, too-long}
-use Rattle.answer_text.specs.Answers.{numbersLine, checkAnswer, tallyAnswer}
-use Rattle.answer_text.proofs.ImageLaws.{long-tally}
+use Rattle.unit_words.specs.AnswerWords.{checkWords, tallyWords}
+use Rattle.text.proofs.WordsOfLaws.{length-words, too-long}
+use Rattle.text.specs.NumberLine.{numbersLine}
+use Rattle.answer_text.specs.Answers.{checkAnswer, tallyAnswer}
+use Rattle.answer_text.proofs.AnswersLaws.{long-tally}
 
 -- ---- an image that is too long, whole words or not
 

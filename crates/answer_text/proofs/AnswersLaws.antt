@@ -1,22 +1,23 @@
--- The answers to an image, from what was read of it.
-use Prim.Native.Nat.{ℕ, _-_, _/_, _%_, _≤_, _<_}
+-- The answers of check and tally are the lines of what was read of the image, and of a malformed input 1 and zeros.
+use Prim.Native.Nat.{ℕ, _-_, _/_, _%_, _≤_, _<_, min}
 use native.Mathlib.Omega.{arith}
 use mathlib.Core.Path.{_≡_, refl, sym, ap, _∙_}
 use mathlib.Core.Bool.{Bool, true, false, _&&_, cond}
 use mathlib.Core.List.{List, [], _∷_}
 use borrow.Author.Tests.{eq-eqb, ne-eqb, lt-leb, le-leb}
-use lib.Dec.{eqb, ltb, leb}
+use lib.Dec.{eqb, leb}
 use lib.ListN.{length, getD, take, drop, replicate}
 use lib.Seq.{sets}
 use Rattle.model.specs.Lists.{range, all}
 use Rattle.model.specs.Check.{Flaw, fine, bad, check}
 use Rattle.model.specs.Tally.{tallied, refused, figures, ifAccepted, tally}
 use Rattle.model.specs.Listing.{littleEndian, wordsOf}
-use Rattle.unit.specs.Exports.{checkWords, tallyWords}
-use Rattle.listing_text.specs.Put.{Put}
-use Rattle.listing_text.proofs.PutLaws.{put-same}
-use Rattle.listing_text.proofs.InputLaws.{too-long, cut-same, cut-fits, read-front, parted}
-use Rattle.answer_text.specs.Answers.{numbersLine, checkAnswer, tallyAnswer}
+use Rattle.unit_words.specs.AnswerWords.{checkWords, tallyWords}
+use Rattle.text.specs.Put.{Put}
+use Rattle.text.proofs.PutLaws.{put-same}
+use Rattle.text.proofs.WordsOfLaws.{too-long, at-most-same, at-most-fits, read-front, parted}
+use Rattle.text.specs.NumberLine.{numbersLine}
+use Rattle.answer_text.specs.Answers.{checkLine, tallyLine, checkAnswer, tallyAnswer}
 
 -- ---- how many words an answer has
 
@@ -38,20 +39,20 @@ tally-eleven image depth e = go (check image) (all (λ n. leb n 4294967295) (fig
 
 -- ---- the check
 
-pub check-put : (input : List ℕ) {n end : ℕ} {image answer text text′ : List ℕ} → n ≡ cond (ltb (length input / 8) 8193) (length input / 8) 8193
+pub check-put : (input : List ℕ) {n end : ℕ} {image answer text text′ : List ℕ} → n ≡ min (length input / 8) 8193
     → image ≡ sets (replicate 8193 0) 0 (wordsOf n (drop 0 input)) → answer ≡ checkWords (check (take n image)) → Put (numbersLine answer) text 0 end text′
-    → Put (numbersLine (checkWords (check (wordsOf (length input / 8) input)))) text 0 end text′
+    → Put (checkLine input) text 0 end text′
 check-put input {n} e r a p =
     put-same
-    (ap numbersLine (a ∙ ap (λ (l : List ℕ). checkWords (check l)) (read-front (replicate 8193 0) (drop 0 input) (cut-fits (length input / 8) e) r)
-    ∙ ap checkWords (cut-same check (bad 1 0) too-long (length input / 8) n input e)))
+    (ap numbersLine (a ∙ ap (λ (l : List ℕ). checkWords (check l)) (read-front (replicate 8193 0) (drop 0 input) (at-most-fits (length input / 8) 8193 e) r)
+    ∙ ap checkWords (at-most-same check (bad 1 0) too-long (length input / 8) n input e)))
     p
 
-pub check-cut : (bytes : List ℕ) → ¬ (length bytes % 8 ≡ 0) → numbersLine (1 ∷ 0 ∷ []) ≡ checkAnswer bytes
+pub check-within-word : (bytes : List ℕ) → ¬ (length bytes % 8 ≡ 0) → numbersLine (1 ∷ 0 ∷ []) ≡ checkAnswer bytes
 unfolding checkAnswer
-check-cut bytes h = rw (ne-eqb (length bytes % 8) 0 h) refl
+check-within-word bytes h = rw (ne-eqb (length bytes % 8) 0 h) refl
 
-pub check-whole : (bytes : List ℕ) → length bytes % 8 ≡ 0 → numbersLine (checkWords (check (wordsOf (length bytes / 8) bytes))) ≡ checkAnswer bytes
+pub check-whole : (bytes : List ℕ) → length bytes % 8 ≡ 0 → checkLine bytes ≡ checkAnswer bytes
 unfolding checkAnswer
 check-whole bytes h = rw (eq-eqb (length bytes % 8) 0 h) refl
 
@@ -64,18 +65,18 @@ long-tally depth image h = rw (too-long image h) refl
 abbrev tallied-image : List ℕ → List ℕ
 tallied-image input = wordsOf (length input / 8 - 1) (drop 8 input)
 
-pub tally-put : (input : List ℕ) {n depth end : ℕ} {image answer text text′ : List ℕ} → n ≡ cond (ltb (length input / 8 - 1) 8193) (length input / 8 - 1) 8193
+pub tally-put : (input : List ℕ) {n depth end : ℕ} {image answer text text′ : List ℕ} → n ≡ min (length input / 8 - 1) 8193
     → image ≡ sets (replicate 8193 0) 0 (wordsOf n (drop 8 input)) → depth ≡ littleEndian (take 8 (drop 0 input)) → answer ≡ tallyWords (tally (take n image) depth) → Put (numbersLine answer) text 0 end text′
-    → Put (numbersLine (tallyWords (tally (tallied-image input) (littleEndian (take 8 input))))) text 0 end text′
+    → Put (tallyLine input) text 0 end text′
 tally-put input {n} {depth} e r d a p =
     put-same
-    (ap numbersLine (a ∙ ap (λ (l : List ℕ). tallyWords (tally l depth)) (read-front (replicate 8193 0) (drop 8 input) (cut-fits (length input / 8 - 1) e) r)
-    ∙ ap tallyWords (cut-same (λ (l : List ℕ). tally l depth) (refused 1 0) (long-tally depth) (length input / 8 - 1) n (drop 8 input) e ∙ ap (tally (tallied-image input)) d)))
+    (ap numbersLine (a ∙ ap (λ (l : List ℕ). tallyWords (tally l depth)) (read-front (replicate 8193 0) (drop 8 input) (at-most-fits (length input / 8 - 1) 8193 e) r)
+    ∙ ap tallyWords (at-most-same (λ (l : List ℕ). tally l depth) (refused 1 0) (long-tally depth) (length input / 8 - 1) n (drop 8 input) e ∙ ap (tally (tallied-image input)) d)))
     p
 
-pub tally-cut : (bytes : List ℕ) → ¬ (length bytes % 8 ≡ 0) → numbersLine (tallyWords (refused 1 0)) ≡ tallyAnswer bytes
+pub tally-within-word : (bytes : List ℕ) → ¬ (length bytes % 8 ≡ 0) → numbersLine (tallyWords (refused 1 0)) ≡ tallyAnswer bytes
 unfolding tallyAnswer
-tally-cut bytes h = rw (ne-eqb (length bytes % 8) 0 h) refl
+tally-within-word bytes h = rw (ne-eqb (length bytes % 8) 0 h) refl
 
 pub tally-empty : (bytes : List ℕ) → length bytes < 8 → numbersLine (tallyWords (refused 1 0)) ≡ tallyAnswer bytes
 unfolding tallyAnswer
@@ -86,7 +87,7 @@ tally-empty bytes h = go (eqb (length bytes % 8) 0)
     go true = rw (lt-leb 8 (length bytes) h) refl
     go false = refl
 
-pub tally-whole : (bytes : List ℕ) → length bytes % 8 ≡ 0 → 8 ≤ length bytes → numbersLine (tallyWords (tally (tallied-image bytes) (littleEndian (take 8 bytes)))) ≡ tallyAnswer bytes
+pub tally-whole : (bytes : List ℕ) → length bytes % 8 ≡ 0 → 8 ≤ length bytes → tallyLine bytes ≡ tallyAnswer bytes
 unfolding tallyAnswer
 tally-whole bytes h k =
     rw (eq-eqb (length bytes % 8) 0 h, le-leb 8 (length bytes) k) (parted (λ (l : List ℕ) (n : ℕ). numbersLine (tallyWords (tally l n))) bytes (omega arith))
