@@ -10,7 +10,7 @@ use lib.Seq.{take-nil, take-take, length-take-le}
 use Rattle.model.specs.Lists.{sum}
 use Rattle.model.specs.Reader.{recordsIn}
 use Rattle.model.specs.Listing.{littleEndian, wordsOf}
-use Rattle.record_text.specs.Answers.{lastLine, recordsText, readBack}
+use Rattle.record_text.specs.ReadBack.{lastLine, recordsText, readBack}
 
 pub drop-take : (k m : ℕ) (l : List ℕ) → k ≤ m → drop k (take m l) ≡ take (m - k) (drop k l)
 drop-take zero m l h = let e : m ≡ m - 0 = omega arith in ap (λ (j : ℕ). take j l) e

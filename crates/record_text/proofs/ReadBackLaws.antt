@@ -1,46 +1,23 @@
--- The last line of records read back, and the whole text.
-use Prim.Native.Nat.{ℕ, _+_, _*_, _/_, _^_, _≤_, _<_, min}
+-- What is read back of an input is the lines of its records and the last line.
+use Prim.Native.Nat.{ℕ, _+_, _*_, _/_, _≤_, _<_, min}
 use native.Mathlib.Omega.{arith}
 use mathlib.Core.Path.{_≡_, refl, sym, ap, ap₂, _∙_}
 use mathlib.Core.Bool.{Bool, true, false, _&&_}
-use mathlib.Core.List.{List, [], _∷_, _++_}
+use mathlib.Core.List.{List, [], _∷_}
 use borrow.Author.Tests.{eq-eqb, ne-eqb, lt-ltb, le-ltb}
 use lib.Dec.{ltb}
-use lib.ListN.{length, take, drop, replicate, length-append, length-replicate}
+use lib.ListN.{length, take, drop, replicate}
 use lib.Seq.{sets}
 use Rattle.model.specs.Reader.{recordsIn}
 use Rattle.model.specs.Listing.{ascii, decimal, line, wordsOf}
-use Rattle.listing_text.specs.Put.{Room, Put}
-use Rattle.listing_text.specs.WordText.{twoText}
-use Rattle.listing_text.proofs.PutLaws.{put-same, put-then, put-length}
-use Rattle.listing_text.proofs.DigitLaws.{decimal-short}
-use Rattle.listing_text.proofs.EndLaws.{length-two}
-use Rattle.listing_text.proofs.InputLaws.{read-front, length-words}
+use Rattle.text.specs.Put.{Put}
+use Rattle.text.proofs.PutLaws.{put-same, put-then, put-length}
+use Rattle.text.proofs.WordsOfLaws.{at-most-fits, read-front, length-words}
 use Rattle.record_text.specs.declared.Front.{Front}
-use Rattle.record_text.specs.Answers.{lastLine, recordsText, readBack}
-use Rattle.record_text.specs.Reading.{ReadFront}
+use Rattle.record_text.specs.ReadBack.{lastLine, recordsText, readBack}
+use Rattle.record_text.specs.ReadFront.{ReadFront}
 
--- ---- lines of a name and numbers
-
-abbrev pub namedParts : List ℕ → ℕ → List ℕ
-namedParts name a = name ++ ((32 ∷ decimal a) ++ 10 ∷ [])
-
-pub named-is : (name : List ℕ) (a : ℕ) → namedParts name a ≡ line (name ∷ decimal a ∷ [])
-unfolding line
-named-is name a = refl
-
-pub named-room : (name : List ℕ) (a : ℕ) {text : List ℕ} (at : ℕ) → a < 2 ^ 64 → at + (length name + 22) ≤ length text → Room (namedParts name a) text at
-named-room name a at h k =
-    record { room = omega (arith, decimal-short a h, length-append name ((32 ∷ decimal a) ++ 10 ∷ []), length-append (decimal a) (10 ∷ [])) }
-
-pub named-two-is : (name : List ℕ) (a b : ℕ) → name ++ twoText a b ≡ line (name ∷ decimal a ∷ decimal b ∷ [])
-unfolding line
-named-two-is name a b = refl
-
-pub named-two-room : (name : List ℕ) (a b : ℕ) {text : List ℕ} (at : ℕ) → a < 2 ^ 64 → b < 2 ^ 64 → at + (length name + 43) ≤ length text → Room (name ++ twoText a b) text at
-named-two-room name a b at h i k = record { room = omega (arith, length-two a b h i, length-append name (twoText a b)) }
-
--- ---- which of them is the last
+-- ---- which line is the last
 
 pub few-bytes : (n r : ℕ) → n ≤ 524288 → false ≡ (ltb 524288 n && ltb 0 r)
 few-bytes n r h = rw (le-ltb 524288 n h) refl
@@ -64,15 +41,9 @@ module _ (n p r : ℕ) {b : Bool} (e : b ≡ (ltb 524288 n && ltb 0 r)) where
 -- ---- the whole text
 
 module _ (input : List ℕ) {n : ℕ} (e : n ≡ min (length input / 8) 65536) where
-  pub within-fits : n ≤ length (replicate {A = ℕ} 65536 0)
-  within-fits = omega (arith, length-replicate {A = ℕ} 65536 0)
-
-  pub within-inside : 0 + 8 * n ≤ length input
-  within-inside = omega arith
-
   module _ {ws : List ℕ} (r : ws ≡ sets (replicate 65536 0) 0 (wordsOf n (drop 0 input))) where
     words-read : take n ws ≡ wordsOf n input
-    words-read = read-front (replicate 65536 0) input within-fits r
+    words-read = read-front (replicate 65536 0) input (at-most-fits (length input / 8) 65536 e) r
 
     words-few : length (take n ws) ≤ 65536
     words-few = omega (arith, ap length words-read, length-words n input)

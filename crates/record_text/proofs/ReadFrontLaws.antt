@@ -1,4 +1,4 @@
--- The records at the front of some words, record after record.
+-- The records at the front of some words are put record after record.
 use Prim.Native.Nat.{ℕ, zero, suc, _+_, _-_, _*_, _≤_}
 use native.Mathlib.Omega.{arith}
 use mathlib.Core.Path.{_≡_, refl, sym, ap, _∙_}
@@ -12,27 +12,27 @@ use Rattle.model.specs.Lists.{sum}
 use Rattle.model.specs.Reader.{Next, next, end, wrong, recordLength, nextAt, found, recordsFrom, recordsIn}
 use Rattle.record_reader.specs.Answer.{nextWordsOf}
 use Rattle.model.proofs.ListLaws.{flat-append}
-use Rattle.listing_text.specs.Put.{Put, PutMost}
-use Rattle.listing_text.specs.WordText.{recordLine}
-use Rattle.listing_text.proofs.PutLaws.{put-none, put-same, put-then, put-length}
-use Rattle.record_text.specs.Reading.{ReadFront}
+use Rattle.text.specs.Put.{Put, PutMost}
+use Rattle.text.specs.RecordLine.{recordLine}
+use Rattle.text.proofs.PutLaws.{put-none, put-same, put-then, put-length}
+use Rattle.record_text.specs.ReadFront.{ReadFront}
 
 -- ---- what stands at a position
 
--- a record of some words within those that are left, or none
-data Stands (ws : List ℕ) (at : ℕ) (v : List ℕ) (x : Next) : Type 0 where
-  one : x ≡ next v → 1 ≤ length v → at + length v ≤ length ws → Stands ws at v x
-  none : length v ≡ 0 → ((more : ℕ → List (List ℕ)) → found x at more ≡ []) → Stands ws at v x
+-- at a position a record of some words stands, within those that are left, or none does
+data RecordHere (ws : List ℕ) (at : ℕ) (v : List ℕ) (x : Next) : Type 0 where
+  one : x ≡ next v → 1 ≤ length v → at + length v ≤ length ws → RecordHere ws at v x
+  none : length v ≡ 0 → ((more : ℕ → List (List ℕ)) → found x at more ≡ []) → RecordHere ws at v x
 
-stands : (ws : List ℕ) (at : ℕ) {v : List ℕ} → v ≡ nextWordsOf (nextAt ws at) → Stands ws at v (nextAt ws at)
+here : (ws : List ℕ) (at : ℕ) {v : List ℕ} → v ≡ nextWordsOf (nextAt ws at) → RecordHere ws at v (nextAt ws at)
 unfolding nextAt found
-stands ws at {v} e = go (ltb at (length ws)) (leb 1 n) (leb n (length ws - at)) (ltb (length ws) at) refl refl e
+here ws at {v} e = go (ltb at (length ws)) (leb 1 n) (leb n (length ws - at)) (ltb (length ws) at) refl refl e
   where
     n : ℕ
     n = recordLength (drop at ws)
 
     go : (a b c d : Bool) → leb 1 n ≡ b → leb n (length ws - at) ≡ c → v ≡ nextWordsOf (cond a (cond (b && c) (next (take n (drop at ws))) wrong) (cond d wrong end))
-        → Stands ws at v (cond a (cond (b && c) (next (take n (drop at ws))) wrong) (cond d wrong end))
+        → RecordHere ws at v (cond a (cond (b && c) (next (take n (drop at ws))) wrong) (cond d wrong end))
     go true true true d p q f =
         let size = length-take-le n (drop at ws) (omega (arith, leb-true n (length ws - at) q, length-drop at ws)) in
         one (ap next (sym f)) (omega (arith, ap length f, size, leb-true 1 n p)) (omega (arith, ap length f, size, leb-true 1 n p, leb-true n (length ws - at) q))
@@ -83,16 +83,16 @@ module _ {ws text text′ : List ℕ} {at records end : ℕ} (g : Fronting ws te
     front-some = omega arith
 
     is-next : nextAt ws at ≡ next v
-    is-next = go (stands ws at e)
+    is-next = go (here ws at e)
       where
-        go : Stands ws at v (nextAt ws at) → nextAt ws at ≡ next v
+        go : RecordHere ws at v (nextAt ws at) → nextAt ws at ≡ next v
         go (one i h k) = i
         go (none z f) = absurd (some z)
 
     pub front-inside : at + length v ≤ length ws
-    front-inside = go (stands ws at e)
+    front-inside = go (here ws at e)
       where
-        go : Stands ws at v (nextAt ws at) → at + length v ≤ length ws
+        go : RecordHere ws at v (nextAt ws at) → at + length v ≤ length ws
         go (one i h k) = k
         go (none z f) = absurd (some z)
 
@@ -136,10 +136,10 @@ module _ {ws text text′ : List ℕ} {at records end : ℕ} (g : Fronting ws te
         count = g .count ∙ ap length (sym all);
       }
     where
-      stop : Stands ws at v (nextAt ws at) → (k : ℕ) → recordsFrom k ws at ≡ []
+      stop : RecordHere ws at v (nextAt ws at) → (k : ℕ) → recordsFrom k ws at ≡ []
       stop s zero = refl
       stop (one i h k) (suc n) = absurd (omega arith)
       stop (none y f) (suc n) = f (recordsFrom n ws)
 
       all : recordsIn ws ≡ g .before
-      all = g .split ∙ ap (λ (l : List (List ℕ)). g .before ++ l) (stop (stands ws at e) (g .left)) ∙ append-nil (g .before)
+      all = g .split ∙ ap (λ (l : List (List ℕ)). g .before ++ l) (stop (here ws at e) (g .left)) ∙ append-nil (g .before)

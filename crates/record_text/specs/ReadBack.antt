@@ -7,7 +7,7 @@ use lib.Dec.{eqb, ltb}
 use Rattle.model.specs.Lists.{sum}
 use Rattle.model.specs.Reader.{recordsIn}
 use Rattle.model.specs.Listing.{ascii, decimal, line, wordsOf}
-use Rattle.listing_text.specs.WordText.{recordLine}
+use Rattle.text.specs.RecordLine.{recordLine}
 
 -- The last line for an input of n bytes, of which r records were read, up to word p. `more`: only the first 65,536 words of a longer input were looked at, and the next record starts at p. `end`: the records are the whole input. Else 17 at p, where no whole record stands; so too if a longer input begins with none.
 unfoldable pub lastLine : ℕ → ℕ → ℕ → List ℕ

@@ -5,8 +5,8 @@ use mathlib.Core.List.{List, map, flatMap}
 use lib.ListN.{length}
 use Rattle.model.specs.Lists.{sum}
 use Rattle.model.specs.Reader.{recordsIn}
-use Rattle.listing_text.specs.Put.{Put}
-use Rattle.listing_text.specs.WordText.{recordLine}
+use Rattle.text.specs.Put.{Put}
+use Rattle.text.specs.RecordLine.{recordLine}
 use Rattle.record_text.specs.declared.Front.{Front}
 
 -- the lines of the records that stand at the front of some words are put; where the lines and the records end, and how many they are
