@@ -5,3 +5,4 @@ pub mod NumberLineLaws
 pub mod RecordLineLaws
 pub mod RecordTextLaws
 pub mod WordsOfLaws
+pub mod SameBytesLaws

@@ -7,6 +7,7 @@ ghost use lib.Seq.{sets};
 ghost use Rattle.model.specs.Listing.{decimal, littleEndian, wordsOf};
 ghost use Rattle.text.specs.Put.{Room, Put, PutMost};
 ghost use Rattle.text.specs.NumberLine.{spacedNumbers, spacedMost, namedLine, namedLineMost, numbersLine};
+ghost use Rattle.text.specs.SameBytes.{SameBytes};
 ghost use Rattle.text.specs.RecordLine.{signedText, wordText, numerator, recordLine};
 
 // The bytes of a word.
@@ -192,4 +193,23 @@ pub fn words_at_most(n: usize, most: usize) -> usize
     ensures { λ r. ⌜ r ≡ min n most ⌝ }
 {
     if n < most { n } else { most }
+}
+
+// ---- names
+
+// Whether two names are the same, byte for byte.
+pub fn same_bytes(a: &[u8], b: &[u8]) -> bool
+    ensures { λ r. ⌜ SameBytes r (now (a .entry)) (now (b .entry)) ⌝ }
+{
+    if a.len() != b.len() {
+        return false;
+    }
+    let mut i = 0;
+    while i < a.len() {
+        if a[i] != b[i] {
+            return false;
+        }
+        i += 1;
+    }
+    true
 }
