@@ -27,8 +27,8 @@ long-check-answer bytes h = go (eqb (length bytes % 8) 0)
     go true = rw (too-long (wordsOf (length bytes / 8) bytes) (omega (arith, length-words (length bytes / 8) bytes))) refl
     go false = refl
 
-pub check-of-front : (bytes : List ℕ) → 65544 ≤ length bytes → checkAnswer (take 65544 bytes) ≡ checkAnswer bytes
-check-of-front bytes h = long-check-answer (take 65544 bytes) (omega (arith, length-take-le 65544 bytes h)) ∙ sym (long-check-answer bytes h)
+pub check-of-front : (bytes : List ℕ) → 65552 ≤ length bytes → checkAnswer (take 65552 bytes) ≡ checkAnswer bytes
+check-of-front bytes h = long-check-answer (take 65552 bytes) (omega (arith, length-take-le 65552 bytes h)) ∙ sym (long-check-answer bytes (omega arith))
 
 long-tally-answer : (bytes : List ℕ) → 65552 ≤ length bytes → tallyAnswer bytes ≡ numbersLine (tallyWords (refused 1 0))
 unfolding tallyAnswer

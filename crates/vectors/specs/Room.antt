@@ -2,8 +2,8 @@
 use Prim.Native.Nat.{ℕ, _≤_}
 use mathlib.Core.List.{List}
 use lib.ListN.{length}
-use Rattle.vector_text.specs.declared.Words.{Words}
-use Rattle.vector_text.specs.declared.Words.the-variants as read
+use Rattle.vectors.specs.declared.line.Words.{Words}
+use Rattle.vectors.specs.declared.line.Words.the-variants as read
 
 -- a line that was read has no more words than the room
 abbrev pub InRoom : List ℕ → Words → Type 0

@@ -1,10 +1,11 @@
-// A vector's line: 14 numbers with single spaces between them, and a line feed.
+// The text of a line of numbers: 14 numbers with single spaces between them, and a line feed.
+use crate::line;
+use crate::line::Decimal;
 use rational::Rational64;
 use value::Value;
-use vector_text::Decimal;
 ghost use Prim.Native.Nat.{_+_, _<_};
 
-// The angles are as written, in lowest terms or not.
+// An operation with its operands and its result. The angles are as written, in lowest terms or not.
 pub struct Vector {
     pub op: u64,
     pub x: Value,
@@ -41,15 +42,15 @@ fn is_numerator(k: usize) -> bool {
 }
 
 // The k-th number, which begins at `at`. Only a numerator may have a sign.
-fn number(text: &[u8], at: usize, k: usize) -> Field {
+fn signed_number(text: &[u8], at: usize, k: usize) -> Field {
     if at < text.len() {
         if text[at] == b'-' {
             if is_numerator(k) {
-                return signed(true, vector_text::digits(text, at + 1));
+                return signed(true, line::digits(text, at + 1));
             }
         }
     }
-    signed(false, vector_text::digits(text, at))
+    signed(false, line::digits(text, at))
 }
 
 // The byte after the k-th number.
@@ -58,11 +59,11 @@ fn separator(k: usize) -> u8 {
 }
 
 // Reads the numbers, and answers whether the text is just these.
-fn numbers(text: &[u8], negative: &mut [bool; 14], magnitude: &mut [u64; 14]) -> bool {
+fn read_numbers(text: &[u8], negative: &mut [bool; 14], magnitude: &mut [u64; 14]) -> bool {
     let mut at = 0;
     let mut k = 0;
     while k < 14 {
-        let read = number(text, at, k);
+        let read = signed_number(text, at, k);
         let Field::Number(sign, n, end) = read else {
             return false;
         };
@@ -98,10 +99,11 @@ fn angle(negative: &[bool; 14], magnitude: &[u64; 14], k: usize) -> Value
     }
 }
 
+// The vector of a line.
 pub fn parse(text: &[u8]) -> Parsed {
     let mut negative = [false; 14];
     let mut magnitude = [0u64; 14];
-    if numbers(text, &mut negative, &mut magnitude) {
+    if read_numbers(text, &mut negative, &mut magnitude) {
         let x = angle(&negative, &magnitude, 1);
         let y = angle(&negative, &magnitude, 5);
         let result = angle(&negative, &magnitude, 10);

@@ -1,5 +1,9 @@
-// What the crates compute, in the form of a vector's result.
-use crate::line::Vector;
+// A line of numbers: an operation, two angles, a case and the angle of the result.
+use crate::number_line;
+use crate::number_line::Parsed;
+use crate::number_line::Vector;
+use crate::report;
+use crate::report::Replayed;
 use rational::Rational64;
 use rational::WholeRoot;
 use value::Evaluation;
@@ -49,7 +53,7 @@ fn is_sound(x: Value) -> bool
 }
 
 // A result of one number: the other three are 0.
-fn of_number(case: u64, n: u64) -> Outcome {
+fn one_number(case: u64, n: u64) -> Outcome {
     Outcome::Result(
         case,
         Value {
@@ -67,17 +71,17 @@ fn of_number(case: u64, n: u64) -> Outcome {
     )
 }
 
-fn of_float(case: u64, x: f32) -> Outcome {
-    of_number(case, float::bits_of(x) as u64)
+fn float_result(case: u64, x: f32) -> Outcome {
+    one_number(case, float::bits_of(x) as u64)
 }
 
-fn of_evaluation(e: Evaluation) -> Outcome {
+fn evaluation_result(e: Evaluation) -> Outcome {
     match e {
         Evaluation::Value(v) => Outcome::Result(0, v),
-        Evaluation::DivideByZero => of_number(9, 0),
-        Evaluation::ApproximateFail(f) => of_float(10, f),
-        Evaluation::Overflow => of_number(11, 0),
-        Evaluation::FunctionOfFloats => of_number(13, 0),
+        Evaluation::DivideByZero => one_number(9, 0),
+        Evaluation::ApproximateFail(f) => float_result(10, f),
+        Evaluation::Overflow => one_number(11, 0),
+        Evaluation::FunctionOfFloats => one_number(13, 0),
     }
 }
 
@@ -102,26 +106,26 @@ fn evaluated(op: u64, x: Value, y: Value) -> Evaluation
 }
 
 // Operations 1 to 13, on angles.
-fn of_angles(op: u64, x: Value, y: Value) -> Outcome {
+fn angles_result(op: u64, x: Value, y: Value) -> Outcome {
     if is_sound(x) {
         if is_sound(y) {
             if op == 13 {
-                return of_float(0, x.into_float());
+                return float_result(0, x.into_float());
             }
-            return of_evaluation(evaluated(op, x, y));
+            return evaluation_result(evaluated(op, x, y));
         }
     }
     Outcome::Unfit
 }
 
-fn of_word(word: u64) -> Outcome {
+fn word_result(word: u64) -> Outcome {
     if word < 0x1_0000_0000 {
-        return of_evaluation(Value::from_float(float::of_bits(word)));
+        return evaluation_result(Value::from_float(float::of_bits(word)));
     }
     Outcome::Unfit
 }
 
-fn of_root(k: u64, v: u64) -> Outcome {
+fn root_result(k: u64, v: u64) -> Outcome {
     if k < 2 {
         return Outcome::Unfit;
     }
@@ -130,18 +134,18 @@ fn of_root(k: u64, v: u64) -> Outcome {
     }
     let root = rational::int_root(v, k);
     let WholeRoot::Whole(r) = root else {
-        return of_number(1, 0);
+        return one_number(1, 0);
     };
-    of_number(0, r)
+    one_number(0, r)
 }
 
 // Operations 14 to 17, on plain numbers.
-fn of_numbers(op: u64, n: u64, m: u64) -> Outcome {
+fn numbers_result(op: u64, n: u64, m: u64) -> Outcome {
     match op {
-        14 => of_word(n),
-        15 => of_float(0, float::nearest_f32(n)),
-        16 => of_number(0, rational::gcd(n, m)),
-        17 => of_root(n, m),
+        14 => word_result(n),
+        15 => float_result(0, float::nearest_f32(n)),
+        16 => one_number(0, rational::gcd(n, m)),
+        17 => root_result(n, m),
         _ => Outcome::Unfit,
     }
 }
@@ -151,7 +155,7 @@ fn computed(op: u64, x: Value, y: Value) -> Outcome {
         return Outcome::Unfit;
     }
     if op <= 13 {
-        return of_angles(op, x, y);
+        return angles_result(op, x, y);
     }
     let n = x.a;
     let m = y.a;
@@ -161,7 +165,7 @@ fn computed(op: u64, x: Value, y: Value) -> Outcome {
     if m.negative {
         return Outcome::Unfit;
     }
-    of_numbers(op, n.numer, m.numer)
+    numbers_result(op, n.numer, m.numer)
 }
 
 // Whether two results are the same, number for number.
@@ -176,7 +180,7 @@ fn same(x: Value, y: Value) -> bool {
     false
 }
 
-pub fn agrees(v: Vector) -> bool {
+fn agrees(v: Vector) -> bool {
     let x = v.x;
     let y = v.y;
     let expected = v.result;
@@ -188,4 +192,13 @@ pub fn agrees(v: Vector) -> bool {
         return same(result, expected);
     }
     false
+}
+
+// Replays a line.
+pub fn replay_line(text: &[u8]) -> Replayed {
+    let parsed = number_line::parse(text);
+    let Parsed::Vector(v) = parsed else {
+        return Replayed::Malformed;
+    };
+    report::agreement(agrees(v))
 }

@@ -1,14 +1,19 @@
-// Replays the runs of standard input: how many agree, and which do not.
-// A line: the number of the image's words, the depth, the lengths of the output and of the trace lent; the number, the places, the
-// records, output words and trace words told; the sum of the output words and that of the trace words; then the image's words, none
-// for the image of the line before.
-use libc::STDIN_FILENO;
+// A line of runs: the number of the image's words, the depth, the lengths of the output and of the trace lent; the number, the places,
+// the records, output words and trace words of the answer; the sum of the output words and that of the trace words; then the image's
+// words, none for the image of the line before.
+use crate::checksum;
+use crate::line;
+use crate::line::Words;
+use crate::report;
+use crate::report::Replayed;
 use record_reader::NextRecord;
-use vector_text::Words;
-use record_writer::Linearized;
-use record_writer::Position;
 ghost use mathlib.Core.Path.{_≡_};
 ghost use lib.ListN.{length};
+
+// The longest output and the longest trace that a line lends.
+const OUTPUT_ROOM: u64 = 81920;
+
+const TRACE_ROOM: u64 = 300;
 
 // Room for the longest output that a line lends.
 fn output_room() -> [u64; 81920]
@@ -17,15 +22,11 @@ fn output_room() -> [u64; 81920]
     [0; 81920]
 }
 
-// And for the longest trace.
+// Room for the longest trace that a line lends.
 fn trace_room() -> [u64; 300]
     ensures { λ r. ⌜ 300 ≡ length r ⌝ }
 {
     [0; 300]
-}
-
-fn say_counts(runs: u64, agree: u64) {
-    vector_text::say_counts(runs, b" runs, ", agree);
 }
 
 // ---- what is lent
@@ -55,27 +56,13 @@ fn untouched(words: &[u64], from: usize) -> bool {
     true
 }
 
-// ---- sums
-
-// A sum with more words, the low half of each first.
-fn summed(sum: u64, words: &[u64]) -> u64 {
-    let mut s = sum;
-    let mut i = 0;
-    while i < words.len() {
-        let low = vector_text::mixed(s, words[i] % 0x1_0000_0000);
-        s = vector_text::mixed(low, words[i] / 0x1_0000_0000);
-        i += 1;
-    }
-    s
-}
-
 // Whether so many words are written, with this sum, and all behind them are as they were lent.
 fn written(words: &[u64], count: u64, sum: u64) -> bool {
     if count > words.len() as u64 {
         return false;
     }
     let n = count as usize;
-    if summed(0, &words[..n]) != sum {
+    if checksum::with_words(0, &words[..n]) != sum {
         return false;
     }
     untouched(words, n)
@@ -83,7 +70,7 @@ fn written(words: &[u64], count: u64, sum: u64) -> bool {
 
 // ---- reading back
 
-// Whether the reader tells the end at a position, and no words.
+// Whether the record reader answers the end at a position, and no words.
 fn is_end(words: &[u64], at: usize) -> bool {
     if unit::next_record(words, at).len() != 0 {
         return false;
@@ -96,7 +83,7 @@ fn is_end(words: &[u64], at: usize) -> bool {
     }
 }
 
-// Whether the reader tells a record of so many words at a position.
+// Whether the record reader answers a record of so many words at a position.
 fn is_record(words: &[u64], at: usize, n: usize) -> bool {
     let next = unit::next_at(words, at);
     match next {
@@ -116,7 +103,7 @@ fn are_records(words: &[u64], count: u64, sum: u64) -> bool {
         if !is_record(words, at, record.len()) {
             return false;
         }
-        s = summed(s, record);
+        s = checksum::with_words(s, record);
         at += record.len();
         if at > words.len() {
             return false;
@@ -131,27 +118,11 @@ fn are_records(words: &[u64], count: u64, sum: u64) -> bool {
 
 // ---- a line
 
-// How far a run came.
-fn position(ended: Linearized) -> Position {
-    match ended {
-        Linearized::Done(at) => at,
-        Linearized::Refused(e) => e.at,
-    }
-}
-
-// What a run tells, as a line writes it.
-fn answer(ended: Linearized) -> [u64; 6] {
-    let n = unit::numbers_of(ended);
-    let at = position(ended);
-    [n.number, n.place, n.second, at.records, at.words, at.trace]
-}
-
-// Whether a run tells what a line says.
-fn tells(ended: Linearized, leading: &[u64; 12]) -> bool {
-    let told = answer(ended);
+// Whether the answer of a run is what a line says.
+fn answers(answer: &[u64; 6], leading: &[u64; 12]) -> bool {
     let mut i = 0;
     while i < 6 {
-        if leading[i + 4] != told[i] {
+        if leading[i + 4] != answer[i] {
             return false;
         }
         i += 1;
@@ -165,12 +136,13 @@ fn check_agrees(image: &[u64], leading: &[u64; 12]) -> bool {
     if leading[4] == 15 {
         return true;
     }
-    let checked = unit::check(image);
+    let mut checked = [0u64; 2];
+    unit_words::cowhirame_check(image, &mut checked);
     if leading[4] > 8 {
-        return image::number_of(checked) == 0;
+        return checked[0] == 0;
     }
-    if image::number_of(checked) == leading[4] {
-        return image::place_of(checked) == leading[5];
+    if checked[0] == leading[4] {
+        return checked[1] == leading[5];
     }
     false
 }
@@ -179,8 +151,9 @@ fn check_agrees(image: &[u64], leading: &[u64; 12]) -> bool {
 fn run_agrees(image: &[u64], leading: &[u64; 12], out: &mut [u64], trace: &mut [u64]) -> bool {
     fill(out);
     fill(trace);
-    let ended = unit::run(image, leading[1], out, trace);
-    if !tells(ended, leading) {
+    let mut answer = [0u64; 6];
+    unit_words::cowhirame_run(image, leading[1], out, trace, &mut answer);
+    if !answers(&answer, leading) {
         return false;
     }
     if !written(trace, leading[9], leading[11]) {
@@ -203,10 +176,10 @@ fn agrees(image: &[u64], leading: &[u64; 12]) -> bool {
     }
     let mut out = output_room();
     let mut trace = trace_room();
-    if leading[2] > 81920 {
+    if leading[2] > OUTPUT_ROOM {
         return false;
     }
-    if leading[3] > 300 {
+    if leading[3] > TRACE_ROOM {
         return false;
     }
     let o = leading[2] as usize;
@@ -231,54 +204,15 @@ fn image_agrees(words: &[u64], leading: &[u64; 12]) -> bool {
     agrees(&words[..m], leading)
 }
 
-// Whether a line agrees; if not, says so. The words hold the image of the line before, and then that of this line.
-fn line_agrees(text: &[u8], words: &mut [u64], line_number: u64) -> bool {
+// Replays a line. The words hold the image of the line before, and then that of this line.
+pub fn replay_line(text: &[u8], words: &mut [u64]) -> Replayed {
     let mut leading = [0u64; 12];
-    let read = vector_text::read_line(text, &mut leading, words);
+    let read = line::read_line(text, &mut leading, words);
     let Words::Read(n) = read else {
-        vector_text::say_malformed(line_number);
-        return false;
+        return Replayed::Malformed;
     };
     if !in_order(&leading, n) {
-        vector_text::say_malformed(line_number);
-        return false;
+        return Replayed::Malformed;
     }
-    if image_agrees(words, &leading) {
-        return true;
-    }
-    vector_text::say_differs(line_number);
-    false
-}
-
-// There is room for images that are too long.
-fn replay(input: &[u8]) {
-    let mut words = [0u64; 8200];
-    let mut runs = 0u64;
-    let mut agree = 0u64;
-    let mut line_number = 0u64;
-    let mut at = 0;
-    while at < input.len() {
-        line_number += 1;
-        let end = vector_text::end(input, at);
-        if end == input.len() {
-            vector_text::say_cut_off(line_number);
-            break;
-        }
-        if input[at] != b'#' {
-            runs += 1;
-            if line_agrees(&input[at..end + 1], &mut words, line_number) {
-                agree += 1;
-            }
-        }
-        at = end + 1;
-    }
-    say_counts(runs, agree);
-}
-
-fn main() {
-    let mut input = vector_text::room();
-    let n = io::read_full(STDIN_FILENO, &mut input);
-    if vector_text::all_read() {
-        replay(&input[..n]);
-    }
+    report::agreement(image_agrees(words, &leading))
 }

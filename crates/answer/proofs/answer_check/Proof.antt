@@ -1,11 +1,12 @@
+-- The part of the text that the check has answered is written.
 use mathlib.Core.Path.{sym}
 use lib.Seq.{length-take-le}
 use borrow.Author.Needs.{needs}
-use Rattle.check_answer.proofs.main.Statement.{statement}
-use Rattle.check_answer.proofs.main.Tie as tie
+use Rattle.answer.proofs.answer_check.Statement.{statement}
+use Rattle.answer.proofs.answer_check.Tie as tie
 
-input-room-requires : tie.Need-input-room-requires
-input-room-requires c κs = search needs
+image-room-requires : tie.Need-image-room-requires
+image-room-requires c κs = search needs
 
 slice-aggregate-read-full : tie.Need-slice-aggregate-read-full
 slice-aggregate-read-full c = search needs
@@ -40,11 +41,11 @@ write-all-requires c κs = search needs
 returns : tie.Need-returns
 returns c = search needs
 
-pub main-spec : {M : Type 1} → statement M
-main-spec =
+pub answer-check-spec : {M : Type 1} → statement M
+answer-check-spec =
     tie.close
     (tie.spec
-    input-room-requires
+    image-room-requires
     slice-aggregate-read-full
     read-full-requires
     read-rest-requires

@@ -1,11 +1,12 @@
+-- The part of the text that was read back is written.
 use mathlib.Core.Path.{sym}
 use lib.Seq.{length-take-le}
 use borrow.Author.Needs.{needs}
-use Rattle.read_back.proofs.main.Statement.{statement}
-use Rattle.read_back.proofs.main.Tie as tie
+use Rattle.answer.proofs.answer_records.Statement.{statement}
+use Rattle.answer.proofs.answer_records.Tie as tie
 
-input-room-requires : tie.Need-input-room-requires
-input-room-requires c κs = search needs
+records-room-requires : tie.Need-records-room-requires
+records-room-requires c κs = search needs
 
 slice-aggregate-read-full : tie.Need-slice-aggregate-read-full
 slice-aggregate-read-full c = search needs
@@ -16,8 +17,8 @@ read-full-requires c κs = search needs
 read-rest-requires : tie.Need-read-rest-requires
 read-rest-requires c κs = search needs
 
-text-room-requires : tie.Need-text-room-requires
-text-room-requires c κs = search needs
+lines-room-requires : tie.Need-lines-room-requires
+lines-room-requires c κs = search needs
 
 array-share-prefix-input : tie.Need-array-share-prefix-input
 array-share-prefix-input c = search needs
@@ -40,15 +41,15 @@ write-all-requires c κs = search needs
 returns : tie.Need-returns
 returns c = search needs
 
-pub main-spec : {M : Type 1} → statement M
-main-spec =
+pub answer-records-spec : {M : Type 1} → statement M
+answer-records-spec =
     tie.close
     (tie.spec
-    input-room-requires
+    records-room-requires
     slice-aggregate-read-full
     read-full-requires
     read-rest-requires
-    text-room-requires
+    lines-room-requires
     array-share-prefix-input
     slice-aggregate-read-back
     read-back-requires

@@ -1,8 +1,9 @@
+-- The digits of a number are read while it stays below 2^64.
 use Prim.Native.Nat.{_-_}
 use borrow.Author.Needs.{needs}
 use lib.ListN.{length}
-use Rattle.vector_text.proofs.digits.Statement.{statement}
-use Rattle.vector_text.proofs.digits.Tie as tie
+use Rattle.vectors.proofs.line.digits.Statement.{statement}
+use Rattle.vectors.proofs.line.digits.Tie as tie
 
 abbrev Inv-loop : tie.InvT-loop
 Inv-loop text at n₀ i₀ n i = Unit {0}

@@ -1,9 +1,10 @@
+-- Equal words are put one after the other, within the room.
 use Prim.Native.Nat.{_≤_, _-_}
 use mathlib.Core.Path.{_≡_}
 use lib.ListN.{length}
 use borrow.Author.Needs.{needs}
-use Rattle.vector_text.proofs.put.Statement.{statement}
-use Rattle.vector_text.proofs.put.Tie as tie
+use Rattle.vectors.proofs.line.put_equal_words.Statement.{statement}
+use Rattle.vectors.proofs.line.put_equal_words.Tie as tie
 
 abbrev Inv-loop : tie.InvT-loop
 Inv-loop words₀ n count word end i₀ words i = (i ≤ end) × ((end ≤ length words) × (length words ≡ length words₀))
@@ -38,8 +39,8 @@ same-length c = search needs
 returns : tie.Need-returns Inv-loop μ-loop
 returns c = search needs
 
-pub put-spec : {M : Type 1} → statement M
-put-spec =
+pub put-equal-words-spec : {M : Type 1} → statement M
+put-equal-words-spec =
     tie.close
     (tie.spec
     Inv-loop

@@ -1,9 +1,10 @@
+-- The words of a line are read to the line feed, within the room.
 use Prim.Native.Nat.{_≤_, _-_}
 use mathlib.Core.Path.{_≡_}
 use lib.ListN.{length}
 use borrow.Author.Needs.{needs}
-use Rattle.vector_text.proofs.read_words.Statement.{statement}
-use Rattle.vector_text.proofs.read_words.Tie as tie
+use Rattle.vectors.proofs.line.read_decimal_words.Statement.{statement}
+use Rattle.vectors.proofs.line.read_decimal_words.Tie as tie
 
 abbrev Inv-loop : tie.InvT-loop
 Inv-loop text at words₀ n₀ i₀ words n i = (n ≤ length words) × (length words ≡ length words₀)
@@ -23,8 +24,8 @@ same-length c = search needs
 returns : tie.Need-returns Inv-loop μ-loop
 returns c = search needs
 
-next-run-requires : tie.Need-next-run-requires Inv-loop μ-loop
-next-run-requires c κs = search needs
+next-equal-words-requires : tie.Need-next-equal-words-requires Inv-loop μ-loop
+next-equal-words-requires c κs = search needs
 
 enum-known-read : tie.Need-enum-known-read Inv-loop μ-loop
 enum-known-read c = search needs
@@ -53,8 +54,8 @@ same-length-4 c = search needs
 returns-4 : tie.Need-returns-4 Inv-loop μ-loop
 returns-4 c = search needs
 
-put-requires : tie.Need-put-requires Inv-loop μ-loop
-put-requires c κs = search needs
+put-equal-words-requires : tie.Need-put-equal-words-requires Inv-loop μ-loop
+put-equal-words-requires c κs = search needs
 
 loop-less : tie.Need-loop-less Inv-loop μ-loop
 loop-less c = search needs
@@ -68,8 +69,8 @@ same-length-5 c = search needs
 returns-5 : tie.Need-returns-5 Inv-loop μ-loop
 returns-5 c = search needs
 
-pub read-words-spec : {M : Type 1} → statement M
-read-words-spec =
+pub read-decimal-words-spec : {M : Type 1} → statement M
+read-decimal-words-spec =
     tie.close
     (tie.spec
     Inv-loop
@@ -78,7 +79,7 @@ read-words-spec =
     shared-slice-read-if1
     same-length
     returns
-    next-run-requires
+    next-equal-words-requires
     enum-known-read
     enum-told
     same-length-2
@@ -88,7 +89,7 @@ read-words-spec =
     sub-if3
     same-length-4
     returns-4
-    put-requires
+    put-equal-words-requires
     loop-less
     loop-again
     same-length-5

@@ -1,9 +1,10 @@
+-- As many numbers are read as there is room for.
 use Prim.Native.Nat.{_-_}
 use mathlib.Core.Path.{_≡_}
 use lib.ListN.{length}
 use borrow.Author.Needs.{needs}
-use Rattle.vector_text.proofs.read_leading.Statement.{statement}
-use Rattle.vector_text.proofs.read_leading.Tie as tie
+use Rattle.vectors.proofs.line.read_leading.Statement.{statement}
+use Rattle.vectors.proofs.line.read_leading.Tie as tie
 
 abbrev Inv-loop : tie.InvT-loop
 Inv-loop text leading₀ at₀ k₀ leading at k = length leading ≡ length leading₀
@@ -14,8 +15,8 @@ abbrev μ-loop : tie.MeasureT-loop
 loop-holds : tie.Need-loop-holds Inv-loop μ-loop
 loop-holds c = search needs
 
-number-requires : tie.Need-number-requires Inv-loop μ-loop
-number-requires c κs = search needs
+leading-number-requires : tie.Need-leading-number-requires Inv-loop μ-loop
+leading-number-requires c κs = search needs
 
 enum-known-read : tie.Need-enum-known-read Inv-loop μ-loop
 enum-known-read c = search needs
@@ -57,7 +58,7 @@ read-leading-spec =
     Inv-loop
     μ-loop
     loop-holds
-    number-requires
+    leading-number-requires
     enum-known-read
     enum-told
     same-length

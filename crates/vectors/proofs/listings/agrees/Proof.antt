@@ -1,26 +1,27 @@
+-- There is room for the bytes of a depth and an image.
 use native.Mathlib.Omega.{arith}
 use lib.ListN.{length-take}
 use borrow.Author.Needs.{needs}
-use Rattle.vectors.proofs.agrees.Statement.{statement}
-use Rattle.vectors.proofs.agrees.Tie as tie
+use Rattle.vectors.proofs.listings.agrees.Statement.{statement}
+use Rattle.vectors.proofs.listings.agrees.Tie as tie
 
 byte-room-requires : tie.Need-byte-room-requires
 byte-room-requires c κs = search needs
 
-slice-aggregate-put-word : tie.Need-slice-aggregate-put-word
-slice-aggregate-put-word c = search needs
+slice-aggregate-put-word-bytes : tie.Need-slice-aggregate-put-word-bytes
+slice-aggregate-put-word-bytes c = search needs
 
-element-copy-out-put-word : tie.Need-element-copy-out-put-word
-element-copy-out-put-word c = search needs
+element-copy-out-put-word-bytes : tie.Need-element-copy-out-put-word-bytes
+element-copy-out-put-word-bytes c = search needs
 
-put-word-requires : tie.Need-put-word-requires
-put-word-requires c κs = search needs
+put-word-bytes-requires : tie.Need-put-word-bytes-requires
+put-word-bytes-requires c κs = search needs
 
-slice-aggregate-put-image : tie.Need-slice-aggregate-put-image
-slice-aggregate-put-image c = search needs
+slice-aggregate-put-words-bytes : tie.Need-slice-aggregate-put-words-bytes
+slice-aggregate-put-words-bytes c = search needs
 
-put-image-requires : tie.Need-put-image-requires
-put-image-requires c κs = search needs
+put-words-bytes-requires : tie.Need-put-words-bytes-requires
+put-words-bytes-requires c κs = search needs
 
 mul-n : tie.Need-mul-n
 mul-n c = search needs
@@ -28,8 +29,8 @@ mul-n c = search needs
 add-n : tie.Need-add-n
 add-n c = search needs
 
-array-share-prefix-bytes : tie.Need-array-share-prefix-bytes
-array-share-prefix-bytes c = search needs
+array-share-prefix-input : tie.Need-array-share-prefix-input
+array-share-prefix-input c = search needs
 
 slice-aggregate-lists : tie.Need-slice-aggregate-lists
 slice-aggregate-lists c = simp length-take (omega arith)
@@ -51,14 +52,14 @@ agrees-spec =
     tie.close
     (tie.spec
     byte-room-requires
-    slice-aggregate-put-word
-    element-copy-out-put-word
-    put-word-requires
-    slice-aggregate-put-image
-    put-image-requires
+    slice-aggregate-put-word-bytes
+    element-copy-out-put-word-bytes
+    put-word-bytes-requires
+    slice-aggregate-put-words-bytes
+    put-words-bytes-requires
     mul-n
     add-n
-    array-share-prefix-bytes
+    array-share-prefix-input
     slice-aggregate-lists
     element-copy-out-lists
     element-copy-out-lists-2

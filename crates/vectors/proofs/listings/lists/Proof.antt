@@ -1,8 +1,9 @@
+-- The part of the text that holds the listing is summed.
 use mathlib.Core.Path.{sym}
 use lib.Seq.{length-take-le}
 use borrow.Author.Needs.{needs}
-use Rattle.vectors.proofs.lists.Statement.{statement}
-use Rattle.vectors.proofs.lists.Tie as tie
+use Rattle.vectors.proofs.listings.lists.Statement.{statement}
+use Rattle.vectors.proofs.listings.lists.Tie as tie
 
 text-room-requires : tie.Need-text-room-requires
 text-room-requires c κs = search needs
@@ -16,11 +17,11 @@ returns c = search needs
 array-share-prefix-text : tie.Need-array-share-prefix-text
 array-share-prefix-text c = c .before .listing-text .ensures .inside
 
-slice-aggregate-checksum : tie.Need-slice-aggregate-checksum
-slice-aggregate-checksum c = sym (length-take-le _ _ (c .before .before .listing-text .ensures .inside))
+slice-aggregate-of-bytes : tie.Need-slice-aggregate-of-bytes
+slice-aggregate-of-bytes c = sym (length-take-le _ _ (c .before .before .listing-text .ensures .inside))
 
-checksum-requires : tie.Need-checksum-requires
-checksum-requires c κs = search needs
+of-bytes-requires : tie.Need-of-bytes-requires
+of-bytes-requires c κs = search needs
 
 returns-2 : tie.Need-returns-2
 returns-2 c = search needs
@@ -33,6 +34,6 @@ lists-spec =
     listing-text-requires
     returns
     array-share-prefix-text
-    slice-aggregate-checksum
-    checksum-requires
+    slice-aggregate-of-bytes
+    of-bytes-requires
     returns-2)

@@ -1,11 +1,12 @@
+-- A fraction that passes the test is in lowest terms.
 use mathlib.Core.Logic.{⊎-elim}
 use mathlib.Core.Path.{_∙_, sym, subst}
 use native.Mathlib.Omega.{arith}
 use lib.Dec.{T}
 use borrow.Author.Tests.{eqb-true}
 use borrow.Author.Needs.{needs}
-use Rattle.number_vectors.proofs.outcome.in_lowest_terms.Statement.{statement}
-use Rattle.number_vectors.proofs.outcome.in_lowest_terms.Tie as tie
+use Rattle.vectors.proofs.numbers.in_lowest_terms.Statement.{statement}
+use Rattle.vectors.proofs.numbers.in_lowest_terms.Tie as tie
 
 returns : tie.Need-returns
 returns c = λ e. absurd (subst T (sym e) tt)

@@ -1,8 +1,9 @@
+-- An angle that passes the test is sound.
 use mathlib.Core.Path.{sym, subst}
 use lib.Dec.{T}
 use borrow.Author.Needs.{needs}
-use Rattle.number_vectors.proofs.outcome.is_sound.Statement.{statement}
-use Rattle.number_vectors.proofs.outcome.is_sound.Tie as tie
+use Rattle.vectors.proofs.numbers.is_sound.Statement.{statement}
+use Rattle.vectors.proofs.numbers.is_sound.Tie as tie
 
 in-lowest-terms-requires : tie.Need-in-lowest-terms-requires
 in-lowest-terms-requires c κs = search needs

@@ -1,8 +1,9 @@
+-- The lengths lent are within the rooms.
 use native.Mathlib.Omega.{arith}
 use lib.ListN.{length-take}
 use borrow.Author.Needs.{needs}
-use Rattle.run_vectors.proofs.agrees.Statement.{statement}
-use Rattle.run_vectors.proofs.agrees.Tie as tie
+use Rattle.vectors.proofs.runs.agrees.Statement.{statement}
+use Rattle.vectors.proofs.runs.agrees.Tie as tie
 
 check-agrees-requires : tie.Need-check-agrees-requires
 check-agrees-requires c κs = search needs

@@ -1,8 +1,9 @@
+-- The records are walked through within the words.
 use Prim.Native.Nat.{_≤_, _-_}
 use lib.ListN.{length}
 use borrow.Author.Needs.{needs}
-use Rattle.run_vectors.proofs.are_records.Statement.{statement}
-use Rattle.run_vectors.proofs.are_records.Tie as tie
+use Rattle.vectors.proofs.runs.are_records.Statement.{statement}
+use Rattle.vectors.proofs.runs.are_records.Tie as tie
 
 abbrev Inv-loop : tie.InvT-loop
 Inv-loop words count sum s₀ at₀ k₀ s at k = (at ≤ length words) × (k ≤ count)
@@ -22,8 +23,8 @@ is-record-requires c κs = search needs
 returns : tie.Need-returns Inv-loop μ-loop
 returns c = search needs
 
-summed-requires : tie.Need-summed-requires Inv-loop μ-loop
-summed-requires c κs = search needs
+with-words-requires : tie.Need-with-words-requires Inv-loop μ-loop
+with-words-requires c κs = search needs
 
 add-at : tie.Need-add-at Inv-loop μ-loop
 add-at c = search needs
@@ -59,7 +60,7 @@ are-records-spec =
     next-record-requires
     is-record-requires
     returns
-    summed-requires
+    with-words-requires
     add-at
     returns-2
     add-k

@@ -1,9 +1,10 @@
+-- Every word that is lent is filled.
 use mathlib.Core.Path.{_≡_}
 use Prim.Native.Nat.{_≤_, _-_}
 use lib.ListN.{length}
 use borrow.Author.Needs.{needs}
-use Rattle.run_vectors.proofs.fill.Statement.{statement}
-use Rattle.run_vectors.proofs.fill.Tie as tie
+use Rattle.vectors.proofs.runs.fill.Statement.{statement}
+use Rattle.vectors.proofs.runs.fill.Tie as tie
 
 abbrev Inv-loop : tie.InvT-loop
 Inv-loop words₀ i₀ words i = (length words ≡ length words₀) × (i ≤ length words₀)

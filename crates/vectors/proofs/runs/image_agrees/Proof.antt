@@ -1,8 +1,9 @@
+-- The image is within the words.
 use native.Mathlib.Omega.{arith}
 use lib.ListN.{length-take}
 use borrow.Author.Needs.{needs}
-use Rattle.run_vectors.proofs.image_agrees.Statement.{statement}
-use Rattle.run_vectors.proofs.image_agrees.Tie as tie
+use Rattle.vectors.proofs.runs.image_agrees.Statement.{statement}
+use Rattle.vectors.proofs.runs.image_agrees.Tie as tie
 
 element-copy-out-if1 : tie.Need-element-copy-out-if1
 element-copy-out-if1 c = search needs

@@ -1,8 +1,9 @@
+-- The output's words are read back within the output.
 use native.Mathlib.Omega.{arith}
 use lib.ListN.{length-take}
 use borrow.Author.Needs.{needs}
-use Rattle.run_vectors.proofs.run_agrees.Statement.{statement}
-use Rattle.run_vectors.proofs.run_agrees.Tie as tie
+use Rattle.vectors.proofs.runs.run_agrees.Statement.{statement}
+use Rattle.vectors.proofs.runs.run_agrees.Tie as tie
 
 fill-requires : tie.Need-fill-requires
 fill-requires c κs = search needs
@@ -10,14 +11,14 @@ fill-requires c κs = search needs
 fill-requires-2 : tie.Need-fill-requires-2
 fill-requires-2 c κs = search needs
 
-element-copy-out-run : tie.Need-element-copy-out-run
-element-copy-out-run c = search needs
+element-copy-out-cowhirame-run : tie.Need-element-copy-out-cowhirame-run
+element-copy-out-cowhirame-run c = search needs
 
-run-requires : tie.Need-run-requires
-run-requires c κs = search needs
+cowhirame-run-requires : tie.Need-cowhirame-run-requires
+cowhirame-run-requires c κs = search needs
 
-tells-requires : tie.Need-tells-requires
-tells-requires c κs = search needs
+answers-requires : tie.Need-answers-requires
+answers-requires c κs = search needs
 
 same-length : tie.Need-same-length
 same-length c = search needs
@@ -109,9 +110,9 @@ run-agrees-spec =
     (tie.spec
     fill-requires
     fill-requires-2
-    element-copy-out-run
-    run-requires
-    tells-requires
+    element-copy-out-cowhirame-run
+    cowhirame-run-requires
+    answers-requires
     same-length
     same-length-2
     returns

@@ -1,8 +1,9 @@
+-- The words from a position on are compared with those lent.
 use Prim.Native.Nat.{_≤_, _-_}
 use lib.ListN.{length}
 use borrow.Author.Needs.{needs}
-use Rattle.run_vectors.proofs.untouched.Statement.{statement}
-use Rattle.run_vectors.proofs.untouched.Tie as tie
+use Rattle.vectors.proofs.runs.untouched.Statement.{statement}
+use Rattle.vectors.proofs.runs.untouched.Tie as tie
 
 abbrev Inv-loop : tie.InvT-loop
 Inv-loop words from i₀ i = from ≤ i

@@ -1,17 +1,18 @@
+-- The words written are within those lent.
 use native.Mathlib.Omega.{arith}
 use lib.ListN.{length-take}
 use borrow.Author.Needs.{needs}
-use Rattle.run_vectors.proofs.written.Statement.{statement}
-use Rattle.run_vectors.proofs.written.Tie as tie
+use Rattle.vectors.proofs.runs.written.Statement.{statement}
+use Rattle.vectors.proofs.runs.written.Tie as tie
 
 returns : tie.Need-returns
 returns c = search needs
 
-slice-aggregate-summed : tie.Need-slice-aggregate-summed
-slice-aggregate-summed c = simp length-take (omega arith)
+slice-aggregate-with-words : tie.Need-slice-aggregate-with-words
+slice-aggregate-with-words c = simp length-take (omega arith)
 
-summed-requires : tie.Need-summed-requires
-summed-requires c κs = search needs
+with-words-requires : tie.Need-with-words-requires
+with-words-requires c κs = search needs
 
 returns-2 : tie.Need-returns-2
 returns-2 c = search needs
@@ -27,8 +28,8 @@ written-spec =
     tie.close
     (tie.spec
     returns
-    slice-aggregate-summed
-    summed-requires
+    slice-aggregate-with-words
+    with-words-requires
     returns-2
     untouched-requires
     returns-3)
