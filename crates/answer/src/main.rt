@@ -69,7 +69,7 @@ fn refuse_operation() {
 }
 
 // The operation of a name.
-fn operation(name: &[u8]) -> Operation {
+fn operation_of(name: &[u8]) -> Operation {
     if text::same_bytes(name, b"check") {
         return Operation::Check;
     }
@@ -86,7 +86,7 @@ fn main() {
     let mut name = io::buffer();
     // The name is empty where the argument is missing or too long.
     let n = os::arg(1, &mut name);
-    let asked = operation(&name[..n]);
+    let asked = operation_of(&name[..n]);
     match asked {
         Operation::Check => answer_check(),
         Operation::Tally => answer_tally(),
