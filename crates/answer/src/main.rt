@@ -19,7 +19,7 @@ fn image_room() -> [u8; 65552]
     [0; 65552]
 }
 
-// Room for 65,536 words of records, and a byte more that tells whether the input is longer.
+// Room for 65,536 words of records, and a byte more, which is read only where the input is longer.
 fn records_room() -> [u8; 524289]
     ensures { λ r. ⌜ 524289 ≡ length r ⌝ }
 {

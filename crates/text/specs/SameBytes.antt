@@ -4,7 +4,7 @@ use mathlib.Core.Path.{_≡_}
 use mathlib.Core.List.{List}
 use Prim.Native.Nat.{ℕ}
 
--- a test tells two lists of bytes apart exactly where they differ
+-- a test holds exactly of two lists of bytes that are the same
 pub record SameBytes (r : Bool) (a b : List ℕ) : Type 0 where
   pub same : r ≡ true → a ≡ b
   pub different : r ≡ false → ¬ (a ≡ b)

@@ -13,7 +13,7 @@ ghost use Rattle.text.specs.RecordLine.{signedText, wordText, numerator,
 // The bytes of a word.
 pub const WORD_BYTES: usize = 8;
 
-// The words of an input that are looked at: one more than an image may have, so that longer images are told from it.
+// The words of an input that are looked at: one more than an image may have, so that one that is too long is known.
 pub const WORDS_LOOKED_AT: usize = 8193;
 
 // ---- bytes

@@ -1,10 +1,10 @@
 // The operations of the sequence unit: check, tally, run, next record.
 use image::CheckAnswer;
 use record_reader::NextRecord;
-use tally::Tallied;
 use record_writer::LinearizeErrorKind;
 use record_writer::Linearized;
 use record_writer::Position;
+use tally::Tallied;
 ghost use mathlib.Core.Path.{_≡_};
 ghost use Rattle.model.specs.Check.{check};
 ghost use Rattle.model.specs.Tally.{tally};

@@ -22,7 +22,7 @@ fn is_byte(byte: u8, expected: u64) -> bool {
 }
 
 // Whether an answer has these bytes.
-fn same(answer: &[u8], expected: &[u64]) -> bool {
+fn has_bytes(answer: &[u8], expected: &[u64]) -> bool {
     if answer.len() != expected.len() {
         return false;
     }
@@ -36,30 +36,33 @@ fn same(answer: &[u8], expected: &[u64]) -> bool {
     true
 }
 
-fn check_agrees(input: &[u8], expected: &[u64]) -> bool {
+// Whether the check answers this.
+fn check_answer_agrees(input: &[u8], expected: &[u64]) -> bool {
     let mut text = answer_text::text_room();
     let n = answer_text::check_answer(input, &mut text);
-    same(&text[..n], expected)
+    has_bytes(&text[..n], expected)
 }
 
-fn tally_agrees(input: &[u8], expected: &[u64]) -> bool {
+// Whether the tally answers this.
+fn tally_answer_agrees(input: &[u8], expected: &[u64]) -> bool {
     let mut text = answer_text::text_room();
     let n = answer_text::tally_answer(input, &mut text);
-    same(&text[..n], expected)
+    has_bytes(&text[..n], expected)
 }
 
-fn records_agree(input: &[u8], expected: &[u64]) -> bool {
+// Whether reading records back answers this.
+fn records_answer_agrees(input: &[u8], expected: &[u64]) -> bool {
     let mut text = lines_room();
     let n = record_text::read_back(input, &mut text);
-    same(&text[..n], expected)
+    has_bytes(&text[..n], expected)
 }
 
 // Whether an operation answers this.
 fn agrees(operation: u64, input: &[u8], expected: &[u64]) -> bool {
     match operation {
-        1 => check_agrees(input, expected),
-        2 => tally_agrees(input, expected),
-        3 => records_agree(input, expected),
+        1 => check_answer_agrees(input, expected),
+        2 => tally_answer_agrees(input, expected),
+        3 => records_answer_agrees(input, expected),
         _ => false,
     }
 }

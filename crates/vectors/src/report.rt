@@ -51,7 +51,8 @@ fn say_sort(sort: Sort) {
         Sort::Runs => io::write_all(STDOUT_FILENO, b" runs, "),
         Sort::Listings => io::write_all(STDOUT_FILENO, b" listings, "),
         Sort::Answers => io::write_all(STDOUT_FILENO, b" answers, "),
-    };
+    }
+    ;
 }
 
 // Writes how many vectors of a sort there are, and how many agree.

@@ -10,6 +10,34 @@ use record_reader::NextRecord;
 ghost use mathlib.Core.Path.{_≡_};
 ghost use lib.ListN.{length};
 
+// The places of the numbers that a line begins with.
+const IMAGE_WORDS: usize = 0;
+
+const DEPTH: usize = 1;
+
+const OUTPUT_LENT: usize = 2;
+
+const TRACE_LENT: usize = 3;
+
+const NUMBER: usize = 4;
+
+const PLACE: usize = 5;
+
+const RECORDS: usize = 7;
+
+const OUTPUT_WRITTEN: usize = 8;
+
+const TRACE_WRITTEN: usize = 9;
+
+const OUTPUT_SUM: usize = 10;
+
+const TRACE_SUM: usize = 11;
+
+// The last number that the check answers, and that of a trace that is too short.
+const LAST_OF_CHECK: u64 = 8;
+
+const SHORT_TRACE: u64 = 15;
+
 // The longest output and the longest trace that a line lends.
 const OUTPUT_ROOM: u64 = 81920;
 
@@ -36,6 +64,7 @@ fn lent_word(i: usize) -> u64 {
     0x5A5A_5A5A_0000_0000 + i as u64 % 0x1_0000_0000
 }
 
+// Fills what is lent.
 fn fill(words: &mut [u64]) {
     let mut i = 0;
     while i < words.len() {
@@ -122,7 +151,7 @@ fn are_records(words: &[u64], count: u64, sum: u64) -> bool {
 fn answers(answer: &[u64; 6], leading: &[u64; 12]) -> bool {
     let mut i = 0;
     while i < 6 {
-        if leading[i + 4] != answer[i] {
+        if leading[NUMBER + i] != answer[i] {
             return false;
         }
         i += 1;
@@ -133,16 +162,16 @@ fn answers(answer: &[u64; 6], leading: &[u64; 12]) -> bool {
 // Whether the check answers what a line says of it: its number and place where the run has them, and otherwise that the image is
 // accepted. A trace that is too short comes before it.
 fn check_agrees(image: &[u64], leading: &[u64; 12]) -> bool {
-    if leading[4] == 15 {
+    if leading[NUMBER] == SHORT_TRACE {
         return true;
     }
     let mut checked = [0u64; 2];
     unit_words::cowhirame_check(image, &mut checked);
-    if leading[4] > 8 {
+    if leading[NUMBER] > LAST_OF_CHECK {
         return checked[0] == 0;
     }
-    if checked[0] == leading[4] {
-        return checked[1] == leading[5];
+    if checked[0] == leading[NUMBER] {
+        return checked[1] == leading[PLACE];
     }
     false
 }
@@ -152,21 +181,21 @@ fn run_agrees(image: &[u64], leading: &[u64; 12], out: &mut [u64], trace: &mut [
     fill(out);
     fill(trace);
     let mut answer = [0u64; 6];
-    unit_words::cowhirame_run(image, leading[1], out, trace, &mut answer);
+    unit_words::cowhirame_run(image, leading[DEPTH], out, trace, &mut answer);
     if !answers(&answer, leading) {
         return false;
     }
-    if !written(trace, leading[9], leading[11]) {
+    if !written(trace, leading[TRACE_WRITTEN], leading[TRACE_SUM]) {
         return false;
     }
-    if !written(out, leading[8], leading[10]) {
+    if !written(out, leading[OUTPUT_WRITTEN], leading[OUTPUT_SUM]) {
         return false;
     }
-    if leading[8] > out.len() as u64 {
+    if leading[OUTPUT_WRITTEN] > out.len() as u64 {
         return false;
     }
-    let n = leading[8] as usize;
-    are_records(&out[..n], leading[7], leading[10])
+    let n = leading[OUTPUT_WRITTEN] as usize;
+    are_records(&out[..n], leading[RECORDS], leading[OUTPUT_SUM])
 }
 
 // Whether the check and the run of an image are as a line says; the lengths that it lends are in room.
@@ -176,14 +205,14 @@ fn agrees(image: &[u64], leading: &[u64; 12]) -> bool {
     }
     let mut out = output_room();
     let mut trace = trace_room();
-    if leading[2] > OUTPUT_ROOM {
+    if leading[OUTPUT_LENT] > OUTPUT_ROOM {
         return false;
     }
-    if leading[3] > TRACE_ROOM {
+    if leading[TRACE_LENT] > TRACE_ROOM {
         return false;
     }
-    let o = leading[2] as usize;
-    let t = leading[3] as usize;
+    let o = leading[OUTPUT_LENT] as usize;
+    let t = leading[TRACE_LENT] as usize;
     run_agrees(image, leading, &mut out[..o], &mut trace[..t])
 }
 
@@ -192,15 +221,15 @@ fn in_order(leading: &[u64; 12], read: usize) -> bool {
     if read == 0 {
         return true;
     }
-    read as u64 == leading[0]
+    read as u64 == leading[IMAGE_WORDS]
 }
 
 // Whether the image of a line, the first of the words, is in room and as the line says.
 fn image_agrees(words: &[u64], leading: &[u64; 12]) -> bool {
-    if leading[0] > words.len() as u64 {
+    if leading[IMAGE_WORDS] > words.len() as u64 {
         return false;
     }
-    let m = leading[0] as usize;
+    let m = leading[IMAGE_WORDS] as usize;
     agrees(&words[..m], leading)
 }
 

@@ -13,7 +13,10 @@ put-number-line-requires : tie.Need-put-number-line-requires
 put-number-line-requires c κs = search needs
 
 returns : tie.Need-returns
-returns c = put-same (check-within-word (now (c .before .before .before .before .before .before .before .before .args .input)) (c .before .before .before .before .before .if1 .taken)) (c .before .before .put-number-line .ensures)
+returns c =
+    let args = c .before .before .before .before .before .before .before .before .args in
+    let if1 = c .before .before .before .before .before .if1 .taken in
+    put-same (check-within-word (now (args .input)) if1) (c .before .before .put-number-line .ensures)
 
 same-length : tie.Need-same-length
 same-length c = put-length (returns c)
@@ -22,7 +25,10 @@ put-check-requires : tie.Need-put-check-requires
 put-check-requires c κs = search needs
 
 returns-2 : tie.Need-returns-2
-returns-2 c = put-same (check-whole (now (c .before .before .before .before .before .before .before .args .input)) (c .before .before .before .before .if1 .left)) (c .before .before .put-check .ensures)
+returns-2 c =
+    let args = c .before .before .before .before .before .before .before .args in
+    let if1 = c .before .before .before .before .if1 .left in
+    put-same (check-whole (now (args .input)) if1) (c .before .before .put-check .ensures)
 
 same-length-2 : tie.Need-same-length-2
 same-length-2 c = put-length (returns-2 c)

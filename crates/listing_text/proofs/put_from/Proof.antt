@@ -19,7 +19,9 @@ same-length c = search needs
 
 returns : tie.Need-returns
 unfolding ascii
-returns c = record { put = c .before .before .put-named-line .ensures .put; few = omega (arith, c .before .before .put-named-line .ensures .few) }
+returns c =
+    let put-named-line = c .before .before .put-named-line .ensures in
+    record { put = put-named-line .put; few = omega (arith, put-named-line .few) }
 
 pub put-from-spec : {M : Type 1} → statement M
 put-from-spec =

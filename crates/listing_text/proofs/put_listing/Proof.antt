@@ -10,7 +10,10 @@ put-malformed-listing-requires : tie.Need-put-malformed-listing-requires
 put-malformed-listing-requires c κs = search needs
 
 returns : tie.Need-returns
-returns c = put-same (listing-within-word (now (c .before .before .before .before .before .before .before .args .input)) (c .before .before .before .before .if1 .taken)) (c .before .before .put-malformed-listing .ensures)
+returns c =
+    let args = c .before .before .before .before .before .before .before .args in
+    let if1 = c .before .before .before .before .if1 .taken in
+    put-same (listing-within-word (now (args .input)) if1) (c .before .before .put-malformed-listing .ensures)
 
 same-length : tie.Need-same-length
 same-length c = put-length (returns c)
@@ -19,7 +22,10 @@ put-malformed-listing-requires-2 : tie.Need-put-malformed-listing-requires-2
 put-malformed-listing-requires-2 c κs = search needs
 
 returns-2 : tie.Need-returns-2
-returns-2 c = put-same (listing-empty (now (c .before .before .before .before .before .before .before .before .args .input)) (c .before .before .before .before .if2 .taken)) (c .before .before .put-malformed-listing2 .ensures)
+returns-2 c =
+    let args = c .before .before .before .before .before .before .before .before .args in
+    let if2 = c .before .before .before .before .if2 .taken in
+    put-same (listing-empty (now (args .input)) if2) (c .before .before .put-malformed-listing2 .ensures)
 
 same-length-2 : tie.Need-same-length-2
 same-length-2 c = put-length (returns-2 c)

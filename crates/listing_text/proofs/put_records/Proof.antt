@@ -14,7 +14,9 @@ abbrev μ-loop : tie.MeasureT-loop
 μ-loop text₀ at words end₀ i₀ text end i = length words - i
 
 loop-holds : tie.Need-loop-holds Inv-loop μ-loop
-loop-holds c = reading-start (c .before .before .pre .0) (omega (arith, c .before .before .pre .1))
+loop-holds c =
+    let pre = c .before .before .pre in
+    reading-start (pre .0) (omega (arith, pre .1))
 
 next-record-requires : tie.Need-next-record-requires Inv-loop μ-loop
 next-record-requires c κs = tt
@@ -27,7 +29,11 @@ put-record-line-requires c κs =
     (next-some (q .loop .inv) (p .loop-test .taken) (c .before .next-record .ensures), next-room (q .loop .inv) (p .loop-test .taken) (c .before .next-record .ensures) (u .pre .1))
 
 add-i : tie.Need-add-i Inv-loop μ-loop
-add-i c = record { fits = omega (arith, next-inside (c .before .before .before .before .before .before .loop .inv) (c .before .before .before .before .before .loop-test .taken) (c .before .before .before .before .next-record .ensures)) }
+add-i c =
+    let loop = c .before .before .before .before .before .before .loop .inv in
+    let loop-test = c .before .before .before .before .before .loop-test .taken in
+    let next-record = c .before .before .before .before .next-record .ensures in
+    record { fits = omega (arith, next-inside loop loop-test next-record) }
 
 loop-less : tie.Need-loop-less Inv-loop μ-loop
 loop-less c =
@@ -37,7 +43,11 @@ loop-less c =
     omega (arith, q .loop-test .taken, next-some (u .loop .inv) (q .loop-test .taken) (p .next-record .ensures))
 
 loop-again : tie.Need-loop-again Inv-loop μ-loop
-loop-again c = reading-more (c .before .before .before .before .before .before .loop .inv) (c .before .before .before .before .before .loop-test .taken) (c .before .before .before .before .next-record .ensures) (c .before .before .put-record-line .ensures)
+loop-again c =
+    let loop = c .before .before .before .before .before .before .loop .inv in
+    let loop-test = c .before .before .before .before .before .loop-test .taken in
+    let next-record = c .before .before .before .before .next-record .ensures in
+    reading-more loop loop-test next-record (c .before .before .put-record-line .ensures)
 
 same-length : tie.Need-same-length Inv-loop μ-loop
 same-length c = put-length (c .before .loop .inv .done)

@@ -20,10 +20,14 @@ position-of-requires : tie.Need-position-of-requires
 position-of-requires c κs = tt
 
 array-share-prefix-out : tie.Need-array-share-prefix-out
-array-share-prefix-out c = prefix-inside (c .before .before .before .before .run .ensures) (length-replicate {A = ℕ} 8192 0) (length-replicate {A = ℕ} 256 0) (c .before .position-of .ensures)
+array-share-prefix-out c =
+    let run = c .before .before .before .before .run .ensures in
+    prefix-inside run (length-replicate {A = ℕ} 8192 0) (length-replicate {A = ℕ} 256 0) (c .before .position-of .ensures)
 
 slice-aggregate-put-records : tie.Need-slice-aggregate-put-records
-slice-aggregate-put-records c = prefix-length (c .before .before .before .before .before .run .ensures) (length-replicate {A = ℕ} 8192 0) (length-replicate {A = ℕ} 256 0) (c .before .before .position-of .ensures)
+slice-aggregate-put-records c =
+    let run = c .before .before .before .before .before .run .ensures in
+    prefix-length run (length-replicate {A = ℕ} 8192 0) (length-replicate {A = ℕ} 256 0) (c .before .before .position-of .ensures)
 
 put-records-requires : tie.Need-put-records-requires
 put-records-requires c κs =

@@ -36,7 +36,10 @@ shared-slice-read-put-from-2 : tie.Need-shared-slice-read-put-from-2 Inv-loop μ
 shared-slice-read-put-from-2 c = search needs
 
 put-from-requires : tie.Need-put-from-requires Inv-loop μ-loop
-put-from-requires c κs = tracing-room (c .before .before .before .before .loop .inv) (c .before .before .before .loop-test .taken) (c .before .before .before .before .before .before .before .pre)
+put-from-requires c κs =
+    let pre = c .before .before .before .before .before .before .before .pre in
+    let loop = c .before .before .before .before .loop .inv in
+    tracing-room loop (c .before .before .before .loop-test .taken) pre
 
 add-i : tie.Need-add-i Inv-loop μ-loop
 add-i c = search needs
@@ -45,7 +48,10 @@ loop-less : tie.Need-loop-less Inv-loop μ-loop
 loop-less c = search needs
 
 loop-again : tie.Need-loop-again Inv-loop μ-loop
-loop-again c = tracing-more (c .before .before .before .before .before .before .before .loop .inv) (c .before .before .before .before .before .before .loop-test .taken) (c .before .before .put-from .ensures)
+loop-again c =
+    let loop = c .before .before .before .before .before .before .before .loop .inv in
+    let loop-test = c .before .before .before .before .before .before .loop-test .taken in
+    tracing-more loop loop-test (c .before .before .put-from .ensures)
 
 returns : tie.Need-returns Inv-loop μ-loop
 returns c = tracing-end (c .before .loop .inv) (c .loop-test .left)

@@ -32,7 +32,11 @@ put-record-line-requires c κs =
     (front-some (q .loop .inv) (p .next-record .ensures) (c .before .if1 .left), front-room (q .loop .inv) (p .next-record .ensures) (c .before .if1 .left) (q .before .before .before .pre))
 
 add-at : tie.Need-add-at Inv-loop μ-loop
-add-at c = record { fits = omega (arith, front-inside (c .before .before .before .before .before .before .loop .inv) (c .before .before .before .before .before .next-record .ensures) (c .before .before .before .before .if1 .left)) }
+add-at c =
+    let loop = c .before .before .before .before .before .before .loop .inv in
+    let next-record = c .before .before .before .before .before .next-record .ensures in
+    let if1 = c .before .before .before .before .if1 .left in
+    record { fits = omega (arith, front-inside loop next-record if1) }
 
 add-records : tie.Need-add-records Inv-loop μ-loop
 add-records c =

@@ -44,7 +44,9 @@ put-decimal-returns : (t : ℕ) → put-decimal-lts.Need-returns (put-decimal-ca
 put-decimal-returns t c = put-same (sym (decimal-one _ (c .before .before .before .before .if1 .taken))) (c .before .before .put-byte .ensures)
 
 put-decimal-put-decimal-requires : (t : ℕ) → put-decimal-lts.Need-put-decimal-requires (put-decimal-callees t) (put-decimal-at t) put-decimal.Post
-put-decimal-put-decimal-requires t c κs = (omega (arith, c .before .before .before .pre .0, c .before .if1 .left), room-front _ (decimal-more _ (c .before .if1 .left)) (c .before .before .before .pre .1))
+put-decimal-put-decimal-requires t c κs =
+    let pre = c .before .before .before .pre in
+    (omega (arith, pre .0, c .before .if1 .left), room-front _ (decimal-more _ (c .before .if1 .left)) (pre .1))
 
 put-decimal-cast-put-byte-2 : (t : ℕ) → put-decimal-lts.Need-cast-put-byte-2 (put-decimal-callees t) (put-decimal-at t) put-decimal.Post
 put-decimal-cast-put-byte-2 t c = search needs
@@ -53,10 +55,16 @@ put-decimal-add-put-byte-2 : (t : ℕ) → put-decimal-lts.Need-add-put-byte-2 (
 put-decimal-add-put-byte-2 t c = search needs
 
 put-decimal-put-byte-requires-2 : (t : ℕ) → put-decimal-lts.Need-put-byte-requires-2 (put-decimal-callees t) (put-decimal-at t) put-decimal.Post
-put-decimal-put-byte-requires-2 t c κs = room-rest _ (decimal-more _ (c .before .before .before .before .before .if1 .left)) (c .before .before .before .before .before .before .before .pre .1) (c .before .before .before .put-decimal .ensures)
+put-decimal-put-byte-requires-2 t c κs =
+    let pre = c .before .before .before .before .before .before .before .pre in
+    let if1 = c .before .before .before .before .before .if1 .left in
+    room-rest _ (decimal-more _ if1) (pre .1) (c .before .before .before .put-decimal .ensures)
 
 put-decimal-returns-2 : (t : ℕ) → put-decimal-lts.Need-returns-2 (put-decimal-callees t) (put-decimal-at t) put-decimal.Post
-put-decimal-returns-2 t c = put-same (sym (decimal-more _ (c .before .before .before .before .before .before .before .before .if1 .left))) (put-then (c .before .before .before .before .before .before .put-decimal .ensures) (c .before .before .put-byte2 .ensures))
+put-decimal-returns-2 t c =
+    let if1 = c .before .before .before .before .before .before .before .before .if1 .left in
+    let put-decimal = c .before .before .before .before .before .before .put-decimal .ensures in
+    put-same (sym (decimal-more _ if1)) (put-then put-decimal (c .before .before .put-byte2 .ensures))
 
 put-decimal-same-length-2 : (t : ℕ) → put-decimal-lts.Need-same-length-2 (put-decimal-callees t) (put-decimal-at t) put-decimal.Post
 put-decimal-same-length-2 t c = put-length (put-decimal-returns-2 t c)

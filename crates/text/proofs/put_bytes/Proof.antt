@@ -22,7 +22,9 @@ shared-slice-read-put-byte : tie.Need-shared-slice-read-put-byte Inv-loop μ-loo
 shared-slice-read-put-byte c = search needs
 
 put-byte-requires : tie.Need-put-byte-requires Inv-loop μ-loop
-put-byte-requires c κs = putting-room (c .before .before .before .loop .inv) _ (bytes-next _ _ (c .before .before .loop-test .taken)) (c .before .before .before .before .before .before .pre)
+put-byte-requires c κs =
+    let pre = c .before .before .before .before .before .before .pre in
+    putting-room (c .before .before .before .loop .inv) _ (bytes-next _ _ (c .before .before .loop-test .taken)) pre
 
 add-i : tie.Need-add-i Inv-loop μ-loop
 add-i c = search needs
@@ -31,7 +33,10 @@ loop-less : tie.Need-loop-less Inv-loop μ-loop
 loop-less c = search needs
 
 loop-again : tie.Need-loop-again Inv-loop μ-loop
-loop-again c = putting-more (c .before .before .before .before .before .before .loop .inv) (bytes-next _ _ (c .before .before .before .before .before .loop-test .taken)) (c .before .before .put-byte .ensures)
+loop-again c =
+    let loop = c .before .before .before .before .before .before .loop .inv in
+    let loop-test = c .before .before .before .before .before .loop-test .taken in
+    putting-more loop (bytes-next _ _ loop-test) (c .before .before .put-byte .ensures)
 
 returns : tie.Need-returns Inv-loop μ-loop
 returns c = putting-end (c .before .loop .inv) (bytes-end _ _ (c .loop-test .left))

@@ -26,7 +26,9 @@ put-decimal-requires c κs =
     room-front _ (line-start (now (q .args .words))) (line-room (now (q .args .words)) _ (q .pre .0) (λ j. p .shared-slice-known .given j .fits) (q .pre .1))
 
 loop-holds : tie.Need-loop-holds Inv-loop μ-loop
-loop-holds c = putting-start _ (rw (put-length (c .before .before .put-decimal .ensures)) (c .before .before .put-decimal .ensures .fits))
+loop-holds c =
+    let put-decimal = c .before .before .put-decimal .ensures in
+    putting-start _ (rw (put-length put-decimal) (put-decimal .fits))
 
 mul-put-word : tie.Need-mul-put-word Inv-loop μ-loop
 mul-put-word c = search needs

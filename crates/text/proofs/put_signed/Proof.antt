@@ -26,10 +26,16 @@ add-put-decimal : tie.Need-add-put-decimal
 add-put-decimal c = search needs
 
 put-decimal-requires-2 : tie.Need-put-decimal-requires-2
-put-decimal-requires-2 c κs = room-rest _ (with-sign _ (c .before .before .before .before .before .if1 .left) (omega arith)) (c .before .before .before .before .before .before .before .pre) (c .before .before .before .put-byte .ensures)
+put-decimal-requires-2 c κs =
+    let pre = c .before .before .before .before .before .before .before .pre in
+    let if1 = c .before .before .before .before .before .if1 .left in
+    room-rest _ (with-sign _ if1 (omega arith)) pre (c .before .before .before .put-byte .ensures)
 
 returns-2 : tie.Need-returns-2
-returns-2 c = put-same (sym (with-sign _ (c .before .before .before .before .before .before .before .before .if1 .left) (omega arith))) (put-then (c .before .before .before .before .before .before .put-byte .ensures) (c .before .before .put-decimal2 .ensures))
+returns-2 c =
+    let if1 = c .before .before .before .before .before .before .before .before .if1 .left in
+    let put-byte = c .before .before .before .before .before .before .put-byte .ensures in
+    put-same (sym (with-sign _ if1 (omega arith))) (put-then put-byte (c .before .before .put-decimal2 .ensures))
 
 same-length-2 : tie.Need-same-length-2
 same-length-2 c = put-length (returns-2 c)

@@ -43,7 +43,10 @@ put-byte-requires : tie.Need-put-byte-requires Inv-loop μ-loop
 put-byte-requires c κs = line-feed-room (c .before .before .loop .inv) (c .before .before .before .before .before .pre)
 
 returns : tie.Need-returns Inv-loop μ-loop
-returns c = numbers-put (c .before .before .before .before .before .loop .inv) (c .before .before .before .before .loop-test .left) (c .before .before .put-byte .ensures)
+returns c =
+    let loop = c .before .before .before .before .before .loop .inv in
+    let loop-test = c .before .before .before .before .loop-test .left in
+    numbers-put loop loop-test (c .before .before .put-byte .ensures)
 
 same-length : tie.Need-same-length Inv-loop μ-loop
 same-length c = put-length (returns c .put)

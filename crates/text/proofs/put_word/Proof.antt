@@ -8,19 +8,31 @@ put-byte-requires : tie.Need-put-byte-requires
 put-byte-requires c κs = room-front _ refl (c .before .before .pre)
 
 put-signed-requires : tie.Need-put-signed-requires
-put-signed-requires c κs = room-rest _ refl (rw (c .before .if1 .taken) at (c .before .before .before .before .before .before .before .pre)) (c .before .before .before .before .put-byte .ensures)
+put-signed-requires c κs =
+    let pre = c .before .before .before .before .before .before .before .pre in
+    let put-byte = c .before .before .before .before .put-byte .ensures in
+    room-rest _ refl (rw (c .before .if1 .taken) at pre) put-byte
 
 returns : tie.Need-returns
-returns c = rw (c .before .before .before .before .if1 .taken) (put-then (c .before .before .before .before .before .before .before .put-byte .ensures) (c .before .before .put-signed .ensures))
+returns c =
+    let put-byte = c .before .before .before .before .before .before .before .put-byte .ensures in
+    let if1 = c .before .before .before .before .if1 .taken in
+    rw if1 (put-then put-byte (c .before .before .put-signed .ensures))
 
 same-length : tie.Need-same-length
 same-length c = put-length (returns c)
 
 put-decimal-requires : tie.Need-put-decimal-requires
-put-decimal-requires c κs = room-rest _ refl (rw (c .before .if1 .left) at (c .before .before .before .before .before .before .before .pre)) (c .before .before .before .before .put-byte .ensures)
+put-decimal-requires c κs =
+    let pre = c .before .before .before .before .before .before .before .pre in
+    let put-byte = c .before .before .before .before .put-byte .ensures in
+    room-rest _ refl (rw (c .before .if1 .left) at pre) put-byte
 
 returns-2 : tie.Need-returns-2
-returns-2 c = rw (c .before .before .before .before .if1 .left) (put-then (c .before .before .before .before .before .before .before .put-byte .ensures) (c .before .before .put-decimal .ensures))
+returns-2 c =
+    let put-byte = c .before .before .before .before .before .before .before .put-byte .ensures in
+    let if1 = c .before .before .before .before .if1 .left in
+    rw if1 (put-then put-byte (c .before .before .put-decimal .ensures))
 
 same-length-2 : tie.Need-same-length-2
 same-length-2 c = put-length (returns-2 c)

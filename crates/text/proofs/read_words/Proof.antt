@@ -20,7 +20,9 @@ abbrev μ-loop : tie.MeasureT-loop
 μ-loop words₀ input from n i₀ words i = n - i
 
 loop-holds : tie.Need-loop-holds Inv-loop μ-loop
-loop-holds c = (omega arith, words-none _ (drop (c .before .before .args .from) (now (c .before .before .args .input))), refl)
+loop-holds c =
+    let args = c .before .before .args in
+    (omega arith, words-none _ (drop (args .from) (now (args .input))), refl)
 
 mul-word-at : tie.Need-mul-word-at Inv-loop μ-loop
 mul-word-at c = search needs
@@ -53,7 +55,9 @@ same-length : tie.Need-same-length Inv-loop μ-loop
 same-length c = c .before .loop .inv .2
 
 returns : tie.Need-returns Inv-loop μ-loop
-returns c = c .before .loop .inv .1 ∙ ap (λ (k : ℕ). sets (now (c .before .before .before .before .args .words)) 0 (wordsOf k (drop (c .before .before .before .before .args .from) (now (c .before .before .before .before .args .input))))) (le-antisymm (c .before .loop .inv .0) (c .loop-test .left))
+returns c =
+    let args = c .before .before .before .before .args in
+    c .before .loop .inv .1 ∙ ap (λ (k : ℕ). sets (now (args .words)) 0 (wordsOf k (drop (args .from) (now (args .input))))) (le-antisymm (c .before .loop .inv .0) (c .loop-test .left))
 
 pub read-words-spec : {M : Type 1} → statement M
 read-words-spec =

@@ -21,7 +21,9 @@ add-result : tie.Need-add-result
 add-result c = search needs
 
 returns : tie.Need-returns
-returns c = word-is (now (c .before .before .before .args .input)) (c .before .before .before .args .at) (c .before .before .before .pre) (c .before .half-word-at .ensures .0) (c .half-word-at2 .ensures .0)
+returns c =
+    let args = c .before .before .before .args in
+    word-is (now (args .input)) (args .at) (c .before .before .before .pre) (c .before .half-word-at .ensures .0) (c .half-word-at2 .ensures .0)
 
 pub word-at-spec : {M : Type 1} → statement M
 word-at-spec =

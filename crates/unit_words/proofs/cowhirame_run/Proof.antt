@@ -20,7 +20,9 @@ same-length-2 : tie.Need-same-length-2
 same-length-2 c = search needs
 
 returns : tie.Need-returns
-returns c = exported (c .before .before .before .before .before .before .before .run .ensures) (c .before .before .numbers-of .ensures) (c .before .position-of .ensures)
+returns c =
+    let run = c .before .before .before .before .before .before .before .run .ensures in
+    exported run (c .before .before .numbers-of .ensures) (c .before .position-of .ensures)
 
 pub cowhirame-run-spec : {M : Type 1} → statement M
 cowhirame-run-spec =

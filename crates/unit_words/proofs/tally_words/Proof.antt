@@ -25,7 +25,9 @@ returns : tie.Need-returns
 returns c = rw (c .before .t .given .1) refl
 
 returns-2 : tie.Need-returns-2
-returns-2 c = rw (c .before .before .before .t2 .given .1, c .before .number-of .ensures, c .place-of .ensures) (refused-words (answerFlaw (c .before .before .before .t2 .given .0 .0)))
+returns-2 c =
+    let t2 = c .before .before .before .t2 in
+    rw (t2 .given .1, c .before .number-of .ensures, c .place-of .ensures) (refused-words (answerFlaw (t2 .given .0 .0)))
 
 returns-3 : tie.Need-returns-3
 returns-3 c = search needs

@@ -35,7 +35,9 @@ slice-reshare-prefix-line-agrees : tie.Need-slice-reshare-prefix-line-agrees
 slice-reshare-prefix-line-agrees c = rw (c .before .before .read .given .1) at (c .before .before .before .before .before .before .before .read-line .ensures)
 
 slice-aggregate-line-agrees : tie.Need-slice-aggregate-line-agrees
-slice-aggregate-line-agrees c = sym (length-take-le _ _ (rw (c .before .before .before .read .given .1) at (c .before .before .before .before .before .before .before .before .read-line .ensures)))
+slice-aggregate-line-agrees c =
+    let read-line = c .before .before .before .before .before .before .before .before .read-line .ensures in
+    sym (length-take-le _ _ (rw (c .before .before .before .read .given .1) at read-line))
 
 line-agrees-requires : tie.Need-line-agrees-requires
 line-agrees-requires c κs = simp length-take (omega (arith, c .before .before .if1 .left))

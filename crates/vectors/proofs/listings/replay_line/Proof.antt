@@ -41,10 +41,15 @@ returns-3 : tie.Need-returns-3
 returns-3 c = search needs
 
 slice-reshare-prefix-agrees : tie.Need-slice-reshare-prefix-agrees
-slice-reshare-prefix-agrees c = rw (c .before .before .before .read .given .1) at (c .before .before .before .before .before .before .before .before .read-line .ensures)
+slice-reshare-prefix-agrees c =
+    let read-line = c .before .before .before .before .before .before .before .before .read-line .ensures in
+    rw (c .before .before .before .read .given .1) at read-line
 
 slice-aggregate-agrees : tie.Need-slice-aggregate-agrees
-slice-aggregate-agrees c = sym (length-take-le _ _ (rw (c .before .before .before .before .read .given .1) at (c .before .before .before .before .before .before .before .before .before .read-line .ensures)))
+slice-aggregate-agrees c =
+    let read-line = c .before .before .before .before .before .before .before .before .before .read-line .ensures in
+    let read = c .before .before .before .before .read in
+    sym (length-take-le _ _ (rw (read .given .1) at read-line))
 
 agrees-requires : tie.Need-agrees-requires
 agrees-requires c κs = simp length-take (omega (arith, c .before .before .if2 .left))

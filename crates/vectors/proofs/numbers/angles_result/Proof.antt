@@ -19,7 +19,9 @@ returns : tie.Need-returns
 returns c = search needs
 
 evaluated-requires : tie.Need-evaluated-requires
-evaluated-requires c κs = (c .before .before .before .before .is-sound .ensures (c .before .before .before .if1 .taken), c .before .before .is-sound2 .ensures (c .before .if2 .taken))
+evaluated-requires c κs =
+    let is-sound = c .before .before .before .before .is-sound .ensures in
+    (is-sound (c .before .before .before .if1 .taken), c .before .before .is-sound2 .ensures (c .before .if2 .taken))
 
 evaluation-result-requires : tie.Need-evaluation-result-requires
 evaluation-result-requires c κs = search needs

@@ -27,7 +27,9 @@ slice-reshare-prefix-agrees : tie.Need-slice-reshare-prefix-agrees
 slice-reshare-prefix-agrees c = rw (c .before .read .given .1) at (c .before .before .before .before .before .before .read-line .ensures)
 
 slice-aggregate-agrees : tie.Need-slice-aggregate-agrees
-slice-aggregate-agrees c = sym (length-take-le _ _ (rw (c .before .before .read .given .1) at (c .before .before .before .before .before .before .before .read-line .ensures)))
+slice-aggregate-agrees c =
+    let read-line = c .before .before .before .before .before .before .before .read-line .ensures in
+    sym (length-take-le _ _ (rw (c .before .before .read .given .1) at read-line))
 
 agrees-requires : tie.Need-agrees-requires
 agrees-requires c κs = search needs

@@ -3,8 +3,8 @@ use Prim.Native.Nat.{_≤_, _-_}
 use mathlib.Core.Path.{_≡_}
 use lib.ListN.{length}
 use borrow.Author.Needs.{needs}
-use Rattle.vectors.proofs.answers.same.Statement.{statement}
-use Rattle.vectors.proofs.answers.same.Tie as tie
+use Rattle.vectors.proofs.answers.has_bytes.Statement.{statement}
+use Rattle.vectors.proofs.answers.has_bytes.Tie as tie
 
 abbrev Inv-loop : tie.InvT-loop
 Inv-loop answer expected i₀ i = (i ≤ length answer) × (length answer ≡ length expected)
@@ -45,8 +45,8 @@ loop-again c = search needs
 returns-3 : tie.Need-returns-3 Inv-loop μ-loop
 returns-3 c = search needs
 
-pub same-spec : {M : Type 1} → statement M
-same-spec =
+pub has-bytes-spec : {M : Type 1} → statement M
+has-bytes-spec =
     tie.close
     (tie.spec
     Inv-loop
