@@ -66,7 +66,8 @@ abbrev tallied-image : List ℕ → List ℕ
 tallied-image input = wordsOf (length input / 8 - 1) (drop 8 input)
 
 pub tally-put : (input : List ℕ) {n depth end : ℕ} {image answer text text′ : List ℕ} → n ≡ min (length input / 8 - 1) 8193
-    → image ≡ sets (replicate 8193 0) 0 (wordsOf n (drop 8 input)) → depth ≡ littleEndian (take 8 (drop 0 input)) → answer ≡ tallyWords (tally (take n image) depth) → Put (numbersLine answer) text 0 end text′
+    → image ≡ sets (replicate 8193 0) 0 (wordsOf n (drop 8 input)) → depth ≡ littleEndian (take 8 (drop 0 input))
+    → answer ≡ tallyWords (tally (take n image) depth) → Put (numbersLine answer) text 0 end text′
     → Put (tallyLine input) text 0 end text′
 tally-put input {n} {depth} e r d a p =
     put-same

@@ -9,7 +9,10 @@ use Rattle.model.specs.Reader.{recordsIn}
 use Rattle.model.specs.Listing.{ascii, decimal, line, wordsOf}
 use Rattle.text.specs.RecordLine.{recordLine}
 
--- The last line for an input of n bytes, of which r records were read, up to word p. `more`: only the first 65,536 words of a longer input were looked at, and the next record starts at p. `end`: the records are the whole input. Else 17 at p, where no whole record stands; so too if a longer input begins with none.
+-- The last line for an input of n bytes, of which r records were read, up to word p.
+-- `more`: only the first 65,536 words of a longer input were looked at, and the next record starts at p.
+-- `end`: the records are the whole input.
+-- Otherwise 17 at p, where no whole record stands. This is also the line of a longer input that begins with no record.
 unfoldable pub lastLine : ℕ → ℕ → ℕ → List ℕ
 lastLine n p r =
     cond (ltb 524288 n && ltb 0 r) (line (ascii "more" ∷ decimal p ∷ decimal r ∷ []))

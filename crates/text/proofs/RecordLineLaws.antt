@@ -85,5 +85,6 @@ line-short (w ∷ l) h k =
 pub line-room : (ws : List ℕ) {text : List ℕ} (at : ℕ) → 1 ≤ length ws → ((j : ℕ) → getD ws j 0 < 2 ^ 64) → at + 21 * length ws ≤ length text → Room (recordLine ws) text at
 line-room ws at h k r = record { room = omega (arith, line-short ws h k) }
 
-pub line-most : (ws : List ℕ) {text text′ : List ℕ} {at end : ℕ} → 1 ≤ length ws → ((j : ℕ) → getD ws j 0 < 2 ^ 64) → Put (recordLine ws) text at end text′ → PutMost (recordLine ws) (21 * length ws) text at end text′
+pub line-most : (ws : List ℕ) {text text′ : List ℕ} {at end : ℕ} → 1 ≤ length ws → ((j : ℕ) → getD ws j 0 < 2 ^ 64)
+    → Put (recordLine ws) text at end text′ → PutMost (recordLine ws) (21 * length ws) text at end text′
 line-most ws h k p = record { put = p; few = omega (arith, p .ends, line-short ws h k) }

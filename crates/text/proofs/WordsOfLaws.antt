@@ -62,7 +62,8 @@ words-snoc (suc n) bytes =
     rw (e, sym (drop-drop (8 * n) 8 bytes)) (ap (λ (l : List ℕ). littleEndian (take 8 bytes) ∷ l) (words-snoc n (drop 8 bytes)))
 
 -- words that are set behind words
-sets-behind : {ws′ ws″ : List ℕ} (ws : List ℕ) (start i : ℕ) (us vs : List ℕ) → i ≡ start + length us → ws′ ≡ sets ws start us → ws″ ≡ sets ws′ i vs → ws″ ≡ sets ws start (us ++ vs)
+sets-behind : {ws′ ws″ : List ℕ} (ws : List ℕ) (start i : ℕ) (us vs : List ℕ)
+    → i ≡ start + length us → ws′ ≡ sets ws start us → ws″ ≡ sets ws′ i vs → ws″ ≡ sets ws start (us ++ vs)
 sets-behind ws start i us vs e h k = k ∙ rw (h, e) (sets-append ws start us vs)
 
 pub words-more : {ws′ : List ℕ} (ws input : List ℕ) (from i : ℕ) {w : ℕ} → ws′ ≡ sets ws 0 (wordsOf i (drop from input)) → w ≡ littleEndian (take 8 (drop (from + 8 * i) input))
@@ -94,7 +95,8 @@ module _ (ws bytes : List ℕ) {ws′ : List ℕ} {n : ℕ} (h : n ≤ length ws
       ap (take n) e ∙ ap (λ (j : ℕ). take j (sets ws 0 (wordsOf n bytes))) (sym k) ∙ sets-front (wordsOf n bytes) ws (omega arith)
 
 -- the depth and the image behind it
-pub parted : {A : Type 0} (f : List ℕ → ℕ → A) (bytes : List ℕ) {k m : ℕ} → k ≡ suc m → f (wordsOf m (drop 8 bytes)) (littleEndian (take 8 bytes)) ≡ f (drop 1 (wordsOf k bytes)) (getD (wordsOf k bytes) 0 0)
+pub parted : {A : Type 0} (f : List ℕ → ℕ → A) (bytes : List ℕ) {k m : ℕ} → k ≡ suc m
+    → f (wordsOf m (drop 8 bytes)) (littleEndian (take 8 bytes)) ≡ f (drop 1 (wordsOf k bytes)) (getD (wordsOf k bytes) 0 0)
 unfolding wordsOf
 parted f bytes e = rw e refl
 

@@ -17,11 +17,16 @@ pub fn agreement(agrees: bool) -> Replayed {
     Replayed::Differs
 }
 
+// Writes some bytes.
+fn say(words: &[u8]) {
+    io::write_all(STDOUT_FILENO, words);
+}
+
 // Writes a line that ends in a number.
 fn say_number(words: &[u8], number: u64) {
-    io::write_all(STDOUT_FILENO, words);
+    say(words);
     io::print_decimal(STDOUT_FILENO, number);
-    io::write_all(STDOUT_FILENO, b"\n");
+    say(b"\n");
 }
 
 pub fn say_malformed(line_number: u64) {
@@ -38,21 +43,20 @@ pub fn say_ends_within(line_number: u64) {
 
 // Writes a line on a file.
 pub fn say_of_file(name: &[u8], what: &[u8]) {
-    io::write_all(STDOUT_FILENO, name);
-    io::write_all(STDOUT_FILENO, what);
+    say(name);
+    say(what);
 }
 
-// What the vectors of a sort are called, with the commas and spaces of the report.
+// Writes what the vectors of a sort are called, with the spaces and the comma of the report.
 fn say_sort(sort: Sort) {
     match sort {
-        Sort::Numbers => io::write_all(STDOUT_FILENO, b" vectors, "),
-        Sort::Images => io::write_all(STDOUT_FILENO, b" images, "),
-        Sort::Tallies => io::write_all(STDOUT_FILENO, b" tallies, "),
-        Sort::Runs => io::write_all(STDOUT_FILENO, b" runs, "),
-        Sort::Listings => io::write_all(STDOUT_FILENO, b" listings, "),
-        Sort::Answers => io::write_all(STDOUT_FILENO, b" answers, "),
+        Sort::Numbers => say(b" vectors, "),
+        Sort::Images => say(b" images, "),
+        Sort::Tallies => say(b" tallies, "),
+        Sort::Runs => say(b" runs, "),
+        Sort::Listings => say(b" listings, "),
+        Sort::Answers => say(b" answers, "),
     }
-    ;
 }
 
 // Writes how many vectors of a sort there are, and how many agree.
@@ -60,5 +64,5 @@ pub fn say_counts(sort: Sort, all: u64, agree: u64) {
     io::print_decimal(STDOUT_FILENO, all);
     say_sort(sort);
     io::print_decimal(STDOUT_FILENO, agree);
-    io::write_all(STDOUT_FILENO, b" agree\n");
+    say(b" agree\n");
 }
