@@ -1,8 +1,8 @@
 /*
- * The operations of the sequence unit, from the static library of crate unit.
+ * The operations of the sequence unit, from the static library of crate unit_words.
  *
- *     rt staticlib unit        proves them and writes target/staticlib/libunit.a (x86-64, Linux)
- *     cc -I include program.c target/staticlib/libunit.a
+ *     rt staticlib unit_words  proves them and writes target/staticlib/libunit_words.a (x86-64, Linux)
+ *     cc -I include program.c target/staticlib/libunit_words.a
  *
  * A word is 64 bits. An image, an output and a trace are words one behind the other, lent by the caller: a pointer
  * to the first and how many there are. Each function takes any words and any lengths, answers in every case,
@@ -21,7 +21,7 @@
  *     2 MiB are large enough.)
  *
  * The contract with the customer, "document 01", is what the numbers and records are taken from. What each function
- * is proved to answer stands in crates/unit/src/lib.rt.
+ * is proved to answer stands in crates/unit_words/src/lib.rt.
  */
 #ifndef COWHIRAME_H
 #define COWHIRAME_H

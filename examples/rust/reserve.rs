@@ -2,7 +2,7 @@
 //! IMAGE holds little-endian words of 8 bytes; `cowhirame pack` makes them from text.
 //!
 //! Build, at the top of the repository:
-//!     rt staticlib unit
+//!     rt staticlib unit_words
 //!     rustc -O -L target/staticlib -o target/reserve-rust examples/rust/reserve.rs
 //! Run:
 //!     ./cowhirame pack examples/bell.image > target/bell.words
@@ -12,7 +12,7 @@ use std::process::exit;
 /// The operations, as include/cowhirame.h explains them. A slice of no words has a pointer that is not null, so
 /// that any Rust slice can be lent; the borrow checker sees to it that none of them overlap.
 mod unit {
-    #[link(name = "unit", kind = "static")]
+    #[link(name = "unit_words", kind = "static")]
     extern "C" {
         fn cowhirame_tally(image: *const u64, words: usize, depth: u64, answer: *mut u64);
         fn cowhirame_run(

@@ -1,4 +1,3 @@
-pub mod NumberLaws
-pub mod ImageLaws
-pub mod CutLaws
+pub mod AnswersLaws
+pub mod LongInputLaws
 pub mod Samples

@@ -1,17 +1,22 @@
--- What the answering programs write, from the bytes of standard input to those of standard output.
-use Prim.Native.Nat.{ℕ, _/_, _%_}
+-- What the answering program writes of the check and of the tally, from the bytes of standard input to those of standard output.
+use Prim.Native.Nat.{ℕ, _-_, _/_, _%_}
 use mathlib.Core.Bool.{_&&_, cond}
-use mathlib.Core.List.{List, map}
-use lib.ListN.{length, getD, drop}
+use mathlib.Core.List.{List}
+use lib.ListN.{length, getD, take, drop}
 use lib.Dec.{eqb, leb}
 use Rattle.model.specs.Check.{bad, check}
 use Rattle.model.specs.Tally.{refused, tally}
-use Rattle.model.specs.Listing.{decimal, line, wordsOf}
-use Rattle.unit.specs.Exports.{checkWords, tallyWords}
+use Rattle.model.specs.Listing.{littleEndian, wordsOf}
+use Rattle.text.specs.NumberLine.{numbersLine}
+use Rattle.unit_words.specs.AnswerWords.{checkWords, tallyWords}
 
--- a line of numbers in decimal
-unfoldable pub numbersLine : List ℕ → List ℕ
-numbersLine ns = line (map decimal ns)
+-- the line of an image in whole words: the number and the place of what the check finds, 0 0 if it is accepted
+abbrev pub checkLine : List ℕ → List ℕ
+checkLine bytes = numbersLine (checkWords (check (wordsOf (length bytes / 8) bytes)))
+
+-- the line of a depth and an image in whole words: the tally's number and place, then the nine figures
+abbrev pub tallyLine : List ℕ → List ℕ
+tallyLine bytes = numbersLine (tallyWords (tally (wordsOf (length bytes / 8 - 1) (drop 8 bytes)) (littleEndian (take 8 bytes))))
 
 -- Of an image: check's number and place, 0 0 if it is accepted. Input that ends within a word: 1 0.
 unfoldable pub checkAnswer : List ℕ → List ℕ

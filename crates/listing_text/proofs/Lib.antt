@@ -1,9 +1,4 @@
-pub mod PutLaws
-pub mod DigitLaws
-pub mod SignLaws
-pub mod LineLaws
 pub mod RecordsLaws
-pub mod EndLaws
-pub mod TextLaws
+pub mod EndTextLaws
 pub mod RunLaws
-pub mod InputLaws
+pub mod InputTextLaws

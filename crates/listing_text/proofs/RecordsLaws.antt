@@ -9,9 +9,10 @@ use Rattle.model.specs.RecordReader.{nextAt, recordsIn}
 use Rattle.model.proofs.ReadBack.{next-record, reads-back}
 use Rattle.record_reader.specs.Answer.{nextWordsOf}
 use Rattle.model.proofs.ListLaws.{flat-append}
-use Rattle.listing_text.specs.WordText.{recordLine, WordsOfRecords}
-use Rattle.listing_text.specs.Put.{Put, PutMost}
-use Rattle.listing_text.proofs.PutLaws.{put-none, put-same, put-then, put-length}
+use Rattle.text.specs.RecordLine.{recordLine}
+use Rattle.listing_text.specs.EndText.{WordsOfRecords}
+use Rattle.text.specs.Put.{Put, PutMost}
+use Rattle.text.proofs.PutLaws.{put-none, put-same, put-then, put-length}
 
 abbrev linesOf : List Record → List ℕ
 linesOf rs = flatMap recordLine (map encode rs)

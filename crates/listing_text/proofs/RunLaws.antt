@@ -24,10 +24,11 @@ use Rattle.record_writer.specs.declared.LinearizeErrorKind.the-variants as kind
 use Rattle.record_writer.specs.declared.Linearized.the-variants as linearized
 use Rattle.record_writer.specs.Promise.{runAnswerOf, refusalAnswer, positionOf}
 use Rattle.linearize.specs.Linearizes.{Linearizes}
-use Rattle.listing_text.specs.Put.{Put, PutMost}
-use Rattle.listing_text.specs.WordText.{recordLine, WordsOfRecords, endText}
-use Rattle.listing_text.proofs.PutLaws.{put-same, put-then, put-length}
-use Rattle.listing_text.proofs.TextLaws.{records-text}
+use Rattle.text.specs.Put.{Put, PutMost}
+use Rattle.text.specs.RecordLine.{recordLine}
+use Rattle.listing_text.specs.EndText.{WordsOfRecords, endText}
+use Rattle.text.proofs.PutLaws.{put-same, put-then, put-length}
+use Rattle.text.proofs.RecordTextLaws.{records-text}
 
 -- ---- the angles of the records written are sound
 

@@ -1,2 +1,2 @@
-pub mod Put
-pub mod WordText
+pub mod EndText
+pub mod InputText

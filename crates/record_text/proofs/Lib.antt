@@ -1,5 +1,5 @@
-pub mod FrontLaws
-pub mod LastLaws
-pub mod CutLaws
-pub mod OnLaws
+pub mod ReadFrontLaws
+pub mod ReadBackLaws
+pub mod LongInputLaws
+pub mod RecordsInLaws
 pub mod Samples

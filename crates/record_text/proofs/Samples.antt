@@ -4,8 +4,8 @@ use mathlib.Core.List.{[], _∷_, _++_, flatMap}
 use Rattle.model.specs.Lists.{sum}
 use Rattle.model.specs.RecordReader.{recordLength, nextAt, found, recordsFrom, recordsIn}
 use Rattle.model.specs.Listing.{ascii, digits, decimal, line, littleEndian, wordsOf}
-use Rattle.listing_text.specs.WordText.{numerator, wordsText, recordLine}
-use Rattle.record_text.specs.Answers.{lastLine, recordsText, readBack}
+use Rattle.text.specs.RecordLine.{numerator, wordsText, recordLine}
+use Rattle.record_text.specs.ReadBack.{lastLine, recordsText, readBack}
 
 -- no input
 pub read-of-none : readBack [] ≡ ascii "end 0" ++ 10 ∷ []

@@ -1,2 +1,2 @@
-pub mod Answers
-pub mod Reading
+pub mod ReadBack
+pub mod ReadFront

@@ -1,13 +1,13 @@
-// Standard input, behind what a program looks at.
+// What is left of standard input behind what a program looks at.
 use libc::STDIN_FILENO;
 
-// Reads more of standard input; whether there was any.
+// Reads more of standard input, and answers whether there was any.
 fn read_more() -> bool {
     let mut rest = io::large_buffer();
     io::read_full(STDIN_FILENO, &mut rest) != 0
 }
 
-// Reads what is left of standard input, so that no writer is cut off.
+// Reads what is left of standard input, so that whoever writes it can end.
 pub fn read_rest() {
     let mut turns = 18446744073709551615u64;
     while turns > 0 {

@@ -1,140 +1,129 @@
-// Replays the published linearizer's answers of standard input: how many listings agree, and which do not.
-// A line: the number of the image's words, the depth, the length and the checksum of the listing, then the image's words.
-use libc::STDIN_FILENO;
-use vector_text::Words;
+// Replays the files of vectors that the arguments name, and says of each how many vectors agree, and which do not.
+mod answers;
+mod bytes;
+mod checksum;
+mod images;
+mod line;
+mod listings;
+mod number_line;
+mod numbers;
+mod report;
+mod runs;
+mod sort;
+mod tallies;
+
+use report::Replayed;
+use sort::Named;
+use sort::Sort;
 ghost use mathlib.Core.Path.{_≡_};
-ghost use Prim.Native.Nat.{_+_, _*_, _≤_};
 ghost use lib.ListN.{length};
 
-// Room for the bytes of a depth and 8,200 words.
-fn byte_room() -> [u8; 65608]
-    ensures { λ r. ⌜ 65608 ≡ length r ⌝ }
+// Room for a whole file.
+fn file_room() -> [u8; 1048576]
+    ensures { λ r. ⌜ 1048576 ≡ length r ⌝ }
 {
-    [0; 65608]
+    [0; 1048576]
 }
 
-// Room for a listing.
-fn text_room() -> [u8; 262144]
-    ensures { λ r. ⌜ 262144 ≡ length r ⌝ }
-{
-    [0; 262144]
-}
-
-fn say_counts(listings: u64, agree: u64) {
-    vector_text::say_counts(listings, b" listings, ", agree);
-}
-
-// ---- the listing program's input
-
-// A word's eight bytes, the low one first.
-fn put_word(bytes: &mut [u8], at: usize, word: u64)
-    requires { ⌜ at + 8 ≤ length (now bytes) ⌝ }
-{
-    let mut rest = word;
-    let mut i = 0;
-    while i < 8 {
-        bytes[at + i] = (rest % 256) as u8;
-        rest /= 256;
-        i += 1;
+// Replays a line. The words hold what the line before has left there.
+fn replay_line(sort: Sort, text: &[u8], words: &mut [u64]) -> Replayed {
+    match sort {
+        Sort::Numbers => numbers::replay_line(text),
+        Sort::Images => images::replay_line(text, words),
+        Sort::Tallies => tallies::replay_line(text, words),
+        Sort::Runs => runs::replay_line(text, words),
+        Sort::Listings => listings::replay_line(text, words),
+        Sort::Answers => answers::replay_line(text, words),
     }
 }
 
-// An image's bytes, behind those of the depth.
-fn put_image(bytes: &mut [u8], image: &[u64])
-    requires { ⌜ 8 + 8 * length (now image) ≤ length (now bytes) ⌝ }
-{
-    let mut i = 0;
-    while i < image.len() {
-        put_word(bytes, 8 + 8 * i, image[i]);
-        i += 1;
+// Whether a line agrees; if not, says so.
+fn line_agrees(sort: Sort, text: &[u8], words: &mut [u64], line_number: u64) -> bool {
+    let ended = replay_line(sort, text, words);
+    match ended {
+        Replayed::Agrees => true,
+        Replayed::Differs => {
+            report::say_differs(line_number);
+            false
+        }
+        Replayed::Malformed => {
+            report::say_malformed(line_number);
+            false
+        }
     }
 }
 
-// ---- a line
-
-// A checksum with a byte more.
-fn mixed(sum: u64, byte: u8) -> u64 {
-    vector_text::mixed(sum, byte as u64)
-}
-
-fn checksum(text: &[u8]) -> u64 {
-    let mut sum = 0u64;
-    let mut i = 0;
-    while i < text.len() {
-        sum = mixed(sum, text[i]);
-        i += 1;
-    }
-    sum
-}
-
-// Whether the listing of an input has this length and this checksum.
-fn lists(input: &[u8], length: u64, sum: u64) -> bool {
-    let mut text = text_room();
-    let n = listing_text::listing_text(input, &mut text);
-    if n as u64 != length {
-        return false;
-    }
-    checksum(&text[..n]) == sum
-}
-
-// Whether the listing of an image is as a line says.
-fn agrees(image: &[u64], leading: &[u64; 4]) -> bool
-    requires { ⌜ length (now image) ≤ 8200 ⌝ }
-{
-    let mut bytes = byte_room();
-    put_word(&mut bytes, 0, leading[1]);
-    put_image(&mut bytes, image);
-    let n = 8 + 8 * image.len();
-    lists(&bytes[..n], leading[2], leading[3])
-}
-
-// Whether a line agrees; if not, says so. There is room for images that are too long.
-fn line_agrees(text: &[u8], line_number: u64) -> bool {
-    let mut leading = [0u64; 4];
-    let mut words = [0u64; 8200];
-    let read = vector_text::read_line(text, &mut leading, &mut words);
-    let Words::Read(n) = read else {
-        vector_text::say_malformed(line_number);
-        return false;
-    };
-    if n as u64 != leading[0] {
-        vector_text::say_malformed(line_number);
-        return false;
-    }
-    if agrees(&words[..n], &leading) {
-        return true;
-    }
-    vector_text::say_differs(line_number);
-    false
-}
-
-fn replay(input: &[u8]) {
-    let mut listings = 0u64;
+// Replays every line of a file that does not begin with #. There is room for the words of images that are too long.
+fn replay(sort: Sort, input: &[u8]) {
+    let mut words = [0u64; line::WORDS_ROOM];
+    let mut vectors = 0u64;
     let mut agree = 0u64;
     let mut line_number = 0u64;
     let mut at = 0;
     while at < input.len() {
         line_number += 1;
-        let end = vector_text::end(input, at);
+        let end = line::line_end(input, at);
         if end == input.len() {
-            vector_text::say_cut_off(line_number);
+            report::say_ends_within(line_number);
             break;
         }
         if input[at] != b'#' {
-            listings += 1;
-            if line_agrees(&input[at..end + 1], line_number) {
+            vectors += 1;
+            if line_agrees(sort, &input[at..end + 1], &mut words, line_number) {
                 agree += 1;
             }
         }
         at = end + 1;
     }
-    say_counts(listings, agree);
+    report::say_counts(sort, vectors, agree);
+}
+
+// Whether all of a file has been read.
+fn all_read(fd: i32) -> bool {
+    // Only at the end of a file is 0 read: io::read_full also stops at a failure and where the room ends.
+    let mut next = [0u8; 1];
+    libc::read(fd, &mut next) == 0
+}
+
+// Replays an open file.
+fn replay_open(name: &[u8], sort: Sort, fd: i32) {
+    let mut input = file_room();
+    let n = io::read_full(fd, &mut input);
+    if all_read(fd) {
+        replay(sort, &input[..n]);
+        return;
+    }
+    report::say_of_file(name, b": the file is too long or cannot be read\n");
+}
+
+// Replays a file.
+fn replay_file(name: &[u8]) {
+    let named = sort::sort_of(name);
+    let Named::Sort(sort) = named else {
+        report::say_of_file(name, b": no such sort of vectors\n");
+        return;
+    };
+    let fd = os::open_read(name);
+    if fd < 0 {
+        report::say_of_file(name, b": the file cannot be opened\n");
+        return;
+    }
+    replay_open(name, sort, fd);
+    libc::close(fd);
+}
+
+// Replays the file that an argument names. The name is empty where the argument is too long.
+fn replay_argument(i: usize) {
+    let mut name = io::buffer();
+    let n = os::arg(i, &mut name);
+    replay_file(&name[..n]);
 }
 
 fn main() {
-    let mut input = vector_text::room();
-    let n = io::read_full(STDIN_FILENO, &mut input);
-    if vector_text::all_read() {
-        replay(&input[..n]);
+    let count = os::arg_count();
+    let mut i = 1;
+    while i < count {
+        replay_argument(i);
+        i += 1;
     }
 }

@@ -1,4 +1,5 @@
-use Rattle.listing_text.proofs.InputLaws.{in-front}
+-- The answer of the check stands in front of the text.
+use Rattle.text.proofs.PutLaws.{in-front}
 use borrow.Author.Needs.{needs}
 use Rattle.answer_text.proofs.check_answer.Statement.{statement}
 use Rattle.answer_text.proofs.check_answer.Tie as tie

@@ -1,19 +1,20 @@
+-- The depth and the image are read, and the line of the tally is put.
 use native.Mathlib.Omega.{arith}
 use Prim.Native.Nat.{_-_, _/_}
 use denote.Ref.{now}
 use lib.ListN.{length, take, drop, replicate}
-use Rattle.listing_text.proofs.PutLaws.{put-length}
-use Rattle.listing_text.proofs.InputLaws.{cut-fits, cut-inside, read-inside, read-length}
-use Rattle.answer_text.proofs.ImageLaws.{tally-eleven, tally-put}
+use Rattle.text.proofs.PutLaws.{put-length}
+use Rattle.text.proofs.WordsOfLaws.{at-most-fits, at-most-inside, read-inside, read-length}
+use Rattle.answer_text.proofs.AnswersLaws.{tally-eleven, tally-put}
 use borrow.Author.Needs.{needs}
 use Rattle.answer_text.proofs.put_tally.Statement.{statement}
 use Rattle.answer_text.proofs.put_tally.Tie as tie
 
-sub-cut : tie.Need-sub-cut
-sub-cut c = search needs
+sub-words-at-most : tie.Need-sub-words-at-most
+sub-words-at-most c = search needs
 
-cut-requires : tie.Need-cut-requires
-cut-requires c κs = search needs
+words-at-most-requires : tie.Need-words-at-most-requires
+words-at-most-requires c κs = search needs
 
 slice-aggregate-read-words : tie.Need-slice-aggregate-read-words
 slice-aggregate-read-words c = search needs
@@ -23,7 +24,7 @@ read-words-requires c κs =
     let p = c .before in
     let q = p .before .before .before in
     let input = now (q .args .input) in
-    (cut-fits (length input / 8 - 1) (p .cut .ensures), cut-inside (length input / 8 - 1) (p .cut .ensures) input 8 (omega (arith, q .pre .1)))
+    (at-most-fits (length input / 8 - 1) 8193 (p .words-at-most .ensures), at-most-inside (length input / 8 - 1) 8193 (p .words-at-most .ensures) input 8 (omega (arith, q .pre .1)))
 
 word-at-requires : tie.Need-word-at-requires
 word-at-requires c κs = search needs
@@ -33,28 +34,28 @@ array-share-prefix-image c =
     let p = c .before .before in
     let q = p .before .before in
     let input = now (q .before .before .before .args .input) in
-    read-inside (replicate 8193 0) (drop 8 input) (cut-fits (length input / 8 - 1) (q .cut .ensures)) (p .read-words .ensures)
+    read-inside (replicate 8193 0) (drop 8 input) (at-most-fits (length input / 8 - 1) 8193 (q .words-at-most .ensures)) (p .read-words .ensures)
 
 slice-aggregate-cowhirame-tally : tie.Need-slice-aggregate-cowhirame-tally
 slice-aggregate-cowhirame-tally c =
     let p = c .before .before .before in
     let q = p .before .before in
     let input = now (q .before .before .before .args .input) in
-    read-length (replicate 8193 0) (drop 8 input) (cut-fits (length input / 8 - 1) (q .cut .ensures)) (p .read-words .ensures)
+    read-length (replicate 8193 0) (drop 8 input) (at-most-fits (length input / 8 - 1) 8193 (q .words-at-most .ensures)) (p .read-words .ensures)
 
 cowhirame-tally-requires : tie.Need-cowhirame-tally-requires
 cowhirame-tally-requires c κs = search needs
 
-slice-aggregate-put-numbers : tie.Need-slice-aggregate-put-numbers
-slice-aggregate-put-numbers c =
+slice-aggregate-put-number-line : tie.Need-slice-aggregate-put-number-line
+slice-aggregate-put-number-line c =
     let p = c .before .before in
     let q = p .before .before .before in
     let u = q .before .before in
-    tally-eleven (take (u .before .before .cut .result) (u .read-words .last .0)) (q .word-at .result) (p .cowhirame-tally .ensures)
+    tally-eleven (take (u .before .before .words-at-most .result) (u .read-words .last .0)) (q .word-at .result) (p .cowhirame-tally .ensures)
 
-put-numbers-requires : tie.Need-put-numbers-requires
-put-numbers-requires c κs =
-    let eleven = slice-aggregate-put-numbers c in
+put-number-line-requires : tie.Need-put-number-line-requires
+put-number-line-requires c κs =
+    let eleven = slice-aggregate-put-number-line c in
     (omega (arith, eleven), omega (arith, eleven, c .before .before .before .before .before .before .before .before .before .before .before .before .pre .0))
 
 returns : tie.Need-returns
@@ -64,7 +65,7 @@ returns c =
     let u = q .before .before .before in
     let v = u .before .before in
     let w = v .before .before in
-    tally-put (now (w .before .before .before .args .input)) (w .cut .ensures) (v .read-words .ensures) (u .word-at .ensures) (q .cowhirame-tally .ensures) (p .put-numbers .ensures)
+    tally-put (now (w .before .before .before .args .input)) (w .words-at-most .ensures) (v .read-words .ensures) (u .word-at .ensures) (q .cowhirame-tally .ensures) (p .put-number-line .ensures)
 
 same-length : tie.Need-same-length
 same-length c = put-length (returns c)
@@ -73,15 +74,15 @@ pub put-tally-spec : {M : Type 1} → statement M
 put-tally-spec =
     tie.close
     (tie.spec
-    sub-cut
-    cut-requires
+    sub-words-at-most
+    words-at-most-requires
     slice-aggregate-read-words
     read-words-requires
     word-at-requires
     array-share-prefix-image
     slice-aggregate-cowhirame-tally
     cowhirame-tally-requires
-    slice-aggregate-put-numbers
-    put-numbers-requires
+    slice-aggregate-put-number-line
+    put-number-line-requires
     same-length
     returns)

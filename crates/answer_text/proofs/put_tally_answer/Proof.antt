@@ -1,24 +1,31 @@
+-- The answer of the tally is its line, or that of a malformed input.
 use denote.Ref.{now}
-use Rattle.listing_text.proofs.PutLaws.{put-same, put-length}
-use Rattle.answer_text.proofs.ImageLaws.{tally-cut, tally-empty, tally-whole}
+use Rattle.text.proofs.PutLaws.{put-same, put-length}
+use Rattle.answer_text.proofs.AnswersLaws.{tally-within-word, tally-empty, tally-whole}
 use borrow.Author.Needs.{needs}
 use Rattle.answer_text.proofs.put_tally_answer.Statement.{statement}
 use Rattle.answer_text.proofs.put_tally_answer.Tie as tie
 
-put-malformed-requires : tie.Need-put-malformed-requires
-put-malformed-requires c κs = search needs
+put-malformed-tally-requires : tie.Need-put-malformed-tally-requires
+put-malformed-tally-requires c κs = search needs
 
 returns : tie.Need-returns
-returns c = put-same (tally-cut (now (c .before .before .before .before .before .before .before .args .input)) (c .before .before .before .before .if1 .taken)) (c .before .before .put-malformed .ensures)
+returns c =
+    let args = c .before .before .before .before .before .before .before .args in
+    let if1 = c .before .before .before .before .if1 .taken in
+    put-same (tally-within-word (now (args .input)) if1) (c .before .before .put-malformed-tally .ensures)
 
 same-length : tie.Need-same-length
 same-length c = put-length (returns c)
 
-put-malformed-requires-2 : tie.Need-put-malformed-requires-2
-put-malformed-requires-2 c κs = search needs
+put-malformed-tally-requires-2 : tie.Need-put-malformed-tally-requires-2
+put-malformed-tally-requires-2 c κs = search needs
 
 returns-2 : tie.Need-returns-2
-returns-2 c = put-same (tally-empty (now (c .before .before .before .before .before .before .before .before .args .input)) (c .before .before .before .before .if2 .taken)) (c .before .before .put-malformed2 .ensures)
+returns-2 c =
+    let args = c .before .before .before .before .before .before .before .before .args in
+    let if2 = c .before .before .before .before .if2 .taken in
+    put-same (tally-empty (now (args .input)) if2) (c .before .before .put-malformed-tally2 .ensures)
 
 same-length-2 : tie.Need-same-length-2
 same-length-2 c = put-length (returns-2 c)
@@ -39,10 +46,10 @@ pub put-tally-answer-spec : {M : Type 1} → statement M
 put-tally-answer-spec =
     tie.close
     (tie.spec
-    put-malformed-requires
+    put-malformed-tally-requires
     same-length
     returns
-    put-malformed-requires-2
+    put-malformed-tally-requires-2
     same-length-2
     returns-2
     put-tally-requires

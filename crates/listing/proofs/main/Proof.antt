@@ -1,3 +1,4 @@
+-- The part of the text that holds the listing is written.
 use mathlib.Core.Path.{sym}
 use lib.Seq.{length-take-le}
 use borrow.Author.Needs.{needs}

@@ -1,5 +1,6 @@
+-- The listing of an input stands in front of the text.
 use borrow.Author.Needs.{needs}
-use Rattle.listing_text.proofs.InputLaws.{in-front}
+use Rattle.text.proofs.PutLaws.{in-front}
 use Rattle.listing_text.proofs.listing_text.Statement.{statement}
 use Rattle.listing_text.proofs.listing_text.Tie as tie
 

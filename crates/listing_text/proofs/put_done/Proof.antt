@@ -1,47 +1,31 @@
-use native.Mathlib.Omega.{arith}
-use mathlib.Core.Path.{refl}
+-- The last line of a finished run is the word done and the number of records.
+use Rattle.model.specs.Listing.{ascii}
 use borrow.Author.Needs.{needs}
-use Rattle.listing_text.proofs.PutLaws.{put-same, put-then, put-length, room-front, room-rest}
-use Rattle.listing_text.proofs.EndLaws.{done-is, done-room}
 use Rattle.listing_text.proofs.put_done.Statement.{statement}
 use Rattle.listing_text.proofs.put_done.Tie as tie
 
-slice-aggregate-put-bytes : tie.Need-slice-aggregate-put-bytes
-slice-aggregate-put-bytes c = search needs
+slice-aggregate-put-named-line : tie.Need-slice-aggregate-put-named-line
+slice-aggregate-put-named-line c = search needs
 
-put-bytes-requires : tie.Need-put-bytes-requires
-put-bytes-requires c κs = room-front _ refl (done-room (c .before .before .before .args .records) _ (omega arith) (c .before .before .before .pre))
+slice-aggregate-put-named-line-2 : tie.Need-slice-aggregate-put-named-line-2
+slice-aggregate-put-named-line-2 c = search needs
 
-put-word-requires : tie.Need-put-word-requires
-put-word-requires c κs =
-    let p = c .before .before .before in
-    let q = p .before .before .before .before in
-    room-front _ refl (room-rest _ refl (done-room (q .args .records) _ (omega arith) (q .pre)) (p .put-bytes .ensures))
-
-put-requires : tie.Need-put-requires
-put-requires c κs =
-    let p = c .before .before .before in
-    let q = p .before .before .before .before in
-    let u = q .before .before .before .before in
-    room-rest _ refl (room-rest _ refl (done-room (u .args .records) _ (omega arith) (u .pre)) (q .put-bytes .ensures)) (p .put-word .ensures)
-
-returns : tie.Need-returns
-returns c =
-    let p = c .before .before in
-    let q = p .before .before .before .before in
-    let u = q .before .before .before .before in
-    put-same (done-is _) (put-then (u .put-bytes .ensures) (put-then (q .put-word .ensures) (p .put .ensures)))
+put-named-line-requires : tie.Need-put-named-line-requires
+put-named-line-requires c κs = search needs
 
 same-length : tie.Need-same-length
-same-length c = put-length (returns c)
+same-length c = search needs
+
+returns : tie.Need-returns
+unfolding ascii
+returns c = c .before .before .put-named-line .ensures .put
 
 pub put-done-spec : {M : Type 1} → statement M
 put-done-spec =
     tie.close
     (tie.spec
-    slice-aggregate-put-bytes
-    put-bytes-requires
-    put-word-requires
-    put-requires
+    slice-aggregate-put-named-line
+    slice-aggregate-put-named-line-2
+    put-named-line-requires
     same-length
     returns)

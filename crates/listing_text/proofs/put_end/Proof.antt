@@ -1,8 +1,9 @@
+-- The closing lines of an answer are its last line, behind the calls of a refused run.
 use mathlib.Core.Path.{sym}
 use borrow.Author.Needs.{needs}
 use denote.Ref.{now}
-use Rattle.listing_text.proofs.PutLaws.{put-length}
-use Rattle.listing_text.proofs.EndLaws.{end-done, calls-inside, calls-room, last-room, end-refused}
+use Rattle.text.proofs.PutLaws.{put-length}
+use Rattle.listing_text.proofs.EndTextLaws.{end-done, calls-inside, calls-room, last-room, end-refused}
 use lib.Seq.{length-take-le}
 use Rattle.listing_text.proofs.put_end.Statement.{statement}
 use Rattle.listing_text.proofs.put_end.Tie as tie
@@ -17,7 +18,10 @@ enum-known-r-2 : tie.Need-enum-known-r-2
 enum-known-r-2 c = search needs
 
 slice-aggregate-put-trace : tie.Need-slice-aggregate-put-trace
-slice-aggregate-put-trace c = sym (length-take-le _ _ (calls-inside (now (c .before .before .before .before .before .before .before .args .trace)) (c .before .before .before .r2 .given .1) (c .before .before .before .before .before .before .before .pre .0)))
+slice-aggregate-put-trace c =
+    let args = c .before .before .before .before .before .before .before .args in
+    let pre = c .before .before .before .before .before .before .before .pre in
+    sym (length-take-le _ _ (calls-inside (now (args .trace)) (c .before .before .before .r2 .given .1) (pre .0)))
 
 put-trace-requires : tie.Need-put-trace-requires
 put-trace-requires c κs =

@@ -1,30 +1,34 @@
+-- The line of a call is the word from, its scope and its place.
 use native.Mathlib.Omega.{arith}
-use mathlib.Core.Path.{refl}
+use Rattle.model.specs.Listing.{ascii}
 use borrow.Author.Needs.{needs}
-use Rattle.listing_text.proofs.PutLaws.{put-then, put-length, room-front, room-rest}
-use Rattle.listing_text.proofs.EndLaws.{from-room, from-most}
 use Rattle.listing_text.proofs.put_from.Statement.{statement}
 use Rattle.listing_text.proofs.put_from.Tie as tie
 
-slice-aggregate-put-bytes : tie.Need-slice-aggregate-put-bytes
-slice-aggregate-put-bytes c = search needs
+slice-aggregate-put-named-line : tie.Need-slice-aggregate-put-named-line
+slice-aggregate-put-named-line c = search needs
 
-put-bytes-requires : tie.Need-put-bytes-requires
-put-bytes-requires c κs = room-front _ refl (from-room (c .before .before .before .args .scope) (c .before .before .before .args .place) _ (omega arith) (omega arith) (c .before .before .before .pre))
+slice-aggregate-put-named-line-2 : tie.Need-slice-aggregate-put-named-line-2
+slice-aggregate-put-named-line-2 c = search needs
 
-put-two-requires : tie.Need-put-two-requires
-put-two-requires c κs =
-    let p = c .before .before .before in
-    let q = p .before .before .before .before in
-    room-rest _ refl (from-room (q .args .scope) (q .args .place) _ (omega arith) (omega arith) (q .pre)) (p .put-bytes .ensures)
-
-returns : tie.Need-returns
-returns c = from-most (omega arith) (omega arith) (put-then (c .before .before .before .before .before .before .put-bytes .ensures) (c .before .before .put-two .ensures))
+put-named-line-requires : tie.Need-put-named-line-requires
+put-named-line-requires c κs = search needs
 
 same-length : tie.Need-same-length
-same-length c = put-length (returns c .put)
+same-length c = search needs
+
+returns : tie.Need-returns
+unfolding ascii
+returns c =
+    let put-named-line = c .before .before .put-named-line .ensures in
+    record { put = put-named-line .put; few = omega (arith, put-named-line .few) }
 
 pub put-from-spec : {M : Type 1} → statement M
 put-from-spec =
     tie.close
-    (tie.spec slice-aggregate-put-bytes put-bytes-requires put-two-requires same-length returns)
+    (tie.spec
+    slice-aggregate-put-named-line
+    slice-aggregate-put-named-line-2
+    put-named-line-requires
+    same-length
+    returns)

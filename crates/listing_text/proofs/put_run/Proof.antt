@@ -1,10 +1,19 @@
+-- The text of a run is the lines of its records and the closing lines.
 use Prim.Native.Nat.{ℕ}
 use borrow.Author.Needs.{needs}
-use Rattle.listing_text.proofs.PutLaws.{put-length}
+use Rattle.text.proofs.PutLaws.{put-length}
 use Rattle.listing_text.proofs.RunLaws.{prefix-inside, prefix-length, prefix-recorded, lines-room, trace-inside, trace-short, end-room, run-put}
-use lib.ListN.{length-replicate}
+use mathlib.Core.Path.{_≡_}
+use lib.ListN.{length, replicate, length-replicate}
 use Rattle.listing_text.proofs.put_run.Statement.{statement}
 use Rattle.listing_text.proofs.put_run.Tie as tie
+
+-- the output and the trace that a listing has room for
+out-length : length (replicate {A = ℕ} 8192 0) ≡ 8192
+out-length = length-replicate {A = ℕ} 8192 0
+
+trace-length : length (replicate {A = ℕ} 256 0) ≡ 256
+trace-length = length-replicate {A = ℕ} 256 0
 
 slice-aggregate-run : tie.Need-slice-aggregate-run
 slice-aggregate-run c = search needs
@@ -19,17 +28,22 @@ position-of-requires : tie.Need-position-of-requires
 position-of-requires c κs = tt
 
 array-share-prefix-out : tie.Need-array-share-prefix-out
-array-share-prefix-out c = prefix-inside (c .before .before .before .before .run .ensures) (length-replicate {A = ℕ} 8192 0) (length-replicate {A = ℕ} 256 0) (c .before .position-of .ensures)
+array-share-prefix-out c =
+    let run = c .before .before .before .before .run .ensures in
+    prefix-inside run out-length trace-length (c .before .position-of .ensures)
 
 slice-aggregate-put-records : tie.Need-slice-aggregate-put-records
-slice-aggregate-put-records c = prefix-length (c .before .before .before .before .before .run .ensures) (length-replicate {A = ℕ} 8192 0) (length-replicate {A = ℕ} 256 0) (c .before .before .position-of .ensures)
+slice-aggregate-put-records c =
+    let run = c .before .before .before .before .before .run .ensures in
+    prefix-length run out-length trace-length (c .before .before .position-of .ensures)
 
 put-records-requires : tie.Need-put-records-requires
 put-records-requires c κs =
     let p = c .before .before in
     let q = p .before .before .before in
     let u = q .before .before .before .before .before in
-    (prefix-recorded (q .run .ensures) (length-replicate {A = ℕ} 8192 0) (length-replicate {A = ℕ} 256 0) (p .position-of .ensures), lines-room (q .run .ensures) (length-replicate {A = ℕ} 8192 0) (length-replicate {A = ℕ} 256 0) (p .position-of .ensures) _ (u .pre))
+    (prefix-recorded (q .run .ensures) out-length trace-length (p .position-of .ensures),
+    lines-room (q .run .ensures) out-length trace-length (p .position-of .ensures) _ (u .pre))
 
 slice-aggregate-put-end : tie.Need-slice-aggregate-put-end
 slice-aggregate-put-end c = search needs
@@ -40,7 +54,9 @@ put-end-requires c κs =
     let q = p .before .before .before in
     let u = q .before .before .before in
     let v = u .before .before .before .before .before in
-    (trace-inside (u .run .ensures) (length-replicate {A = ℕ} 8192 0) (length-replicate {A = ℕ} 256 0) (q .position-of .ensures), trace-short (u .run .ensures) (length-replicate {A = ℕ} 8192 0) (length-replicate {A = ℕ} 256 0) (q .position-of .ensures), end-room (u .run .ensures) (length-replicate {A = ℕ} 8192 0) (length-replicate {A = ℕ} 256 0) (q .position-of .ensures) (p .put-records .ensures) (v .pre))
+    (trace-inside (u .run .ensures) out-length trace-length (q .position-of .ensures),
+    trace-short (u .run .ensures) out-length trace-length (q .position-of .ensures),
+    end-room (u .run .ensures) out-length trace-length (q .position-of .ensures) (p .put-records .ensures) (v .pre))
 
 returns : tie.Need-returns
 returns c =
@@ -48,7 +64,7 @@ returns c =
     let q = p .before .before .before .before .before in
     let u = q .before .before .before in
     let v = u .before .before .before in
-    run-put (v .run .ensures) (length-replicate {A = ℕ} 8192 0) (length-replicate {A = ℕ} 256 0) (u .position-of .ensures) (q .put-records .ensures) (p .put-end .ensures)
+    run-put (v .run .ensures) out-length trace-length (u .position-of .ensures) (q .put-records .ensures) (p .put-end .ensures)
 
 same-length : tie.Need-same-length
 same-length c = put-length (returns c)

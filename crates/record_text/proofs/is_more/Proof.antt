@@ -1,4 +1,5 @@
-use Rattle.record_text.proofs.LastLaws.{few-bytes, many-bytes}
+-- The test whether words are left of a long input that begins with a record.
+use Rattle.record_text.proofs.ReadBackLaws.{few-bytes, many-bytes}
 use Rattle.record_text.proofs.is_more.Statement.{statement}
 use Rattle.record_text.proofs.is_more.Tie as tie
 

@@ -1,5 +1,6 @@
+-- What is read back of an input stands in front of the text.
 use borrow.Author.Needs.{needs}
-use Rattle.listing_text.proofs.InputLaws.{in-front}
+use Rattle.text.proofs.PutLaws.{in-front}
 use Rattle.record_text.proofs.read_back.Statement.{statement}
 use Rattle.record_text.proofs.read_back.Tie as tie
 

@@ -1,3 +1,4 @@
+-- The loop that reads what is left ends, since it counts its turns.
 use borrow.Author.Needs.{needs}
 use Rattle.standard_input.proofs.read_rest.Statement.{statement}
 use Rattle.standard_input.proofs.read_rest.Tie as tie

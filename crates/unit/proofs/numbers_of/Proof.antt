@@ -1,3 +1,4 @@
+-- The numbers of a run's answer are those of document 01.
 use mathlib.Core.Path.{refl}
 use borrow.Author.Needs.{needs}
 use Rattle.model.specs.Run.{answerNumbers}
@@ -10,8 +11,8 @@ enum-told c = search needs
 enum-known-r : tie.Need-enum-known-r
 enum-known-r c = search needs
 
-of-kind-requires : tie.Need-of-kind-requires
-of-kind-requires c κs = search needs
+refusal-numbers-requires : tie.Need-refusal-numbers-requires
+refusal-numbers-requires c κs = search needs
 
 returns : tie.Need-returns
 unfolding answerNumbers
@@ -19,7 +20,7 @@ returns c = record { each = λ t. rw (c .enum-told .given .1) refl }
 
 returns-2 : tie.Need-returns-2
 unfolding answerNumbers
-returns-2 c = record { each = λ t. rw (c .before .before .r .given .1) (c .of-kind .ensures .each t) }
+returns-2 c = record { each = λ t. rw (c .before .before .r .given .1) (c .refusal-numbers .ensures .each t) }
 
 pub numbers-of-spec : {M : Type 1} → statement M
-numbers-of-spec = tie.close (tie.spec enum-told enum-known-r of-kind-requires returns returns-2)
+numbers-of-spec = tie.close (tie.spec enum-told enum-known-r refusal-numbers-requires returns returns-2)

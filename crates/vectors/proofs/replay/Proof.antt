@@ -1,17 +1,19 @@
+-- Every line of a file is replayed, and no count passes the position.
 use mathlib.Core.Logic.{⊎-elim}
 use native.Mathlib.Omega.{arith}
+use mathlib.Core.Path.{_≡_, ap}
 use Prim.Native.Nat.{_≤_, _-_}
 use lib.ListN.{length}
 use borrow.Author.Needs.{needs}
 use Rattle.vectors.proofs.replay.Statement.{statement}
 use Rattle.vectors.proofs.replay.Tie as tie
 
--- a line has at least its line feed, so no count passes the position
+-- a line has at least its line feed
 abbrev Inv-loop : tie.InvT-loop
-Inv-loop input listings₀ agree₀ line-number₀ at₀ listings agree line-number at = (agree ≤ listings) × ((listings ≤ line-number) × ((line-number ≤ at) × (at ≤ length input)))
+Inv-loop sort input words₀ vectors₀ agree₀ line-number₀ at₀ words vectors agree line-number at = (agree ≤ vectors) × ((vectors ≤ line-number) × ((line-number ≤ at) × ((at ≤ length input) × (length words ≡ 8200))))
 
 abbrev μ-loop : tie.MeasureT-loop
-μ-loop input listings₀ agree₀ line-number₀ at₀ listings agree line-number at = length input - at
+μ-loop sort input words₀ vectors₀ agree₀ line-number₀ at₀ words vectors agree line-number at = length input - at
 
 loop-holds : tie.Need-loop-holds Inv-loop μ-loop
 loop-holds c = search needs
@@ -19,17 +21,17 @@ loop-holds c = search needs
 add-line-number : tie.Need-add-line-number Inv-loop μ-loop
 add-line-number c = search needs
 
-end-requires : tie.Need-end-requires Inv-loop μ-loop
-end-requires c κs = search needs
+line-end-requires : tie.Need-line-end-requires Inv-loop μ-loop
+line-end-requires c κs = search needs
 
-say-cut-off-requires : tie.Need-say-cut-off-requires Inv-loop μ-loop
-say-cut-off-requires c κs = search needs
+say-ends-within-requires : tie.Need-say-ends-within-requires Inv-loop μ-loop
+say-ends-within-requires c κs = search needs
 
 shared-slice-read-if2 : tie.Need-shared-slice-read-if2 Inv-loop μ-loop
 shared-slice-read-if2 c = search needs
 
-add-listings : tie.Need-add-listings Inv-loop μ-loop
-add-listings c = search needs
+add-vectors : tie.Need-add-vectors Inv-loop μ-loop
+add-vectors c = search needs
 
 add-line-agrees : tie.Need-add-line-agrees Inv-loop μ-loop
 add-line-agrees c = search needs
@@ -42,6 +44,9 @@ part-line-agrees-start c = search needs
 
 part-line-agrees-end : tie.Need-part-line-agrees-end Inv-loop μ-loop
 part-line-agrees-end c = search needs
+
+slice-aggregate-line-agrees : tie.Need-slice-aggregate-line-agrees Inv-loop μ-loop
+slice-aggregate-line-agrees c = search needs
 
 line-agrees-requires : tie.Need-line-agrees-requires Inv-loop μ-loop
 line-agrees-requires c κs = search needs
@@ -56,7 +61,11 @@ loop-less : tie.Need-loop-less Inv-loop μ-loop
 loop-less c = search needs
 
 loop-again : tie.Need-loop-again Inv-loop μ-loop
-loop-again c = ⊎-elim (λ w. omega arith) (⊎-elim (λ w. omega arith) (λ w. omega arith)) (c .if2 .came)
+loop-again c =
+    ⊎-elim
+    (λ w. omega (arith, ap length (w .6), w .3 .kept .1))
+    (⊎-elim (λ w. omega (arith, ap length (w .6), w .3 .kept .1)) (λ w. omega (arith, ap length (w .1))))
+    (c .if2 .came)
 
 say-counts-requires : tie.Need-say-counts-requires Inv-loop μ-loop
 say-counts-requires c κs = search needs
@@ -72,14 +81,15 @@ replay-spec =
     μ-loop
     loop-holds
     add-line-number
-    end-requires
-    say-cut-off-requires
+    line-end-requires
+    say-ends-within-requires
     shared-slice-read-if2
-    add-listings
+    add-vectors
     add-line-agrees
     sub-line-agrees
     part-line-agrees-start
     part-line-agrees-end
+    slice-aggregate-line-agrees
     line-agrees-requires
     add-agree
     add-at

@@ -1,0 +1,4 @@
+pub mod Put
+pub mod NumberLine
+pub mod RecordLine
+pub mod SameBytes

@@ -1,0 +1,35 @@
+-- The part of the text that was answered is compared.
+use mathlib.Core.Path.{sym}
+use lib.Seq.{length-take-le}
+use borrow.Author.Needs.{needs}
+use Rattle.vectors.proofs.answers.check_answer_agrees.Statement.{statement}
+use Rattle.vectors.proofs.answers.check_answer_agrees.Tie as tie
+
+text-room-requires : tie.Need-text-room-requires
+text-room-requires c κs = search needs
+
+check-answer-requires : tie.Need-check-answer-requires
+check-answer-requires c κs = search needs
+
+array-share-prefix-text : tie.Need-array-share-prefix-text
+array-share-prefix-text c = c .check-answer .ensures .inside
+
+slice-aggregate-has-bytes : tie.Need-slice-aggregate-has-bytes
+slice-aggregate-has-bytes c = sym (length-take-le _ _ (c .before .check-answer .ensures .inside))
+
+has-bytes-requires : tie.Need-has-bytes-requires
+has-bytes-requires c κs = search needs
+
+returns : tie.Need-returns
+returns c = search needs
+
+pub check-answer-agrees-spec : {M : Type 1} → statement M
+check-answer-agrees-spec =
+    tie.close
+    (tie.spec
+    text-room-requires
+    check-answer-requires
+    array-share-prefix-text
+    slice-aggregate-has-bytes
+    has-bytes-requires
+    returns)

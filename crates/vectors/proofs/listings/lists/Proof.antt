@@ -1,0 +1,39 @@
+-- The part of the text that holds the listing is summed.
+use mathlib.Core.Path.{sym}
+use lib.Seq.{length-take-le}
+use borrow.Author.Needs.{needs}
+use Rattle.vectors.proofs.listings.lists.Statement.{statement}
+use Rattle.vectors.proofs.listings.lists.Tie as tie
+
+text-room-requires : tie.Need-text-room-requires
+text-room-requires c κs = search needs
+
+listing-text-requires : tie.Need-listing-text-requires
+listing-text-requires c κs = search needs
+
+returns : tie.Need-returns
+returns c = search needs
+
+array-share-prefix-text : tie.Need-array-share-prefix-text
+array-share-prefix-text c = c .before .listing-text .ensures .inside
+
+slice-aggregate-of-bytes : tie.Need-slice-aggregate-of-bytes
+slice-aggregate-of-bytes c = sym (length-take-le _ _ (c .before .before .listing-text .ensures .inside))
+
+of-bytes-requires : tie.Need-of-bytes-requires
+of-bytes-requires c κs = search needs
+
+returns-2 : tie.Need-returns-2
+returns-2 c = search needs
+
+pub lists-spec : {M : Type 1} → statement M
+lists-spec =
+    tie.close
+    (tie.spec
+    text-room-requires
+    listing-text-requires
+    returns
+    array-share-prefix-text
+    slice-aggregate-of-bytes
+    of-bytes-requires
+    returns-2)

@@ -1,0 +1,105 @@
+// A line of answers: the operation (1 check, 2 tally, 3 records), the number of the input's bytes and of its words, then the words and the
+// bytes of the answer.
+use crate::bytes;
+use crate::line;
+use crate::line::Words;
+use crate::report;
+use crate::report::Replayed;
+ghost use mathlib.Core.Path.{_≡_};
+ghost use Prim.Native.Nat.{_≤_};
+ghost use lib.ListN.{length};
+
+// Room for the lines of records that are read back.
+fn lines_room() -> [u8; 1441792]
+    ensures { λ r. ⌜ 1441792 ≡ length r ⌝ }
+{
+    [0; 1441792]
+}
+
+// Whether a byte of an answer is this.
+fn is_byte(byte: u8, expected: u64) -> bool {
+    byte as u64 == expected
+}
+
+// Whether an answer has these bytes.
+fn has_bytes(answer: &[u8], expected: &[u64]) -> bool {
+    if answer.len() != expected.len() {
+        return false;
+    }
+    let mut i = 0;
+    while i < answer.len() {
+        if !is_byte(answer[i], expected[i]) {
+            return false;
+        }
+        i += 1;
+    }
+    true
+}
+
+// Whether the check answers this.
+fn check_answer_agrees(input: &[u8], expected: &[u64]) -> bool {
+    let mut text = answer_text::text_room();
+    let n = answer_text::check_answer(input, &mut text);
+    has_bytes(&text[..n], expected)
+}
+
+// Whether the tally answers this.
+fn tally_answer_agrees(input: &[u8], expected: &[u64]) -> bool {
+    let mut text = answer_text::text_room();
+    let n = answer_text::tally_answer(input, &mut text);
+    has_bytes(&text[..n], expected)
+}
+
+// Whether reading records back answers this.
+fn records_answer_agrees(input: &[u8], expected: &[u64]) -> bool {
+    let mut text = lines_room();
+    let n = record_text::read_back(input, &mut text);
+    has_bytes(&text[..n], expected)
+}
+
+// Whether an operation answers this.
+fn agrees(operation: u64, input: &[u8], expected: &[u64]) -> bool {
+    match operation {
+        1 => check_answer_agrees(input, expected),
+        2 => tally_answer_agrees(input, expected),
+        3 => records_answer_agrees(input, expected),
+        _ => false,
+    }
+}
+
+// Whether an operation answers this to the first m bytes of some words.
+fn words_agree(operation: u64, words: &[u64], m: u64, expected: &[u64]) -> bool
+    requires { ⌜ length (now words) ≤ 8200 ⌝ }
+{
+    if m > 8 * words.len() as u64 {
+        return false;
+    }
+    let mut input = bytes::byte_room();
+    bytes::put_words_bytes(&mut input, 0, words);
+    let n = m as usize;
+    agrees(operation, &input[..n], expected)
+}
+
+// Whether the answer of a line is as it says: its words are those of the input, and then the bytes of the answer.
+fn line_agrees(words: &[u64], leading: &[u64; 3]) -> bool
+    requires { ⌜ length (now words) ≤ 8200 ⌝ }
+{
+    if leading[2] > words.len() as u64 {
+        return false;
+    }
+    let k = leading[2] as usize;
+    words_agree(leading[0], &words[..k], leading[1], &words[k..])
+}
+
+// Replays a line.
+pub fn replay_line(text: &[u8], words: &mut [u64]) -> Replayed {
+    let mut leading = [0u64; 3];
+    let read = line::read_line(text, &mut leading, words);
+    let Words::Read(n) = read else {
+        return Replayed::Malformed;
+    };
+    if n > line::WORDS_ROOM {
+        return Replayed::Malformed;
+    }
+    report::agreement(line_agrees(&words[..n], &leading))
+}
