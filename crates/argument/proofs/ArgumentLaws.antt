@@ -166,22 +166,22 @@ module _ {image : List ℕ} {l : Layout} {qubit-starts : List ℕ} {scope : ℕ}
             same-argument (ap (λ (n : ℕ). getD qubits n 0) read ∙ body-first image (s .accepted) qubits a scope h k) (body-size image (s .accepted) qubits a scope h),
           )
 
-      pub quantum-argument-is : scope ≡ 0 → registerArgument image 9 at ≡ resolved a
+      pub quantum-argument-is : {c : ℕ} → c ≡ 9 → scope ≡ 0 → registerArgument image c at ≡ resolved a
       unfolding firstQubit
-      quantum-argument-is h =
-          ap (registerArgument image 9) ea
+      quantum-argument-is e h =
+          ap₂ (registerArgument image) e ea
           ∙ same-argument (main-first image (s .accepted) qubits a scope (take (scopeQubits image scope) qubits) h) (main-size image (s .accepted) qubits a scope h)
 
-      pub quantum-part : scope ≡ 0 → RegisterEntry image qubit-starts 9 at
+      pub quantum-part : {c : ℕ} → c ≡ 9 → scope ≡ 0 → RegisterEntry image qubit-starts c at
       unfolding firstQubit
-      quantum-part h =
+      quantum-part {c} e h =
           let m = main-register image (s .accepted) qubits a scope h k in
           record {
             count = quantumRegisters image;
-            starts = s .starts;
+            starts = subst (λ (n : ℕ). RegisterStarts (λ i. word image (n + i)) (quantumRegisters image) qubit-starts) (sym e) (s .starts);
             few = few-quantum (s .accepted);
             listed = subst (λ (n : ℕ). word image n < quantumRegisters image) (sym ea) (m .0);
-            below = subst (λ (x : Argument). x .first < 4096) (sym (quantum-argument-is h)) (first-below a k);
+            below = subst (λ (x : Argument). x .first < 4096) (sym (quantum-argument-is e h)) (first-below a k);
             near = (omega arith, low);
           }
 

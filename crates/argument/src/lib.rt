@@ -44,15 +44,13 @@ pub fn resolve_qreg(
     requires { ⌜ ScopeContext (now image) l (now «qubit_starts») scope (now qubits) × AcceptedArgument (now image) l scope a ⌝ }
     ensures { λ r. ⌜ r ≡ quantumArgument (now (image .entry)) scope (now (qubits .entry)) a ⌝ }
 {
-    let at = image::argument_at(image, l, a);
+    let at = l.argument_at(a);
     if scope == 0 {
-        return register_part(image, qubit_starts, 9, at);
+        return register_part(image, qubit_starts, l.quantum_register_at(0), at);
     }
     let i = image::word(image, at) as usize;
-    Argument {
-        first: qubits[i],
-        size: 1,
-    }
+    let first = qubits[i];
+    Argument { first, size: 1 }
 }
 
 // A classical argument, which main alone has: a part of a register.
@@ -60,8 +58,8 @@ pub fn resolve_creg(image: &[u64], l: Layout, bit_starts: &[u64], c: u64) -> Arg
     requires { ⌜ BitContext (now image) l (now «bit_starts») × AcceptedBits (now image) l c ⌝ }
     ensures { λ r. ⌜ r ≡ classicalArgument (now (image .entry)) c ⌝ }
 {
-    let at = image::argument_at(image, l, c);
-    register_part(image, bit_starts, 9 + l.quantum_registers, at)
+    let at = l.argument_at(c);
+    register_part(image, bit_starts, l.classical_register_at(0), at)
 }
 
 // The number of the qubit or bit that an argument has in a round. An argument of size 1 stays, any other advances.

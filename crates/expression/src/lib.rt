@@ -158,7 +158,7 @@ fn is_constant(image: &[u64], l: Layout, kept_values: &[u64], e: u64) -> bool
     requires { ⌜ LayoutOf (now image) l × AcceptedExpression (now image) e × ConstantsKept (now image) (now «kept_values») ⌝ }
     ensures { λ r. ⌜ ((r ≡ true) → Constant (now (image .entry)) e) ⌝ }
 {
-    let at = image::expression_at(image, l, e);
+    let at = l.expression_at(e);
     let kind = image::word(image, at);
     if kind < 4 {
         return kind != 3;
@@ -191,7 +191,7 @@ fn worked_out(
         ⌝ }
     ensures { λ r. ⌜ Evaluated (now (image .entry)) (anglesIn (now (angles .entry))) e r (now (known .exit)) (now («kept_values» .exit)) ⌝ }
 {
-    let at = image::expression_at(image, l, e);
+    let at = l.expression_at(e);
     let kind = image::word(image, at);
     let a = image::word(image, at + 1);
     if kind < 4 {
@@ -262,7 +262,7 @@ fn evaluate_anew(
     if kept_values[7 * i] == 1 {
         return Evaluation::Value(value_at(kept_values, 7 * e + 1));
     }
-    let at = image::expression_at(image, l, e);
+    let at = l.expression_at(e);
     if image::word(image, at) == 3 {
         return nullary(angles, 3, image::word(image, at + 1));
     }
@@ -331,7 +331,7 @@ pub fn parameters(
         let e = image::word(image, place + i);
         let r = evaluate_anew(image, l, angles, kept_values, e);
         let Evaluation::Value(x) = r else {
-            let kind = refusal(r, image::expression_at(image, l, e));
+            let kind = refusal(r, l.expression_at(e));
             return Linearized::Refused(LinearizeError { kind, at });
         };
         put_value(given, 6 * i, x);

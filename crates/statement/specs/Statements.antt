@@ -44,11 +44,6 @@ pub record UStatement (image : List ℕ) (l : Layout) (scope place a : ℕ) : Ty
   pub expressions : ListedExpressions image (variables image scope) place 3
   pub argument : AcceptedArgument image l scope a
 
--- n arguments from a on are listed in the image
-pub record ListedArguments (image : List ℕ) (l : Layout) (a n : ℕ) : Type 0 where
-  pub laid : LayoutOf image l
-  pub listed : a + n ≤ l .arguments
-
 -- ---- the steps of a statement, from the qubits of its scope's frame
 
 -- a reset of each qubit of argument a

@@ -33,7 +33,7 @@ use Rattle.expression.proofs.keep_value.Reads as keep-value-reads
 use Rattle.expression.proofs.nullary.Reads as nullary-reads
 use Rattle.expression.proofs.unary.Reads as unary-reads
 use Rattle.expression.proofs.value_at.Reads as value-at-reads
-use Rattle.image.proofs.expression_at.Reads as expression-at-reads
+use Rattle.image.proofs.Layout.expression_at.Reads as expression-at-reads
 use Rattle.image.proofs.word.Reads as word-reads
 use Rattle.expression.proofs.+evaluate+worked_out.{statement}
 use Rattle.expression.proofs.+evaluate+worked_out.Tie.{close}
@@ -121,13 +121,13 @@ abbrev second : (t : ℕ) → Read t → ℕ
 second t b = word (words t b) (b .before .before .expression-at .result + 2)
 
 facts : (t : ℕ) (b : Read t) → (let f = entered t b .pre .1 .2 in let e = entered t b .args .e in Kinds (words t b) (f .variables) (operand (words t b) (f .variables) (angles t b) 32 e) (expressionAt (words t b) e) (b .word2 .result) (second t b) (b .before .word .result))
-facts t b = let s = entered t b in entry (words t b) (angles t b) (s .args .e) (s .pre .1 .2) _ _ _ (second t b) (b .before .before .expression-at .ensures) (b .before .word .ensures) (b .word2 .ensures) refl
+facts t b = let s = entered t b in entry (words t b) (angles t b) (s .args .e) (s .pre .1 .2) _ _ _ (second t b) (b .before .before .expression-at .ensures .in-image _ (s .pre .1 .0)) (b .before .word .ensures) (b .word2 .ensures) refl
 
 entry-value : (t : ℕ) (b : Read t) → evaluated (words t b) (angles t b) 32 (entered t b .args .e) ≡ valueOf (angles t b) (evaluated (words t b) (angles t b) 32) (expressionOf (b .before .word .result) (b .word2 .result) (second t b))
-entry-value t b = let s = entered t b in value-is (words t b) (angles t b) (s .args .e) (s .pre .1 .2) _ _ _ (second t b) (b .before .before .expression-at .ensures) (b .before .word .ensures) (b .word2 .ensures) refl
+entry-value t b = let s = entered t b in value-is (words t b) (angles t b) (s .args .e) (s .pre .1 .2) _ _ _ (second t b) (b .before .before .expression-at .ensures .in-image _ (s .pre .1 .0)) (b .before .word .ensures) (b .word2 .ensures) refl
 
 lower : (t : ℕ) (b : Read t) (i : ℕ) → T (operand (words t b) (entered t b .pre .1 .2 .variables) (angles t b) 32 (entered t b .args .e) i) → (i < entered t b .args .e) × AcceptedExpression (words t b) i
-lower t b i h = let s = entered t b in below (words t b) (angles t b) (s .args .e) (s .pre .1 .2) _ _ _ (second t b) (b .before .before .expression-at .ensures) (b .before .word .ensures) (b .word2 .ensures) refl i h
+lower t b i h = let s = entered t b in below (words t b) (angles t b) (s .args .e) (s .pre .1 .2) _ _ _ (second t b) (b .before .before .expression-at .ensures .in-image _ (s .pre .1 .0)) (b .before .word .ensures) (b .word2 .ensures) refl i h
 
 -- where the left operand is worked out, and where the right one is
 abbrev Left : ℕ → Type 0
@@ -271,13 +271,13 @@ evaluate-returns-5 t c =
     (value-given t before, (keeps-more (now (begun t before .args .image)) (angles-of t (begun t before)) _ _ (begun t before .args .e) _ _ _ _ (worked-out .1) (worked-out .0) (r .given .1) (before .keep-value .ensures)))
 
 worked-out-expression-at-requires : (t : ℕ) → worked-out-lts.Need-expression-at-requires (worked-out-callees t) (worked-out-at t) worked-out.Post
-worked-out-expression-at-requires t c κs = (c .before .before .pre .1 .0, near t (c .before .before))
+worked-out-expression-at-requires t c κs = (c .before .before .pre .1 .0 .limits, omega (arith, near t (c .before .before)))
 
 worked-out-word-requires : (t : ℕ) → worked-out-lts.Need-word-requires (worked-out-callees t) (worked-out-at t) worked-out.Post
 worked-out-word-requires t c κs = tt
 
 worked-out-add-word : (t : ℕ) → worked-out-lts.Need-add-word (worked-out-callees t) (worked-out-at t) worked-out.Post
-worked-out-add-word t c = record { fits = omega (arith, c .before .expression-at .ensures, within t (c .before .before .before .before)) }
+worked-out-add-word t c = let s = c .before .before .before .before in record { fits = omega (arith, c .before .expression-at .ensures .in-image _ (s .pre .1 .0), within t s) }
 
 worked-out-word-requires-2 : (t : ℕ) → worked-out-lts.Need-word-requires-2 (worked-out-callees t) (worked-out-at t) worked-out.Post
 worked-out-word-requires-2 t c κs = tt
@@ -331,7 +331,7 @@ worked-out-returns-3 t c =
 worked-out-add-word-2 : (t : ℕ) → worked-out-lts.Need-add-word-2 (worked-out-callees t) (worked-out-at t) worked-out.Post
 worked-out-add-word-2 t c =
     let before = c .before .before .before .before .before .before .before .before .before .before in
-    let b = before in record { fits = omega (arith, b .before .before .expression-at .ensures, within t (entered t b)) }
+    let b = before in record { fits = omega (arith, b .before .before .expression-at .ensures .in-image _ (entered t b .pre .1 .0), within t (entered t b)) }
 
 worked-out-word-requires-3 : (t : ℕ) → worked-out-lts.Need-word-requires-3 (worked-out-callees t) (worked-out-at t) worked-out.Post
 worked-out-word-requires-3 t c κs = tt

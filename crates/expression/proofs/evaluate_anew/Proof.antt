@@ -52,13 +52,15 @@ returns c =
     (constant-value (now (s .args .image)) (anglesIn (now (s .args .angles))) (now (s .args .kept-values)) (s .args .e) (c .value-at .result) (s .pre .0 .constants) (listed s) (c .before .before .if1 .taken) (c .value-at .ensures), s .pre .0 .constants)
 
 expression-at-requires : tie.Need-expression-at-requires
-expression-at-requires c κs = let s = c .before .before .before .before in (s .pre .0 .laid, omega (arith, within s))
+expression-at-requires c κs = let s = c .before .before .before .before in (s .pre .0 .laid .limits, omega (arith, within s))
 
 word-requires : tie.Need-word-requires
 word-requires c κs = tt
 
 add-word : tie.Need-add-word
-add-word c = record { fits = omega (arith, c .before .before .expression-at .ensures, within (c .before .before .before .before .before .before .before)) }
+add-word c =
+    let s = c .before .before .before .before .before .before .before in
+    record { fits = omega (arith, c .before .before .expression-at .ensures .in-image _ (s .pre .0 .laid), within s) }
 
 word-requires-2 : tie.Need-word-requires-2
 word-requires-2 c κs = tt
@@ -66,16 +68,15 @@ word-requires-2 c κs = tt
 nullary-requires : tie.Need-nullary-requires
 nullary-requires c κs =
     let s = c .before .before .before .before .before .before .before .before in
-    (s .pre .0 .sound, omega arith, (λ e. absurd (omega arith)), λ e. let k = entry (now (s .args .image)) (anglesIn (now (s .args .angles))) (s .args .e) (s .pre .1) _ _ _ (word (now (s .args .image)) (c .before .before .before .expression-at .result + 2)) (c .before .before .before .expression-at .ensures) (c .before .before .word .ensures) (c .word2 .ensures) refl in let h = k .variable (c .before .if2 .taken) in omega (arith, s .pre .1 .few))
+    (s .pre .0 .sound, omega arith, (λ e. absurd (omega arith)), λ e. let k = entry (now (s .args .image)) (anglesIn (now (s .args .angles))) (s .args .e) (s .pre .1) _ _ _ (word (now (s .args .image)) (c .before .before .before .expression-at .result + 2)) (c .before .before .before .expression-at .ensures .in-image _ (s .pre .0 .laid)) (c .before .before .word .ensures) (c .word2 .ensures) refl in let h = k .variable (c .before .if2 .taken) in omega (arith, s .pre .1 .few))
 
 returns-2 : tie.Need-returns-2
 returns-2 c =
     let s = c .before .before .before .before .before .before .before .before .before in
     let expression-at = c .before .before .before .before .expression-at in
-    let expression-at-2 = c .before .before .before .before .expression-at .ensures in
     let image = now (s .args .image) in
     let b = word image (expression-at .result + 2) in
-    (record { is = c .nullary .ensures .value _ b ∙ ap (λ k. valueOf (anglesIn (now (s .args .angles))) (evaluated image (anglesIn (now (s .args .angles))) 32) (expressionOf k (c .before .word2 .result) b)) (sym (c .before .before .if2 .taken)) ∙ sym (value-is image (anglesIn (now (s .args .angles))) (s .args .e) (s .pre .1) _ _ _ b (expression-at .ensures) (c .before .before .before .word .ensures) (c .before .word2 .ensures) refl); sound = c .nullary .ensures .sound }, s .pre .0 .constants)
+    (record { is = c .nullary .ensures .value _ b ∙ ap (λ k. valueOf (anglesIn (now (s .args .angles))) (evaluated image (anglesIn (now (s .args .angles))) 32) (expressionOf k (c .before .word2 .result) b)) (sym (c .before .before .if2 .taken)) ∙ sym (value-is image (anglesIn (now (s .args .angles))) (s .args .e) (s .pre .1) _ _ _ b (expression-at .ensures .in-image _ (s .pre .0 .laid)) (c .before .before .before .word .ensures) (c .before .word2 .ensures) refl); sound = c .nullary .ensures .sound }, s .pre .0 .constants)
 
 evaluate-requires : tie.Need-evaluate-requires
 evaluate-requires c κs =

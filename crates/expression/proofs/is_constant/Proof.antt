@@ -25,10 +25,10 @@ abbrev second : tie.After-word2 → ℕ
 second w = word (now (start w .args .image)) (w .before .before .before .expression-at .result + 2)
 
 facts : (w : tie.After-word2) → (let f = start w .pre .1 in let image = now (start w .args .image) in Kinds image (f .variables) (operand image (f .variables) [] 32 (start w .args .e)) (expressionAt image (start w .args .e)) (w .word2 .result) (second w) (w .before .before .word .result))
-facts w = let s = start w in entry (now (s .args .image)) [] (s .args .e) (s .pre .1) _ _ _ (second w) (w .before .before .before .expression-at .ensures) (w .before .before .word .ensures) (w .word2 .ensures) refl
+facts w = let s = start w in entry (now (s .args .image)) [] (s .args .e) (s .pre .1) _ _ _ (second w) (w .before .before .before .expression-at .ensures .in-image _ (s .pre .0)) (w .before .before .word .ensures) (w .word2 .ensures) refl
 
 operand-inside : (w : tie.After-word2) (i : ℕ) → T (operand (now (start w .args .image)) (start w .pre .1 .variables) [] 32 (start w .args .e) i) → i < expressions (now (start w .args .image))
-operand-inside w i h = let s = start w in inside (now (s .args .image)) i (below (now (s .args .image)) [] (s .args .e) (s .pre .1) _ _ _ (second w) (w .before .before .before .expression-at .ensures) (w .before .before .word .ensures) (w .word2 .ensures) refl i h .1)
+operand-inside w i h = let s = start w in inside (now (s .args .image)) i (below (now (s .args .image)) [] (s .args .e) (s .pre .1) _ _ _ (second w) (w .before .before .before .expression-at .ensures .in-image _ (s .pre .0)) (w .before .before .word .ensures) (w .word2 .ensures) refl i h .1)
 
 left : (w : tie.After-word2) → w .word2 .result < expressions (now (start w .args .image))
 left w = operand-inside w (w .word2 .result) (facts w .left (omega (arith, w .before .if1 .left)))
@@ -41,7 +41,7 @@ right v =
 expression-at-requires : tie.Need-expression-at-requires
 expression-at-requires c κs =
     let s = c .before .before in
-    (s .pre .0, omega (arith, s .pre .0 .whole, s .pre .0 .short, inside (now (s .args .image)) (s .args .e) (s .pre .1)))
+    (s .pre .0 .limits, omega (arith, s .pre .0 .whole, s .pre .0 .short, inside (now (s .args .image)) (s .args .e) (s .pre .1)))
 
 word-requires : tie.Need-word-requires
 word-requires c κs = search needs
@@ -49,10 +49,12 @@ word-requires c κs = search needs
 returns : tie.Need-returns
 returns c =
     let before = c .before .before .before .before .before in
-    λ q. let s = before in constant-nullary (now (s .args .image)) (s .args .e) (s .pre .1) _ _ _ _ (c .before .before .expression-at .ensures) (c .before .word .ensures) refl refl (let n : ¬ (c .before .word .result ≡ 3) = eqb-false (c .before .word .result) 3 (not-true (eqb (c .before .word .result) 3) q) in omega (arith, n, c .if1 .taken))
+    λ q. let s = before in constant-nullary (now (s .args .image)) (s .args .e) (s .pre .1) _ _ _ _ (c .before .before .expression-at .ensures .in-image _ (s .pre .0)) (c .before .word .ensures) refl refl (let n : ¬ (c .before .word .result ≡ 3) = eqb-false (c .before .word .result) 3 (not-true (eqb (c .before .word .result) 3) q) in omega (arith, n, c .if1 .taken))
 
 add-word : tie.Need-add-word
-add-word c = record { fits = omega (arith, c .before .before .expression-at .ensures, within (c .before .before .before .before .before)) }
+add-word c =
+    let s = c .before .before .before .before .before in
+    record { fits = omega (arith, c .before .before .expression-at .ensures .in-image _ (s .pre .0), within s) }
 
 word-requires-2 : tie.Need-word-requires-2
 word-requires-2 c κs = search needs
@@ -70,12 +72,12 @@ returns-2 : tie.Need-returns-2
 returns-2 c = λ q. absurd (subst T (sym q) tt)
 
 returns-3 : tie.Need-returns-3
-returns-3 c = λ q. let w = c .before .before .before in let s = start w in constant-one (now (s .args .image)) (s .args .e) (s .pre .1) _ _ _ (second w) (w .before .before .before .expression-at .ensures) (w .before .before .word .ensures) (w .word2 .ensures) refl (omega (arith, c .if3 .taken)) (facts w .known) (kept-constant _ _ _ (s .pre .2) (left w) (c .before .if2 .left))
+returns-3 c = λ q. let w = c .before .before .before in let s = start w in constant-one (now (s .args .image)) (s .args .e) (s .pre .1) _ _ _ (second w) (w .before .before .before .expression-at .ensures .in-image _ (s .pre .0)) (w .before .before .word .ensures) (w .word2 .ensures) refl (omega (arith, c .if3 .taken)) (facts w .known) (kept-constant _ _ _ (s .pre .2) (left w) (c .before .if2 .left))
 
 add-word-2 : tie.Need-add-word-2
 add-word-2 c =
     let w = c .before .before .before in
-    record { fits = omega (arith, w .before .before .before .expression-at .ensures, within (start w)) }
+    record { fits = omega (arith, w .before .before .before .expression-at .ensures .in-image _ (start w .pre .0), within (start w)) }
 
 word-requires-3 : tie.Need-word-requires-3
 word-requires-3 c κs = search needs
@@ -98,7 +100,7 @@ shared-slice-read-result c =
 returns-4 : tie.Need-returns-4
 returns-4 c =
     let before = c .before .before .before .before .before in
-    λ q. let w = before in let s = start w in constant-two (now (s .args .image)) (s .args .e) (s .pre .1) _ _ _ _ (w .before .before .before .expression-at .ensures) (w .before .before .word .ensures) (w .word2 .ensures) (c .before .word3 .ensures) (omega (arith, w .before .if1 .left)) (omega (arith, c .before .before .if3 .left)) (kept-constant _ _ _ (s .pre .2) (left w) (c .before .before .before .if2 .left)) (kept-constant _ _ _ (s .pre .2) (right (c .before)) (eqb-true _ 1 q))
+    λ q. let w = before in let s = start w in constant-two (now (s .args .image)) (s .args .e) (s .pre .1) _ _ _ _ (w .before .before .before .expression-at .ensures .in-image _ (s .pre .0)) (w .before .before .word .ensures) (w .word2 .ensures) (c .before .word3 .ensures) (omega (arith, w .before .if1 .left)) (omega (arith, c .before .before .if3 .left)) (kept-constant _ _ _ (s .pre .2) (left w) (c .before .before .before .if2 .left)) (kept-constant _ _ _ (s .pre .2) (right (c .before)) (eqb-true _ 1 q))
 
 pub is-constant-spec : {M : Type 1} → statement M
 is-constant-spec =

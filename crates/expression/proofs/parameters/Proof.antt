@@ -54,7 +54,7 @@ expression-at-requires : tie.Need-expression-at-requires Inv-loop μ-loop
 expression-at-requires c κs =
     let w = c .before .before .before .before .before in
     let s = start w in
-    (s .pre .0 .laid, omega (arith, s .pre .0 .laid .whole, s .pre .0 .laid .short, inside (now (s .args .image)) (w .word .result) (named w)))
+    (s .pre .0 .laid .limits, omega (arith, s .pre .0 .laid .whole, s .pre .0 .laid .short, inside (now (s .args .image)) (w .word .result) (named w)))
 
 refusal-requires : tie.Need-refusal-requires Inv-loop μ-loop
 refusal-requires c κs = no-value _ (c .before .match .keys2)
@@ -72,7 +72,7 @@ returns c =
     let w = c .before .before .before .before .before .before .before in
     let evaluate-anew = c .before .before .before .before .before .evaluate-anew .ensures in
     let a = start w .args in
-    (front-refuses (now (a .image)) (anglesIn (now (a .angles))) (λ k. word (now (a .image)) (a .place + k)) (l .loop .i) (a .n) (w .word .result) (c .before .expression-at .result) _ _ _ (a .at) loop-test (l .loop .inv .1) (w .word .ensures) (c .before .expression-at .ensures) (evaluate-anew .0) (c .refusal .ensures), evaluate-anew .1)
+    (front-refuses (now (a .image)) (anglesIn (now (a .angles))) (λ k. word (now (a .image)) (a .place + k)) (l .loop .i) (a .n) (w .word .result) (c .before .expression-at .result) _ _ _ (a .at) loop-test (l .loop .inv .1) (w .word .ensures) (c .before .expression-at .ensures .in-image _ (start w .pre .0 .laid)) (evaluate-anew .0) (c .refusal .ensures), evaluate-anew .1)
 
 mul-put-value : tie.Need-mul-put-value Inv-loop μ-loop
 mul-put-value c =
