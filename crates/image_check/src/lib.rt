@@ -11,6 +11,7 @@ ghost use Prim.Native.Nat.{ℕ, _≤_};
 ghost use Rattle.model.specs.Lists.{all};
 ghost use Rattle.model.specs.Image.{U, CX, Gate, Barrier, Measure, Reset, statement, statementAt, scopeStatements};
 ghost use Rattle.model.specs.Check.{firstBad, expressionOk, downward, conditionalFlaw, plainFlaw, flaw, statementEntries, check, inConditional};
+ghost use Rattle.image.specs.Limits.{mostLevels, mostParameters, mostWords};
 ghost use Rattle.image.specs.Answer.{refusalFlaw, answerFlaw};
 ghost use Rattle.image.specs.Layout.{LayoutOf, GatesAccepted};
 ghost use Rattle.image_entries.specs.Flaws.{flawOf};
@@ -40,8 +41,8 @@ fn angles_ok(
     phi: u64,
     lambda: u64,
 ) -> bool
-    requires { ⌜ TablesFit l (now levels) (now variables) × (v ≤ 16) ⌝ }
-    ensures { λ r. ⌜ ((image : List ℕ) → TablesOf image l (now (levels .entry)) (now (variables .entry)) → r ≡ all (expressionOk image v 32) (theta ∷ phi ∷ lambda ∷ [])) ⌝ }
+    requires { ⌜ TablesFit l (now levels) (now variables) × (v ≤ mostParameters) ⌝ }
+    ensures { λ r. ⌜ ((image : List ℕ) → TablesOf image l (now (levels .entry)) (now (variables .entry)) → r ≡ all (expressionOk image v mostLevels) (theta ∷ phi ∷ lambda ∷ [])) ⌝ }
 {
     if !image_entries::expression_ok(l, levels, variables, v, theta) {
         return false;
@@ -93,7 +94,7 @@ fn u_flaw(
 
 // What is wrong with CX as statement s: form, argument or sizes, and 0 if nothing is.
 fn cx_flaw(image: &[u64], l: Layout, scope: u64, s: u64, a: u64, b: u64) -> u64
-    requires { ⌜ LayoutOf (now image) l × (scope ≤ l .gates) × (s ≤ 8192) ⌝ }
+    requires { ⌜ LayoutOf (now image) l × (scope ≤ l .gates) × (s ≤ mostWords) ⌝ }
     ensures { λ r. ⌜ r ≡ plainFlaw (now (image .entry)) noIf scope s (CX a b) ⌝ }
 {
     if !image_entries::unused_after(image, l, s, 3) {
@@ -123,7 +124,7 @@ fn cx_flaw(image: &[u64], l: Layout, scope: u64, s: u64, a: u64, b: u64) -> u64
 
 // Whether a call of gate g as statement s has numbers and runs in range, and no unused word.
 fn call_fits(image: &[u64], l: Layout, s: u64, g: u64, p: u64, a: u64) -> bool
-    requires { ⌜ LayoutOf (now image) l × (s ≤ 8192) ⌝ }
+    requires { ⌜ LayoutOf (now image) l × (s ≤ mostWords) ⌝ }
     ensures { λ r. ⌜ r ≡ callFits (now (image .entry)) s g p a ⌝ }
 {
     if !image_entries::unused_after(image, l, s, 4) {
@@ -145,11 +146,13 @@ fn call_fits(image: &[u64], l: Layout, s: u64, g: u64, p: u64, a: u64) -> bool
 fn call_number(angles: bool, arguments: bool, sizes: bool) -> u64
     ensures { λ r. ⌜ r ≡ callFlaw angles arguments sizes ⌝ }
 {
+    let wrong_angle = refusal::EXPRESSION;
+    let wrong_argument = refusal::ARGUMENT;
     if !angles {
-        return refusal::EXPRESSION;
+        return wrong_angle;
     }
     if !arguments {
-        return refusal::ARGUMENT;
+        return wrong_argument;
     }
     if sizes { 0 } else { refusal::SIZES }
 }
@@ -166,7 +169,7 @@ fn call_flaw(
     p: u64,
     a: u64,
 ) -> u64
-    requires { ⌜ CheckContext (now image) l (now levels) (now variables) scope × (s ≤ 8192) ⌝ }
+    requires { ⌜ CheckContext (now image) l (now levels) (now variables) scope × (s ≤ mostWords) ⌝ }
     ensures { λ r. ⌜ r ≡ plainFlaw (now (image .entry)) noIf scope s (Gate g p a) ⌝ }
 {
     if !call_fits(image, l, s, g, p, a) {
@@ -190,7 +193,7 @@ fn call_flaw(
 
 // What is wrong with a barrier as statement s: form or argument, and 0 if nothing is.
 fn barrier_flaw(image: &[u64], l: Layout, scope: u64, s: u64, a: u64, n: u64) -> u64
-    requires { ⌜ LayoutOf (now image) l × (scope ≤ l .gates) × (s ≤ 8192) ⌝ }
+    requires { ⌜ LayoutOf (now image) l × (scope ≤ l .gates) × (s ≤ mostWords) ⌝ }
     ensures { λ r. ⌜ r ≡ plainFlaw (now (image .entry)) noIf scope s (Barrier a n) ⌝ }
 {
     if !image_entries::unused_after(image, l, s, 3) {
@@ -208,7 +211,7 @@ fn barrier_flaw(image: &[u64], l: Layout, scope: u64, s: u64, a: u64, n: u64) ->
 
 // What is wrong with a measurement as statement s: form, argument or sizes, and 0 if nothing is.
 fn measure_flaw(image: &[u64], l: Layout, scope: u64, s: u64, q: u64, c: u64) -> u64
-    requires { ⌜ LayoutOf (now image) l × (scope ≤ l .gates) × (s ≤ 8192) ⌝ }
+    requires { ⌜ LayoutOf (now image) l × (scope ≤ l .gates) × (s ≤ mostWords) ⌝ }
     ensures { λ r. ⌜ r ≡ plainFlaw (now (image .entry)) noIf scope s (Measure q c) ⌝ }
 {
     if scope != 0 {
@@ -241,7 +244,7 @@ fn measure_flaw(image: &[u64], l: Layout, scope: u64, s: u64, q: u64, c: u64) ->
 
 // What is wrong with a reset as statement s: form or argument, and 0 if nothing is.
 fn reset_flaw(image: &[u64], l: Layout, scope: u64, s: u64, q: u64) -> u64
-    requires { ⌜ LayoutOf (now image) l × (scope ≤ l .gates) × (s ≤ 8192) ⌝ }
+    requires { ⌜ LayoutOf (now image) l × (scope ≤ l .gates) × (s ≤ mostWords) ⌝ }
     ensures { λ r. ⌜ r ≡ plainFlaw (now (image .entry)) noIf scope s (Reset q) ⌝ }
 {
     if scope != 0 {
@@ -269,7 +272,7 @@ fn plain_flaw(
     scope: u64,
     s: u64,
 ) -> u64
-    requires { ⌜ CheckContext (now image) l (now levels) (now variables) scope × (s ≤ 8192) ⌝ }
+    requires { ⌜ CheckContext (now image) l (now levels) (now variables) scope × (s ≤ mostWords) ⌝ }
     ensures { λ r. ⌜ r ≡ plainFlaw (now (image .entry)) noIf scope s (statement (now (image .entry)) s) ⌝ }
 {
     let at = l.statement_at(s);
@@ -291,7 +294,7 @@ fn plain_flaw(
 
 // Whether an if may hold statement t.
 fn in_conditional(image: &[u64], l: Layout, t: u64) -> bool
-    requires { ⌜ LayoutOf (now image) l × (t ≤ 8192) ⌝ }
+    requires { ⌜ LayoutOf (now image) l × (t ≤ mostWords) ⌝ }
     ensures { λ r. ⌜ r ≡ inConditional (now (image .entry)) (statement (now (image .entry)) t) ⌝ }
 {
     let kind = image::word(image, l.statement_at(t));
@@ -312,7 +315,7 @@ fn conditional_flaw(
     r: u64,
     t: u64,
 ) -> u64
-    requires { ⌜ CheckContext (now image) l (now levels) (now variables) scope × (s ≤ 8192) ⌝ }
+    requires { ⌜ CheckContext (now image) l (now levels) (now variables) scope × (s ≤ mostWords) ⌝ }
     ensures { λ n. ⌜ ((v : ℕ) → n ≡ conditionalFlaw (now (image .entry)) scope s r v t) ⌝ }
 {
     if scope != 0 {
@@ -345,7 +348,7 @@ fn statement_flaw(
     scope: u64,
     s: u64,
 ) -> u64
-    requires { ⌜ CheckContext (now image) l (now levels) (now variables) scope × (s ≤ 8192) ⌝ }
+    requires { ⌜ CheckContext (now image) l (now levels) (now variables) scope × (s ≤ mostWords) ⌝ }
     ensures { λ r. ⌜ r ≡ flaw (now (image .entry)) scope s ⌝ }
 {
     let at = l.statement_at(s);
