@@ -31,7 +31,8 @@ word-requires-2 c κs = search needs
 returns-2 : tie.Need-returns-2
 returns-2 c =
     let s = c .before .before .before .before .before in
-    holds-body (now (s .args .image)) (s .args .l) (s .args .scope) _ _ _ (s .pre .0) (s .pre .1) (s .pre .2) (c .before .before .before .if1 .left) (c .before .before .gate-at .ensures .in-image _ (s .pre .0)) (c .before .word .ensures) (c .word2 .ensures)
+    holds-body (now (s .args .image)) (s .args .l) (s .args .scope) _ _ _ (s .pre .0) (s .pre .1) (s .pre .2) (c .before .before .before .if1 .left)
+    (c .before .before .gate-at .ensures .in-image _ (s .pre .0)) (c .before .word .ensures) (c .word2 .ensures)
 
 pub statements-of-spec : {M : Type 1} → statement M
 statements-of-spec =

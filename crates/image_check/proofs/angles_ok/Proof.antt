@@ -24,7 +24,8 @@ expression-ok-requires-3 c κs = search needs
 returns-3 : tie.Need-returns-3
 returns-3 c image tables =
     let first = c .before .before .before .before .expression-ok .ensures image tables in
-    three-third _ _ _ _ (sym first ∙ not-false _ (c .before .before .before .if1 .left)) (sym (c .before .before .expression-ok2 .ensures image tables) ∙ not-false _ (c .before .if2 .left)) (c .expression-ok3 .ensures image tables)
+    three-third _ _ _ _ (sym first ∙ not-false _ (c .before .before .before .if1 .left))
+    (sym (c .before .before .expression-ok2 .ensures image tables) ∙ not-false _ (c .before .if2 .left)) (c .expression-ok3 .ensures image tables)
 
 pub angles-ok-spec : {M : Type 1} → statement M
 angles-ok-spec =

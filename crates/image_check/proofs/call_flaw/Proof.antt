@@ -24,7 +24,8 @@ fit c = sym (c .before .call-fits .ensures) ∙ not-false _ (c .if1 .left)
 down : (c : tie.After-calls-down) → (let a = c .before .before .before .before .before .before .args in downward (now (a .image)) (a .scope) (a .g)) ≡ c .calls-down .result
 down c = sym (c .calls-down .ensures (now (c .before .before .before .before .before .before .args .image)))
 
-parameters-is : (c : tie.After-word2) → (let a = c .before .before .before .before .before .before .before .before .before .before .args in c .before .word .result ≡ gateParameters (now (a .image)) (a .g))
+parameters-is : (c : tie.After-word2)
+    → (let a = c .before .before .before .before .before .before .before .before .before .before .args in c .before .word .result ≡ gateParameters (now (a .image)) (a .g))
 parameters-is c =
     let args = c .before .before .before .before .before .before .before .before .before .before .args in
     let pre = c .before .before .before .before .before .before .before .before .before .before .pre in
@@ -39,15 +40,19 @@ arguments-is c =
 few-arguments : (c : tie.After-word2) → c .before .before .before .before .before .before .before .before .before .before .args .a + c .word2 .result ≤ 8192
 few-arguments c =
     let s = c .before .before .before .before .before .before .before .before .before .before in
-    call-arguments (now (s .args .image)) (s .args .l) (s .args .s) (s .args .g) (s .args .p) (s .args .a) (s .pre .0 .tables .laid) (fit (c .before .before .before .before .before)) _ (arguments-is c)
+    call-arguments (now (s .args .image)) (s .args .l) (s .args .s) (s .args .g) (s .args .p) (s .args .a) (s .pre .0 .tables .laid)
+    (fit (c .before .before .before .before .before)) _ (arguments-is c)
 
-angles : (c : tie.After-parameters-ok) → (let a = c .before .before .before .before .before .before .before .before .before .before .before .before .args in let i = now (a .image) in all (parameterOk i (variables i (a .scope))) (range (a .p) (gateParameters i (a .g)))) ≡ c .parameters-ok .result
+angles : (c : tie.After-parameters-ok)
+    → (let a = c .before .before .before .before .before .before .before .before .before .before .before .before .args in let i = now (a .image) in all (parameterOk i (variables i (a .scope))) (range (a .p) (gateParameters i (a .g)))) ≡ c .parameters-ok .result
 angles c = sym (rw (c .before .variables-of .ensures, parameters-is (c .before .before)) at (c .parameters-ok .ensures))
 
-sound : (c : tie.After-arguments-ok) → (let a = c .before .before .before .before .before .before .before .before .before .before .before .before .before .args in let i = now (a .image) in all (argumentOk i (a .scope)) (range (a .a) (gateArguments i (a .g)))) ≡ c .arguments-ok .result
+sound : (c : tie.After-arguments-ok)
+    → (let a = c .before .before .before .before .before .before .before .before .before .before .before .before .before .args in let i = now (a .image) in all (argumentOk i (a .scope)) (range (a .a) (gateArguments i (a .g)))) ≡ c .arguments-ok .result
 sound c = sym (rw (arguments-is (c .before .before .before)) at (c .arguments-ok .ensures))
 
-sizes : (c : tie.After-sizes-match) → (let a = c .before .before .before .before .before .before .before .before .before .before .before .before .before .before .args in let i = now (a .image) in matching (map (argumentSize i (a .scope)) (range (a .a) (gateArguments i (a .g))))) ≡ c .sizes-match .result
+sizes : (c : tie.After-sizes-match)
+    → (let a = c .before .before .before .before .before .before .before .before .before .before .before .before .before .before .args in let i = now (a .image) in matching (map (argumentSize i (a .scope)) (range (a .a) (gateArguments i (a .g))))) ≡ c .sizes-match .result
 sizes c = sym (rw (arguments-is (c .before .before .before .before)) at (c .sizes-match .ensures))
 
 call-fits-requires : tie.Need-call-fits-requires

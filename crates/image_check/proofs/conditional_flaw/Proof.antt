@@ -48,7 +48,8 @@ returns-3 : tie.Need-returns-3
 unfolding conditionalOk
 returns-3 c v =
     let a = c .before .before .before .before .before .before .before .before .args in
-    if-wrong (now (a .image)) (a .scope) (a .s) (a .r) v (a .t) (then _ (main (c .before .before .before .before)) (then _ (rest (c .before .before)) (out _ (beyond (c .before .before .before .before .before .before .before .before .pre .0 .tables .laid .classical-registers-is) (c .if3 .taken)))))
+    if-wrong (now (a .image)) (a .scope) (a .s) (a .r) v (a .t)
+    (then _ (main (c .before .before .before .before)) (then _ (rest (c .before .before)) (out _ (beyond (c .before .before .before .before .before .before .before .before .pre .0 .tables .laid .classical-registers-is) (c .if3 .taken)))))
 
 returns-4 : tie.Need-returns-4
 unfolding conditionalOk

@@ -24,7 +24,8 @@ first-bad-in-scope-requires c κs = search needs
 returns : tie.Need-returns Inv-loop μ-loop
 returns c =
     let a = c .before .before .before .before .before .before .before .before .args in
-    scopes-here (now (a .image)) _ _ (c .before .before .first-bad-in-scope .result) (c .before .before .before .before .loop .inv .1) (c .before .before .before .loop-test .taken) (c .before .before .first-bad-in-scope .ensures) (c .if1 .taken)
+    scopes-here (now (a .image)) _ _ (c .before .before .first-bad-in-scope .result) (c .before .before .before .before .loop .inv .1)
+    (c .before .before .before .loop-test .taken) (c .before .before .first-bad-in-scope .ensures) (c .if1 .taken)
 
 add-scope : tie.Need-add-scope Inv-loop μ-loop
 add-scope c = search needs

@@ -10,7 +10,8 @@ use borrow.Author.Needs.{needs}
 use Rattle.image_check.proofs.in_conditional.Statement.{statement}
 use Rattle.image_check.proofs.in_conditional.Tie as tie
 
-statement-is : (c : tie.After-word) → (let a = c .before .before .before .args in (let i = now (a .image) in let p = c .before .statement-at .result in statementAs i (a .t) ≡ statementOf (c .word .result) (word i (p + 1)) (word i (p + 2)) (word i (p + 3)) (word i (p + 4))))
+statement-is : (c : tie.After-word)
+    → (let a = c .before .before .before .args in (let i = now (a .image) in let p = c .before .statement-at .result in statementAs i (a .t) ≡ statementOf (c .word .result) (word i (p + 1)) (word i (p + 2)) (word i (p + 3)) (word i (p + 4))))
 statement-is c =
     let args = c .before .before .before .args in
     words-are (now (args .image)) (args .t) _ _ _ _ _ _ (c .before .statement-at .ensures .in-image _ (c .before .before .before .pre .0)) (c .word .ensures) refl refl refl refl

@@ -19,16 +19,19 @@ main c = eq-eqb _ _ (c .if1 .left)
 rest : (c : tie.Else2) → (let a = c .before .before .before .before .args in unused (now (a .image)) (a .s) 3 ≡ true)
 rest c = sym (c .before .unused-after .ensures) ∙ not-false _ (c .if2 .left)
 
-form : (c : tie.Else4) → (let a = c .before .before .before .before .before .before .args in let n = arguments (now (a .image)) in every (eqb (a .scope) 0 ∷ unused (now (a .image)) (a .s) 3 ∷ ltb (a .q) n ∷ ltb (a .c) n ∷ [])) ≡ true
+form : (c : tie.Else4)
+    → (let a = c .before .before .before .before .before .before .args in let n = arguments (now (a .image)) in every (eqb (a .scope) 0 ∷ unused (now (a .image)) (a .s) 3 ∷ ltb (a .q) n ∷ ltb (a .c) n ∷ [])) ≡ true
 form c =
     let pre = c .before .before .before .before .before .before .pre in
     let before = c .before .before .before .before in
     let e = pre .0 .arguments-is in then _ (main before) (then _ (rest (c .before .before)) (then _ (below e (c .before .if3 .left)) (then _ (below e (c .if4 .left)) whole)))
 
-sound : (c : tie.Else6) → (let a = c .before .before .before .before .before .before .before .before .before .before .args in every (argumentOk (now (a .image)) (a .scope) (a .q) ∷ classicalArgumentOk (now (a .image)) (a .c) ∷ [])) ≡ true
+sound : (c : tie.Else6)
+    → (let a = c .before .before .before .before .before .before .before .before .before .before .args in every (argumentOk (now (a .image)) (a .scope) (a .q) ∷ classicalArgumentOk (now (a .image)) (a .c) ∷ [])) ≡ true
 sound c = then _ (sym (c .before .before .before .argument-ok .ensures) ∙ not-false _ (c .before .before .if5 .left)) (then _ (sym (c .before .classical-argument-ok .ensures) ∙ not-false _ (c .if6 .left)) whole)
 
-sizes : (c : tie.After-two-match) → (let a = c .before .before .before .before .before .before .before .before .before .before .before .before .before .args in matching (argumentSize (now (a .image)) (a .scope) (a .q) ∷ classicalArgumentSize (now (a .image)) (a .c) ∷ [])) ≡ c .two-match .result
+sizes : (c : tie.After-two-match)
+    → (let a = c .before .before .before .before .before .before .before .before .before .before .before .before .before .args in matching (argumentSize (now (a .image)) (a .scope) (a .q) ∷ classicalArgumentSize (now (a .image)) (a .c) ∷ [])) ≡ c .two-match .result
 sizes c = sym (rw (c .before .before .argument-size .ensures, c .before .classical-argument-size .ensures) at (c .two-match .ensures))
 
 returns : tie.Need-returns
@@ -69,7 +72,8 @@ returns-6 : tie.Need-returns-6
 unfolding plainFlaw
 returns-6 c =
     let before = c .before .before .before .before in
-    passes _ _ (form before) (fails _ (then _ (sym (c .before .before .before .argument-ok .ensures) ∙ not-false _ (c .before .before .if5 .left)) (out _ (sym (c .before .classical-argument-ok .ensures) ∙ not-true _ (c .if6 .taken)))))
+    passes _ _ (form before)
+    (fails _ (then _ (sym (c .before .before .before .argument-ok .ensures) ∙ not-false _ (c .before .before .if5 .left)) (out _ (sym (c .before .classical-argument-ok .ensures) ∙ not-true _ (c .if6 .taken)))))
 
 argument-size-requires : tie.Need-argument-size-requires
 argument-size-requires c κs = search needs

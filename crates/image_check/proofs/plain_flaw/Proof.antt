@@ -8,13 +8,15 @@ use borrow.Author.Needs.{needs}
 use Rattle.image_check.proofs.plain_flaw.Statement.{statement}
 use Rattle.image_check.proofs.plain_flaw.Tie as tie
 
-statement-is : (c : tie.After-word5) → (let a = c .before .before .before .before .before .before .before .before .before .args in statementAs (now (a .image)) (a .s) ≡ statementOf (c .before .before .before .before .word .result) (c .before .before .before .word2 .result) (c .before .before .word3 .result) (c .before .word4 .result) (c .word5 .result))
+statement-is : (c : tie.After-word5)
+    → (let a = c .before .before .before .before .before .before .before .before .before .args in statementAs (now (a .image)) (a .s) ≡ statementOf (c .before .before .before .before .word .result) (c .before .before .before .word2 .result) (c .before .before .word3 .result) (c .before .word4 .result) (c .word5 .result))
 statement-is c =
     let args = c .before .before .before .before .before .before .before .before .before .args in
     let pre = c .before .before .before .before .before .before .before .before .before .pre in
     let statement-at = c .before .before .before .before .before .statement-at .ensures in
     let word = c .before .before .before .before .word .ensures in
-    words-are (now (args .image)) (args .s) _ _ _ _ _ _ (statement-at .in-image _ (pre .0 .tables .laid)) word (c .before .before .before .word2 .ensures) (c .before .before .word3 .ensures) (c .before .word4 .ensures) (c .word5 .ensures)
+    words-are (now (args .image)) (args .s) _ _ _ _ _ _ (statement-at .in-image _ (pre .0 .tables .laid)) word (c .before .before .before .word2 .ensures)
+    (c .before .before .word3 .ensures) (c .before .word4 .ensures) (c .word5 .ensures)
 
 statement-at-requires : tie.Need-statement-at-requires
 statement-at-requires c κs = search needs

@@ -19,7 +19,8 @@ main c = eq-eqb _ _ (c .if1 .left)
 rest : (c : tie.Else2) → (let a = c .before .before .before .before .args in unused (now (a .image)) (a .s) 2 ≡ true)
 rest c = sym (c .before .unused-after .ensures) ∙ not-false _ (c .if2 .left)
 
-form : (c : tie.Else3) → (let a = c .before .before .before .before .before .before .args in every (eqb (a .scope) 0 ∷ unused (now (a .image)) (a .s) 2 ∷ ltb (a .q) (arguments (now (a .image))) ∷ []) ≡ true)
+form : (c : tie.Else3)
+    → (let a = c .before .before .before .before .before .before .args in every (eqb (a .scope) 0 ∷ unused (now (a .image)) (a .s) 2 ∷ ltb (a .q) (arguments (now (a .image))) ∷ []) ≡ true)
 form c =
     let pre = c .before .before .before .before .before .before .pre in
     let before = c .before .before .before .before in

@@ -15,7 +15,8 @@ use borrow.Author.Needs.{needs}
 use Rattle.image_check.proofs.u_flaw.Statement.{statement}
 use Rattle.image_check.proofs.u_flaw.Tie as tie
 
-form : (c : tie.Else4) → (let a = c .before .before .before .before .before .before .before .before .args in let n = expressions (now (a .image)) in every (ltb (a .theta) n ∷ ltb (a .phi) n ∷ ltb (a .lambda) n ∷ ltb (a .q) (arguments (now (a .image))) ∷ [])) ≡ true
+form : (c : tie.Else4)
+    → (let a = c .before .before .before .before .before .before .before .before .args in let n = expressions (now (a .image)) in every (ltb (a .theta) n ∷ ltb (a .phi) n ∷ ltb (a .lambda) n ∷ ltb (a .q) (arguments (now (a .image))) ∷ [])) ≡ true
 form c =
     let e = c .before .before .before .before .before .before .before .before .pre .tables .laid in
     then _ (below (e .expressions-is) (c .before .before .before .before .if1 .left))
@@ -42,7 +43,8 @@ returns-4 : tie.Need-returns-4
 unfolding plainFlaw
 returns-4 c s =
     let e = c .before .before .before .before .before .before .before .before .pre .tables .laid .expressions-is in
-    fails _ (then _ (below e (c .before .before .before .before .if1 .left)) (then _ (below e (c .before .before .before .if2 .left)) (then _ (below e (c .before .before .if3 .left)) (out _ (beyond (c .before .before .before .before .before .before .before .before .pre .tables .laid .arguments-is) (c .if4 .taken))))))
+    fails _
+    (then _ (below e (c .before .before .before .before .if1 .left)) (then _ (below e (c .before .before .before .if2 .left)) (then _ (below e (c .before .before .if3 .left)) (out _ (beyond (c .before .before .before .before .before .before .before .before .pre .tables .laid .arguments-is) (c .if4 .taken))))))
 
 variables-of-requires : tie.Need-variables-of-requires
 variables-of-requires c κs = search needs
@@ -54,7 +56,8 @@ angles-ok-requires c κs =
     (record { levels-fit = a .pre .tables .judged .levels-fit; variable-counts-fit = a .pre .tables .judged .variable-counts-fit }, omega (arith, c .variables-of .ensures))
 
 -- the angles are judged with the variables of the scope
-angles : (c : tie.After-angles-ok) → (let a = c .before .before .before .before .before .before .before .before .before .before .args in c .angles-ok .result ≡ all (expressionOk (now (a .image)) (variables (now (a .image)) (a .scope)) 32) (a .theta ∷ a .phi ∷ a .lambda ∷ []))
+angles : (c : tie.After-angles-ok)
+    → (let a = c .before .before .before .before .before .before .before .before .before .before .args in c .angles-ok .result ≡ all (expressionOk (now (a .image)) (variables (now (a .image)) (a .scope)) 32) (a .theta ∷ a .phi ∷ a .lambda ∷ []))
 angles c =
     let s = c .before .before .before .before .before .before .before .before .before .before in
     rw (c .before .variables-of .ensures) at (c .angles-ok .ensures (now (s .args .image)) (s .pre .tables))
@@ -69,12 +72,14 @@ argument-ok-requires c κs = search needs
 returns-6 : tie.Need-returns-6
 unfolding plainFlaw
 returns-6 c s =
-    passes _ _ (form (c .before .before .before .before .before)) (passes _ _ (sym (angles (c .before .before .before)) ∙ not-false _ (c .before .before .if5 .left)) (passes _ _ (sym (c .before .argument-ok .ensures) ∙ c .if6 .taken) none))
+    passes _ _ (form (c .before .before .before .before .before))
+    (passes _ _ (sym (angles (c .before .before .before)) ∙ not-false _ (c .before .before .if5 .left)) (passes _ _ (sym (c .before .argument-ok .ensures) ∙ c .if6 .taken) none))
 
 returns-7 : tie.Need-returns-7
 unfolding plainFlaw
 returns-7 c s =
-    passes _ _ (form (c .before .before .before .before .before)) (passes _ _ (sym (angles (c .before .before .before)) ∙ not-false _ (c .before .before .if5 .left)) (fails _ (sym (c .before .argument-ok .ensures) ∙ c .if6 .left)))
+    passes _ _ (form (c .before .before .before .before .before))
+    (passes _ _ (sym (angles (c .before .before .before)) ∙ not-false _ (c .before .before .if5 .left)) (fails _ (sym (c .before .argument-ok .ensures) ∙ c .if6 .left)))
 
 pub u-flaw-spec : {M : Type 1} → statement M
 u-flaw-spec =

@@ -70,7 +70,8 @@ returns c =
     let l = c .before in
     let s = l .before in
     let a = s .before .before .args in
-    body-is (now (a .image)) (a .scope) _ _ (a .j) (a .n) _ (s .statements-of .ensures .statements-are) (sum-done (statementTally (now (a .image)) (weightOf (a .j)) (entryOf (a .j)) (openingFor (now (a .image)) (a .j) (a .n)) (a .scope)) 0 (s .statements-of .result .first) _ _ _ (l .loop .inv .0) (c .loop-test .left) (l .loop .inv .1))
+    body-is (now (a .image)) (a .scope) _ _ (a .j) (a .n) _ (s .statements-of .ensures .statements-are)
+    (sum-done (statementTally (now (a .image)) (weightOf (a .j)) (entryOf (a .j)) (openingFor (now (a .image)) (a .j) (a .n)) (a .scope)) 0 (s .statements-of .result .first) _ _ _ (l .loop .inv .0) (c .loop-test .left) (l .loop .inv .1))
 
 pub body-figure-spec : {M : Type 1} → statement M
 body-figure-spec =

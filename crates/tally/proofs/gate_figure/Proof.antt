@@ -69,7 +69,8 @@ returns c =
     let w = c .before .before in
     let g = w .before .before .before in
     let a = g .before .before .args in
-    gate-opaque (now (a .image)) (a .j) (a .g) (g .gate-at .result) (a .rounds) (g .gate-at .ensures .in-image _ (g .before .before .pre .ready .laid)) (a .n) _ _ _ _ (w .before .before .word .ensures) (w .before .word2 .ensures) (w .word3 .ensures) (c .before .if1 .taken) (c .record-figure .ensures)
+    gate-opaque (now (a .image)) (a .j) (a .g) (g .gate-at .result) (a .rounds) (g .gate-at .ensures .in-image _ (g .before .before .pre .ready .laid)) (a .n) _
+    _ _ _ (w .before .before .word .ensures) (w .before .word2 .ensures) (w .word3 .ensures) (c .before .if1 .taken) (c .record-figure .ensures)
 
 add-record-figure-3 : tie.Need-add-record-figure-3
 add-record-figure-3 c =
@@ -90,7 +91,8 @@ returns-2 c =
     let w = c .before .before .before in
     let g = w .before .before .before in
     let a = g .before .before .args in
-    gate-cut (now (a .image)) (a .j) (a .g) (g .gate-at .result) (a .rounds) (g .gate-at .ensures .in-image _ (g .before .before .pre .ready .laid)) (a .n) _ _ _ (w .before .word2 .ensures) (w .word3 .ensures) (c .before .before .if1 .left) (c .before .if2 .taken) (c .record-figure2 .ensures)
+    gate-cut (now (a .image)) (a .j) (a .g) (g .gate-at .result) (a .rounds) (g .gate-at .ensures .in-image _ (g .before .before .pre .ready .laid)) (a .n) _ _
+    _ (w .before .word2 .ensures) (w .word3 .ensures) (c .before .before .if1 .left) (c .before .if2 .taken) (c .record-figure2 .ensures)
 
 mul-i : tie.Need-mul-i
 mul-i c = search needs
@@ -123,7 +125,8 @@ returns-3 c =
     let g = w .before .before .before in
     let a = g .before .before .args in
     let pre = g .before .before .pre in
-    gate-opened (now (a .image)) (a .j) (a .g) (g .gate-at .result) (a .rounds) (g .gate-at .ensures .in-image _ (g .before .before .pre .ready .laid)) (a .n) _ _ _ _ _ (pre .rows) (pre .figure) (w .word3 .ensures) (i .before .if1 .left) (i .if2 .left)
+    gate-opened (now (a .image)) (a .j) (a .g) (g .gate-at .result) (a .rounds) (g .gate-at .ensures .in-image _ (g .before .before .pre .ready .laid)) (a .n) _
+    _ _ _ _ (pre .rows) (pre .figure) (w .word3 .ensures) (i .before .if1 .left) (i .if2 .left)
     (c .before .before .before .capped-product .ensures ∙ ap (λ (k : ℕ). capped (a .rounds * k)) (c .before .before .before .before .entry-weight .ensures)) (c .before .capped-product2 .ensures) (c .capped-sum .ensures)
 
 pub gate-figure-spec : {M : Type 1} → statement M

@@ -55,7 +55,8 @@ module _ (w : tie.After-word5) where
       words-are _ _ (w .before .before .before .before .before .statement-at .result) _ _ _ _ _ (w .before .before .before .before .before .statement-at .ensures .in-image _ (w .before .before .before .before .before .before .before .pre .0 .ready .laid))
       (w .before .before .before .before .word .ensures) (w .before .before .before .word2 .ensures) (w .before .before .word3 .ensures) (w .before .word4 .ensures) (w .word5 .ensures)
 
-  known-as : {x : Image.Statement} → Image.statementOf (w .before .before .before .before .word .result) (w .before .before .before .word2 .result) (w .before .before .word3 .result) (w .before .word4 .result) (w .word5 .result) ≡ x
+  known-as : {x : Image.Statement}
+      → Image.statementOf (w .before .before .before .before .word .result) (w .before .before .before .word2 .result) (w .before .before .word3 .result) (w .before .word4 .result) (w .word5 .result) ≡ x
       → PlainFacts (now (w .before .before .before .before .before .before .before .args .image)) (w .before .before .before .before .before .before .before .args .scope) x
   known-as e =
       let s = w .before .before .before .before .before .before .before in

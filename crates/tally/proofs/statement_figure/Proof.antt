@@ -34,7 +34,9 @@ returns : tie.Need-returns
 returns c =
     let w = c .before .before .before in
     let a = w .before .before .before .args in
-    if-comes (now (a .image)) (a .scope) (a .s) (w .before .statement-at .result) (w .word .result) (w .before .statement-at .ensures .in-image _ (w .before .before .before .pre .0 .ready .laid)) (w .word .ensures) (a .j) (a .n) (c .before .word2 .result) _ (c .before .before .if1 .taken) (c .before .word2 .ensures) (c .conditional-figure .ensures)
+    if-comes (now (a .image)) (a .scope) (a .s) (w .before .statement-at .result) (w .word .result)
+    (w .before .statement-at .ensures .in-image _ (w .before .before .before .pre .0 .ready .laid)) (w .word .ensures) (a .j) (a .n) (c .before .word2 .result) _
+    (c .before .before .if1 .taken) (c .before .word2 .ensures) (c .conditional-figure .ensures)
 
 plain-figure-requires : tie.Need-plain-figure-requires
 plain-figure-requires c κs =
@@ -48,7 +50,9 @@ returns-2 c =
     let w = c .before .before in
     let a = w .before .before .before .args in
     let pre = w .before .before .before .pre in
-    plain-comes (now (a .image)) (a .scope) (a .s) (a .j) (a .n) _ (plain-facts-at (now (a .image)) (a .scope) (a .s) (w .before .statement-at .result) (w .word .result) (w .before .statement-at .ensures .in-image _ (w .before .before .before .pre .0 .ready .laid)) (w .word .ensures) (c .before .if1 .left) (pre .1)) (c .plain-figure .ensures)
+    plain-comes (now (a .image)) (a .scope) (a .s) (a .j) (a .n) _
+    (plain-facts-at (now (a .image)) (a .scope) (a .s) (w .before .statement-at .result) (w .word .result) (w .before .statement-at .ensures .in-image _ (w .before .before .before .pre .0 .ready .laid)) (w .word .ensures) (c .before .if1 .left) (pre .1))
+    (c .plain-figure .ensures)
 
 pub statement-figure-spec : {M : Type 1} → statement M
 statement-figure-spec =
