@@ -1,4 +1,4 @@
-//! With feature `unit`: where the static library of crate `unit` lies.
+//! With feature `unit`: where the static library of crate `unit_words` lies.
 use std::{env, process};
 
 fn main() {
@@ -8,9 +8,9 @@ fn main() {
         return;
     }
     let Ok(folder) = env::var("COWHIRAME_LIB") else {
-        eprintln!("error: COWHIRAME_LIB is not set: it names the folder of libunit.a");
+        eprintln!("error: COWHIRAME_LIB is not set: it names the folder of libunit_words.a");
         process::exit(1)
     };
-    println!("cargo:rerun-if-changed={folder}/libunit.a");
+    println!("cargo:rerun-if-changed={folder}/libunit_words.a");
     println!("cargo:rustc-link-search=native={folder}");
 }

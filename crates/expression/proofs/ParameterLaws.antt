@@ -12,7 +12,7 @@ use mathlib.Core.List.{List, [], _∷_, _++_, map}
 use lib.ListN.{getD, set, take, length-set}
 use lib.Seq.{take-suc-set, getD-set-same, getD-set-other}
 use lib.Ieee.{Float}
-use Rattle.float.specs.Float.{bits as floatBits}
+use Rattle.float.specs.Float.{floatBits}
 use denote.Enum.Declared.{tagOf}
 use types.Run.{OneOf}
 use Rattle.value.specs.declared.Value.{Value}

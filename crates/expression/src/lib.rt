@@ -105,7 +105,7 @@ fn nullary(angles: &[u64; 96], kind: u64, a: u64) -> Evaluation
 {
     match kind {
         0 => Evaluation::Value(Value::pi()),
-        1 => Value::from_float(float::of_bits(a)),
+        1 => Value::from_float(float::f32_from_bits(a)),
         2 => Value::int(a),
         _ => Evaluation::Value(value_at(angles, 6 * a)),
     }

@@ -1,8 +1,8 @@
-pub mod PowersOfTwo
-pub mod FloatTerms
-pub mod Nan
-pub mod Rounding
-pub mod SignedRounding
-pub mod Reduced
-pub mod Patterns
-pub mod NearestOfAll
+pub mod PowerOfTwoLaws
+pub mod ApproximateFloatLaws
+pub mod NanLaws
+pub mod OfIntLaws
+pub mod RoundLaws
+pub mod DyadicLaws
+pub mod OfBitsLaws
+pub mod NearestLaws

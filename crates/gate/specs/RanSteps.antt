@@ -11,14 +11,14 @@ use Rattle.model.specs.Run.{traceOf}
 use Rattle.model.specs.Playing.{Plays}
 use Rattle.record_writer.specs.declared.Position.{Position}
 use Rattle.record_writer.specs.declared.Linearized.{Linearized}
-use Rattle.record_writer.specs.Promise.{placeAt, positionOf, runAnswerOf}
+use Rattle.record_writer.specs.Promise.{stateAt, positionOf, runAnswerOf}
 use Rattle.expression.specs.Angles.{anglesIn}
 use Rattle.argument.specs.Frames.{scopeFrame}
 
 -- some steps were played. Where they were refused, the calls on the stack stand in the trace from the position's words on.
 pub record RanSteps (ss : List Step) (out : List ℕ) (at : Position) (trace : List ℕ) (r : Linearized) (out′ trace′ : List ℕ) : Type 0 where
   pub calls : List ℕ
-  pub plays : Plays ss (placeAt out at) (placeAt out′ (positionOf r)) (runAnswerOf r calls)
+  pub plays : Plays ss (stateAt out at) (stateAt out′ (positionOf r)) (runAnswerOf r calls)
   pub tracing : trace′ ≡ sets trace (at .trace) (traceOf (runAnswerOf r calls))
   pub level : positionOf r .trace ≡ at .trace + length (traceOf (runAnswerOf r calls))
 

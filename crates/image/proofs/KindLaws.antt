@@ -37,7 +37,8 @@ module _ (k a b c d : ℕ) where
 
 module _ (image : List ℕ) where
   -- a statement by its five words
-  pub words-are : (s p k a b c d : ℕ) → p ≡ statementAt image s → k ≡ word image p → a ≡ word image (p + 1) → b ≡ word image (p + 2) → c ≡ word image (p + 3) → d ≡ word image (p + 4) → statement image s ≡ statementOf k a b c d
+  pub words-are : (s p k a b c d : ℕ) → p ≡ statementAt image s → k ≡ word image p → a ≡ word image (p + 1) → b ≡ word image (p + 2) → c ≡ word image (p + 3)
+      → d ≡ word image (p + 4) → statement image s ≡ statementOf k a b c d
   unfolding statement
   words-are s p k a b c d ep ek ea eb ec ed = rw (ek, ea, eb, ec, ed, ep) refl
 

@@ -19,7 +19,8 @@ holds-main image l scope laid z =
       listed = omega (arith, laid .main-statements-is, laid .statements-is);
     }
 
-pub holds-body : (image : List ℕ) (l : Layout) (scope p a b : ℕ) → LayoutOf image l → GatesAccepted image → scope ≤ l .gates → ¬ (scope ≡ 0) → p ≡ gateAt image (scope - 1) → a ≡ word image (p + 3) → b ≡ word image (p + 4) → StatementsOf image l scope (record { first = a; count = b })
+pub holds-body : (image : List ℕ) (l : Layout) (scope p a b : ℕ) → LayoutOf image l → GatesAccepted image → scope ≤ l .gates → ¬ (scope ≡ 0)
+    → p ≡ gateAt image (scope - 1) → a ≡ word image (p + 3) → b ≡ word image (p + 4) → StatementsOf image l scope (record { first = a; count = b })
 unfolding scopeStatements gateOk
 holds-body image l zero p a b laid known h z ep ea eb = absurd (z refl)
 holds-body image l (suc g) p a b laid known h z ep ea eb =

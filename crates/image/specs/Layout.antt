@@ -8,6 +8,7 @@ use lib.Dec.{T}
 use Rattle.model.specs.Lists.{range}
 use Rattle.model.specs.Image.{word, quantumRegisters, classicalRegisters, gates, mainStatements, allStatements, arguments, parameters, expressions, expressionAt, scopeStatements}
 use Rattle.model.specs.Check.{contentsOk, gateOk}
+use Rattle.image.specs.Limits.{mostGates, mostWords}
 use Rattle.image.specs.declared.Layout.{Layout}
 use Rattle.image.specs.declared.Span.{Span}
 use Rattle.image.specs.declared.Contents.{Contents}
@@ -42,8 +43,8 @@ pub record LayoutOf (image : List ℕ) (l : Layout) : Type 0 where
   pub parameters-is : l .parameters ≡ parameters image
   pub expressions-is : l .expressions ≡ expressions image
   pub whole : expressionAt image (expressions image) ≡ length image
-  pub short : length image ≤ 8192
-  pub few-gates : gates image ≤ 128
+  pub short : length image ≤ mostWords
+  pub few-gates : gates image ≤ mostGates
   pub limits : WithinLimits l
 
 -- r is the place of entry i: `at` says of which list, as gateAt

@@ -1,3 +1,4 @@
 pub mod Answer
 pub mod Layout
+pub mod Limits
 pub mod RegisterStarts

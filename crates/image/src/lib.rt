@@ -5,6 +5,7 @@ ghost use lib.ListN.{length, set};
 ghost use Prim.Native.Nat.{_+_, _<_, _≤_, min, max};
 ghost use Rattle.model.specs.Lists.{range, sum};
 ghost use Rattle.model.specs.Image.{word, quantumRegisterAt, classicalRegisterAt, gateAt, statementAt, argumentAt, parameterAt, expressionAt, argumentSize, classicalArgumentSize, rounds};
+ghost use Rattle.image.specs.Limits.{mostElements, mostWords};
 ghost use Rattle.image.specs.Answer.{refusalFlaw, answerFlaw, numberIn, placeIn};
 ghost use Rattle.image.specs.Layout.{CappedCounts, LayoutOf, WithinLimits, Small, SmallPlace, PlaceIs, ReadAs, GatesAccepted, StatementsOf};
 ghost use Rattle.image.specs.RegisterStarts.{RegisterStarts};
@@ -193,7 +194,7 @@ pub fn read_contents(image: &[u64]) -> Contents
 
 // The place of a gate entry.
 pub fn gate_at(image: &[u64], l: Layout, g: u64) -> u64
-    requires { ⌜ LayoutOf (now image) l × (g ≤ 8192) ⌝ }
+    requires { ⌜ LayoutOf (now image) l × (g ≤ mostWords) ⌝ }
     ensures { λ r. ⌜ r ≡ gateAt (now (image .entry)) g ⌝ }
 {
     l.gate_at(g)
@@ -201,7 +202,7 @@ pub fn gate_at(image: &[u64], l: Layout, g: u64) -> u64
 
 // The place of a statement.
 pub fn statement_at(image: &[u64], l: Layout, s: u64) -> u64
-    requires { ⌜ LayoutOf (now image) l × (s ≤ 8192) ⌝ }
+    requires { ⌜ LayoutOf (now image) l × (s ≤ mostWords) ⌝ }
     ensures { λ r. ⌜ r ≡ statementAt (now (image .entry)) s ⌝ }
 {
     l.statement_at(s)
@@ -209,7 +210,7 @@ pub fn statement_at(image: &[u64], l: Layout, s: u64) -> u64
 
 // The place of an argument.
 pub fn argument_at(image: &[u64], l: Layout, a: u64) -> u64
-    requires { ⌜ LayoutOf (now image) l × (a ≤ 8192) ⌝ }
+    requires { ⌜ LayoutOf (now image) l × (a ≤ mostWords) ⌝ }
     ensures { λ r. ⌜ r ≡ argumentAt (now (image .entry)) a ⌝ }
 {
     l.argument_at(a)
@@ -217,7 +218,7 @@ pub fn argument_at(image: &[u64], l: Layout, a: u64) -> u64
 
 // The place of a parameter.
 pub fn parameter_at(image: &[u64], l: Layout, p: u64) -> u64
-    requires { ⌜ LayoutOf (now image) l × (p ≤ 8192) ⌝ }
+    requires { ⌜ LayoutOf (now image) l × (p ≤ mostWords) ⌝ }
     ensures { λ r. ⌜ r ≡ parameterAt (now (image .entry)) p ⌝ }
 {
     l.parameter_at(p)
@@ -225,7 +226,7 @@ pub fn parameter_at(image: &[u64], l: Layout, p: u64) -> u64
 
 // The place of an expression.
 pub fn expression_at(image: &[u64], l: Layout, e: u64) -> u64
-    requires { ⌜ LayoutOf (now image) l × (e ≤ 8192) ⌝ }
+    requires { ⌜ LayoutOf (now image) l × (e ≤ mostWords) ⌝ }
     ensures { λ r. ⌜ r ≡ expressionAt (now (image .entry)) e ⌝ }
 {
     l.expression_at(e)
@@ -243,7 +244,7 @@ pub fn store(table: &mut [u64], i: usize, x: u64)
 
 // Where each of n registers starts whose sizes stand from a place on: the first qubit, or bit, of each in one pass.
 pub fn first_of_each(image: &[u64], at: u64, n: u64, firsts: &mut [u64])
-    requires { ⌜ (at ≤ 16384) × (n ≤ length (now firsts)) × (sum (map (λ i. word (now image) (at + i)) (range 0 n)) ≤ 4096) ⌝ }
+    requires { ⌜ (at ≤ 16384) × (n ≤ length (now firsts)) × (sum (map (λ i. word (now image) (at + i)) (range 0 n)) ≤ mostElements) ⌝ }
     ensures { λ r. ⌜ RegisterStarts (λ i. word (now (image .entry)) (at + i)) n (now (firsts .exit)) ⌝ }
 {
     let mut total = 0u64;
@@ -259,7 +260,7 @@ pub fn first_of_each(image: &[u64], at: u64, n: u64, firsts: &mut [u64])
 
 // The sizes of n registers added up, which stand from a place on.
 pub fn size_in_all(image: &[u64], at: u64, n: u64) -> u64
-    requires { ⌜ SmallPlace at × (n ≤ 8192) × (sum (map (λ i. word (now image) (at + i)) (range 0 n)) ≤ 4096) ⌝ }
+    requires { ⌜ SmallPlace at × (n ≤ mostWords) × (sum (map (λ i. word (now image) (at + i)) (range 0 n)) ≤ mostElements) ⌝ }
     ensures { λ r. ⌜ r ≡ sum (map (λ i. word (now (image .entry)) (at + i)) (range 0 n)) ⌝ }
 {
     let mut total = 0u64;
@@ -273,7 +274,7 @@ pub fn size_in_all(image: &[u64], at: u64, n: u64) -> u64
 
 // The size of an argument: 1 for an index, and for a formal argument in a body; else its register's.
 pub fn argument_size(image: &[u64], l: Layout, scope: u64, a: u64) -> u64
-    requires { ⌜ LayoutOf (now image) l × (a ≤ 8192) ⌝ }
+    requires { ⌜ LayoutOf (now image) l × (a ≤ mostWords) ⌝ }
     ensures { λ r. ⌜ r ≡ argumentSize (now (image .entry)) scope a ⌝ }
 {
     if scope != 0 {
@@ -288,7 +289,7 @@ pub fn argument_size(image: &[u64], l: Layout, scope: u64, a: u64) -> u64
 
 // The size of a classical argument, which main alone has.
 pub fn classical_argument_size(image: &[u64], l: Layout, a: u64) -> u64
-    requires { ⌜ LayoutOf (now image) l × (a ≤ 8192) ⌝ }
+    requires { ⌜ LayoutOf (now image) l × (a ≤ mostWords) ⌝ }
     ensures { λ r. ⌜ r ≡ classicalArgumentSize (now (image .entry)) a ⌝ }
 {
     let at = l.argument_at(a);
@@ -307,7 +308,7 @@ pub fn larger(x: u64, y: u64) -> u64
 
 // The largest size of some arguments, 0 of none: the rounds of a statement.
 pub fn rounds_of(image: &[u64], l: Layout, scope: u64, a: u64, n: u64) -> u64
-    requires { ⌜ LayoutOf (now image) l × (a + n ≤ 8192) ⌝ }
+    requires { ⌜ LayoutOf (now image) l × (a + n ≤ mostWords) ⌝ }
     ensures { λ r. ⌜ r ≡ rounds (now (image .entry)) scope (range a n) ⌝ }
 {
     let mut most = 0u64;

@@ -44,7 +44,8 @@ module _ {A : Type 0} (number place : A → ℕ) where
   bad-append [] ys = refl
   bad-append (x ∷ xs) ys = go (eqb (number x) 0) (bad-append xs ys)
     where
-      go : (t : Bool) → firstBad number place (xs ++ ys) ≡ orElse (firstBad number place xs) (firstBad number place ys) → cond t (firstBad number place (xs ++ ys)) (bad (number x) (place x)) ≡ orElse (cond t (firstBad number place xs) (bad (number x) (place x))) (firstBad number place ys)
+      go : (t : Bool) → firstBad number place (xs ++ ys) ≡ orElse (firstBad number place xs) (firstBad number place ys)
+          → cond t (firstBad number place (xs ++ ys)) (bad (number x) (place x)) ≡ orElse (cond t (firstBad number place xs) (bad (number x) (place x))) (firstBad number place ys)
       go true e = e
       go false e = refl
 

@@ -9,10 +9,7 @@ use borrow.Author.Tests.{lt-ltb, le-ltb, ne-eqb}
 use Rattle.model.specs.Image.{Statement, statementOf, statement}
 use Rattle.model.specs.Check.{plainFlaw, inConditional, conditionalOk, conditionalFlaw, flaw}
 use Rattle.image.proofs.KindLaws.{if-is}
-
--- what is wrong with an if where none may stand
-abbrev pub noIf : ℕ → ℕ → ℕ → ℕ
-noIf r v t = 4
+use Rattle.image_check.specs.Statements.{noIf}
 
 module _ (image : List ℕ) where
   -- no if is looked into

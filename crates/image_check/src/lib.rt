@@ -10,13 +10,14 @@ ghost use mathlib.Core.List.{[], _∷_, List};
 ghost use Prim.Native.Nat.{ℕ, _≤_};
 ghost use Rattle.model.specs.Lists.{all};
 ghost use Rattle.model.specs.Image.{U, CX, Gate, Barrier, Measure, Reset, statement, statementAt, scopeStatements};
-ghost use Rattle.model.specs.Check.{firstBad, expressionOk, downward, conditionalFlaw, plainFlaw, flaw, statementEntries, check, firstOf, inConditional};
+ghost use Rattle.model.specs.Check.{firstBad, expressionOk, downward, conditionalFlaw, plainFlaw, flaw, statementEntries, check, inConditional};
+ghost use Rattle.image.specs.Limits.{mostLevels, mostParameters, mostWords};
 ghost use Rattle.image.specs.Answer.{refusalFlaw, answerFlaw};
 ghost use Rattle.image.specs.Layout.{LayoutOf, GatesAccepted};
 ghost use Rattle.image_entries.specs.Flaws.{flawOf};
-ghost use Rattle.image_entries.specs.Judging.{JudgementTables};
+ghost use Rattle.image_entries.specs.Judging.{TablesFit, TablesOf};
 ghost use Rattle.image_check.specs.Answer.{entriesFlaw, LayoutAnswerOf};
-ghost use Rattle.image_check.specs.Statements.{CheckContext, callFits};
+ghost use Rattle.image_check.specs.Statements.{CheckContext, callFits, callFlaw, noIf};
 
 // ---- statements
 
@@ -32,7 +33,6 @@ fn calls_down(scope: u64, g: u64) -> bool
 
 // Whether the three angles of a U are well formed with v variables.
 fn angles_ok(
-    image: &[u64],
     l: Layout,
     levels: &[u64],
     variables: &[u64],
@@ -41,16 +41,16 @@ fn angles_ok(
     phi: u64,
     lambda: u64,
 ) -> bool
-    requires { ⌜ LayoutOf (now image) l × JudgementTables (now image) (l .expressions) (now levels) (now variables) × (v ≤ 16) ⌝ }
-    ensures { λ r. ⌜ r ≡ all (expressionOk (now (image .entry)) v 32) (theta ∷ phi ∷ lambda ∷ []) ⌝ }
+    requires { ⌜ TablesFit l (now levels) (now variables) × (v ≤ mostParameters) ⌝ }
+    ensures { λ r. ⌜ ((image : List ℕ) → TablesOf image l (now (levels .entry)) (now (variables .entry)) → r ≡ all (expressionOk image v mostLevels) (theta ∷ phi ∷ lambda ∷ [])) ⌝ }
 {
-    if !image_entries::expression_ok(image, l, levels, variables, v, theta) {
+    if !image_entries::expression_ok(l, levels, variables, v, theta) {
         return false;
     }
-    if !image_entries::expression_ok(image, l, levels, variables, v, phi) {
+    if !image_entries::expression_ok(l, levels, variables, v, phi) {
         return false;
     }
-    image_entries::expression_ok(image, l, levels, variables, v, lambda)
+    image_entries::expression_ok(l, levels, variables, v, lambda)
 }
 
 // What is wrong with a U: form, expression or argument, and 0 if nothing is.
@@ -66,7 +66,7 @@ fn u_flaw(
     q: u64,
 ) -> u64
     requires { ⌜ CheckContext (now image) l (now levels) (now variables) scope ⌝ }
-    ensures { λ r. ⌜ ((s : ℕ) → r ≡ plainFlaw (now (image .entry)) (λ r v t. 4) scope s (U theta phi lambda q)) ⌝ }
+    ensures { λ r. ⌜ ((s : ℕ) → r ≡ plainFlaw (now (image .entry)) noIf scope s (U theta phi lambda q)) ⌝ }
 {
     let n = l.expressions;
     if n <= theta {
@@ -82,7 +82,7 @@ fn u_flaw(
         return refusal::FORM;
     }
     let v = image_entries::variables_of(image, l, scope);
-    if !angles_ok(image, l, levels, variables, v, theta, phi, lambda) {
+    if !angles_ok(l, levels, variables, v, theta, phi, lambda) {
         return refusal::EXPRESSION;
     }
     if image_entries::argument_ok(image, l, scope, q) {
@@ -94,8 +94,8 @@ fn u_flaw(
 
 // What is wrong with CX as statement s: form, argument or sizes, and 0 if nothing is.
 fn cx_flaw(image: &[u64], l: Layout, scope: u64, s: u64, a: u64, b: u64) -> u64
-    requires { ⌜ LayoutOf (now image) l × (scope ≤ l .gates) × (s ≤ 8192) ⌝ }
-    ensures { λ r. ⌜ r ≡ plainFlaw (now (image .entry)) (λ r v t. 4) scope s (CX a b) ⌝ }
+    requires { ⌜ LayoutOf (now image) l × (scope ≤ l .gates) × (s ≤ mostWords) ⌝ }
+    ensures { λ r. ⌜ r ≡ plainFlaw (now (image .entry)) noIf scope s (CX a b) ⌝ }
 {
     if !image_entries::unused_after(image, l, s, 3) {
         return refusal::FORM;
@@ -124,7 +124,7 @@ fn cx_flaw(image: &[u64], l: Layout, scope: u64, s: u64, a: u64, b: u64) -> u64
 
 // Whether a call of gate g as statement s has numbers and runs in range, and no unused word.
 fn call_fits(image: &[u64], l: Layout, s: u64, g: u64, p: u64, a: u64) -> bool
-    requires { ⌜ LayoutOf (now image) l × (s ≤ 8192) ⌝ }
+    requires { ⌜ LayoutOf (now image) l × (s ≤ mostWords) ⌝ }
     ensures { λ r. ⌜ r ≡ callFits (now (image .entry)) s g p a ⌝ }
 {
     if !image_entries::unused_after(image, l, s, 4) {
@@ -142,15 +142,17 @@ fn call_fits(image: &[u64], l: Layout, s: u64, g: u64, p: u64, a: u64) -> bool
     image_entries::fits(a, n, l.arguments)
 }
 
-// The number of the first that is wrong of a call's angles, arguments and sizes.
+// The number of what is wrong first of a call's angles, arguments and sizes.
 fn call_number(angles: bool, arguments: bool, sizes: bool) -> u64
-    ensures { λ r. ⌜ r ≡ firstOf ((angles, 6) ∷ (arguments, 5) ∷ (sizes, 7) ∷ []) ⌝ }
+    ensures { λ r. ⌜ r ≡ callFlaw angles arguments sizes ⌝ }
 {
+    let wrong_angle = refusal::EXPRESSION;
+    let wrong_argument = refusal::ARGUMENT;
     if !angles {
-        return refusal::EXPRESSION;
+        return wrong_angle;
     }
     if !arguments {
-        return refusal::ARGUMENT;
+        return wrong_argument;
     }
     if sizes { 0 } else { refusal::SIZES }
 }
@@ -167,8 +169,8 @@ fn call_flaw(
     p: u64,
     a: u64,
 ) -> u64
-    requires { ⌜ CheckContext (now image) l (now levels) (now variables) scope × (s ≤ 8192) ⌝ }
-    ensures { λ r. ⌜ r ≡ plainFlaw (now (image .entry)) (λ r v t. 4) scope s (Gate g p a) ⌝ }
+    requires { ⌜ CheckContext (now image) l (now levels) (now variables) scope × (s ≤ mostWords) ⌝ }
+    ensures { λ r. ⌜ r ≡ plainFlaw (now (image .entry)) noIf scope s (Gate g p a) ⌝ }
 {
     if !call_fits(image, l, s, g, p, a) {
         return refusal::FORM;
@@ -191,8 +193,8 @@ fn call_flaw(
 
 // What is wrong with a barrier as statement s: form or argument, and 0 if nothing is.
 fn barrier_flaw(image: &[u64], l: Layout, scope: u64, s: u64, a: u64, n: u64) -> u64
-    requires { ⌜ LayoutOf (now image) l × (scope ≤ l .gates) × (s ≤ 8192) ⌝ }
-    ensures { λ r. ⌜ r ≡ plainFlaw (now (image .entry)) (λ r v t. 4) scope s (Barrier a n) ⌝ }
+    requires { ⌜ LayoutOf (now image) l × (scope ≤ l .gates) × (s ≤ mostWords) ⌝ }
+    ensures { λ r. ⌜ r ≡ plainFlaw (now (image .entry)) noIf scope s (Barrier a n) ⌝ }
 {
     if !image_entries::unused_after(image, l, s, 3) {
         return refusal::FORM;
@@ -209,8 +211,8 @@ fn barrier_flaw(image: &[u64], l: Layout, scope: u64, s: u64, a: u64, n: u64) ->
 
 // What is wrong with a measurement as statement s: form, argument or sizes, and 0 if nothing is.
 fn measure_flaw(image: &[u64], l: Layout, scope: u64, s: u64, q: u64, c: u64) -> u64
-    requires { ⌜ LayoutOf (now image) l × (scope ≤ l .gates) × (s ≤ 8192) ⌝ }
-    ensures { λ r. ⌜ r ≡ plainFlaw (now (image .entry)) (λ r v t. 4) scope s (Measure q c) ⌝ }
+    requires { ⌜ LayoutOf (now image) l × (scope ≤ l .gates) × (s ≤ mostWords) ⌝ }
+    ensures { λ r. ⌜ r ≡ plainFlaw (now (image .entry)) noIf scope s (Measure q c) ⌝ }
 {
     if scope != 0 {
         return refusal::FORM;
@@ -242,8 +244,8 @@ fn measure_flaw(image: &[u64], l: Layout, scope: u64, s: u64, q: u64, c: u64) ->
 
 // What is wrong with a reset as statement s: form or argument, and 0 if nothing is.
 fn reset_flaw(image: &[u64], l: Layout, scope: u64, s: u64, q: u64) -> u64
-    requires { ⌜ LayoutOf (now image) l × (scope ≤ l .gates) × (s ≤ 8192) ⌝ }
-    ensures { λ r. ⌜ r ≡ plainFlaw (now (image .entry)) (λ r v t. 4) scope s (Reset q) ⌝ }
+    requires { ⌜ LayoutOf (now image) l × (scope ≤ l .gates) × (s ≤ mostWords) ⌝ }
+    ensures { λ r. ⌜ r ≡ plainFlaw (now (image .entry)) noIf scope s (Reset q) ⌝ }
 {
     if scope != 0 {
         return refusal::FORM;
@@ -270,8 +272,8 @@ fn plain_flaw(
     scope: u64,
     s: u64,
 ) -> u64
-    requires { ⌜ CheckContext (now image) l (now levels) (now variables) scope × (s ≤ 8192) ⌝ }
-    ensures { λ r. ⌜ r ≡ plainFlaw (now (image .entry)) (λ r v t. 4) scope s (statement (now (image .entry)) s) ⌝ }
+    requires { ⌜ CheckContext (now image) l (now levels) (now variables) scope × (s ≤ mostWords) ⌝ }
+    ensures { λ r. ⌜ r ≡ plainFlaw (now (image .entry)) noIf scope s (statement (now (image .entry)) s) ⌝ }
 {
     let at = l.statement_at(s);
     let kind = image::word(image, at);
@@ -292,7 +294,7 @@ fn plain_flaw(
 
 // Whether an if may hold statement t.
 fn in_conditional(image: &[u64], l: Layout, t: u64) -> bool
-    requires { ⌜ LayoutOf (now image) l × (t ≤ 8192) ⌝ }
+    requires { ⌜ LayoutOf (now image) l × (t ≤ mostWords) ⌝ }
     ensures { λ r. ⌜ r ≡ inConditional (now (image .entry)) (statement (now (image .entry)) t) ⌝ }
 {
     let kind = image::word(image, l.statement_at(t));
@@ -313,7 +315,7 @@ fn conditional_flaw(
     r: u64,
     t: u64,
 ) -> u64
-    requires { ⌜ CheckContext (now image) l (now levels) (now variables) scope × (s ≤ 8192) ⌝ }
+    requires { ⌜ CheckContext (now image) l (now levels) (now variables) scope × (s ≤ mostWords) ⌝ }
     ensures { λ n. ⌜ ((v : ℕ) → n ≡ conditionalFlaw (now (image .entry)) scope s r v t) ⌝ }
 {
     if scope != 0 {
@@ -346,7 +348,7 @@ fn statement_flaw(
     scope: u64,
     s: u64,
 ) -> u64
-    requires { ⌜ CheckContext (now image) l (now levels) (now variables) scope × (s ≤ 8192) ⌝ }
+    requires { ⌜ CheckContext (now image) l (now levels) (now variables) scope × (s ≤ mostWords) ⌝ }
     ensures { λ r. ⌜ r ≡ flaw (now (image .entry)) scope s ⌝ }
 {
     let at = l.statement_at(s);
@@ -389,7 +391,7 @@ fn first_bad_in_scope(
 
 // The first bad statement where the tables of the expressions are at hand: main's in order, then the bodies' by gate number.
 fn first_bad_judged(image: &[u64], l: Layout, levels: &[u64], variables: &[u64]) -> Flaw
-    requires { ⌜ LayoutOf (now image) l × JudgementTables (now image) (l .expressions) (now levels) (now variables) × GatesAccepted (now image) ⌝ }
+    requires { ⌜ TablesOf (now image) l (now levels) (now variables) × GatesAccepted (now image) ⌝ }
     ensures { λ r. ⌜ flawOf r ≡ statementEntries (now (image .entry)) ⌝ }
 {
     let n = l.gates;

@@ -4,7 +4,9 @@ use mathlib.Core.Bool.{Bool, cond, _||_}
 use mathlib.Core.List.{[], _∷_, map}
 use lib.Dec.{eqb, leb}
 use Rattle.model.specs.Check.{Flaw, fine, bad, firstOf}
+use Rattle.model.specs.Refusals as refusal
 use Rattle.model.specs.Lists.{range, sum, every}
+use Rattle.image.specs.Limits.{mostElements}
 use Rattle.image_entries.specs.declared.Flaw as code
 
 -- the flaw that a part of the check found; number 0 is none
@@ -13,7 +15,7 @@ flawOf f = cond (eqb (f .number) 0) fine (bad (f .number) (f .place))
 
 -- register r of some sizes, as quantumRegisterFlaw and classicalRegisterFlaw say
 unfoldable pub registerFlaw : (ℕ → ℕ) → ℕ → ℕ
-registerFlaw size r = firstOf ((every (leb 1 (size r) ∷ leb (size r) 4096 ∷ leb (sum (map size (range 0 (suc r)))) 4096 ∷ []), 2) ∷ [])
+registerFlaw size r = firstOf ((every (leb 1 (size r) ∷ leb (size r) mostElements ∷ leb (sum (map size (range 0 (suc r)))) mostElements ∷ []), refusal.register) ∷ [])
 
 -- what gateOk asks of a body by a gate entry's last three words, where the further statements are those from `main` to below `statements`
 abbrev pub bodyWordsOk : ℕ → ℕ → ℕ → ℕ → ℕ → Bool

@@ -7,6 +7,9 @@ use lib.Dec.{ltb, eqb, leb}
 use lib.ListN.{getD, length}
 use Rattle.model.specs.Image.{expressionOf}
 use Rattle.model.specs.Check.{entryOk, expressionOk}
+use Rattle.image.specs.Limits.{mostLevels, mostParameters}
+use Rattle.image.specs.declared.Layout.{Layout}
+use Rattle.image.specs.Layout.{LayoutOf}
 
 -- whether an entry of some levels, 0 for none, that needs some variables is well formed to k levels with v variables
 abbrev pub accepts : ℕ → ℕ → ℕ → ℕ → Bool
@@ -17,7 +20,17 @@ pub record JudgementTables (image : List ℕ) (n : ℕ) (levels variable-counts 
   -- each table has a word for each expression
   pub levels-fit : n ≤ length levels
   pub variable-counts-fit : n ≤ length variable-counts
-  pub right : (e : ℕ) → e < n → (v k : ℕ) → v ≤ 16 → k ≤ 32 → expressionOk image v k e ≡ accepts (getD levels e 0) (getD variable-counts e 0) v k
+  pub right : (e : ℕ) → e < n → (v k : ℕ) → v ≤ mostParameters → k ≤ mostLevels → expressionOk image v k e ≡ accepts (getD levels e 0) (getD variable-counts e 0) v k
+
+-- the tables have a word for each expression
+pub record TablesFit (l : Layout) (levels variable-counts : List ℕ) : Type 0 where
+  pub levels-fit : l .expressions ≤ length levels
+  pub variable-counts-fit : l .expressions ≤ length variable-counts
+
+-- the layout is the image's, and the tables tell of each of its expressions
+pub record TablesOf (image : List ℕ) (l : Layout) (levels variable-counts : List ℕ) : Type 0 where
+  pub laid : LayoutOf image l
+  pub judged : JudgementTables image (l .expressions) levels variable-counts
 
 -- whether a leaf of a kind may have the word a, with v variables; no other kind may
 abbrev pub leafFits : ℕ → ℕ → ℕ → Bool
@@ -29,4 +42,4 @@ wordsOk kind a b v operand = entryOk (kind ∷ a ∷ b ∷ []) v operand 0 (expr
 
 -- the levels and the variables tell whether an entry is well formed with v variables, its operands having at most k levels
 pub record JudgementIs (level variables : ℕ) (ok : ℕ → ℕ → Bool) : Type 0 where
-  pub right : (v k : ℕ) → v ≤ 16 → k < 32 → ok v k ≡ accepts level variables v (suc k)
+  pub right : (v k : ℕ) → v ≤ mostParameters → k < mostLevels → ok v k ≡ accepts level variables v (suc k)

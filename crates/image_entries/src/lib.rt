@@ -3,16 +3,17 @@ use image::Layout;
 use image::refusal;
 ghost use mathlib.Core.Path.{_≡_};
 ghost use mathlib.Core.Bool.{false, cond, _&&_, _||_};
-ghost use mathlib.Core.List.{[], _∷_, map};
+ghost use mathlib.Core.List.{List, [], _∷_, map};
 ghost use lib.Dec.{ltb, leb, eqb};
 ghost use lib.ListN.{length, getD};
-ghost use Prim.Native.Nat.{_+_, _-_, _<_, _≤_, suc};
+ghost use Prim.Native.Nat.{ℕ, _+_, _-_, _<_, _≤_, suc};
 ghost use Rattle.model.specs.Lists.{range, every, all};
 ghost use Rattle.model.specs.Image.{word, parameter, variables, argumentSize};
 ghost use Rattle.model.specs.Check.{firstBad, gateOk, expressionOk, argumentOk, classicalArgumentOk, unused, matching, gateEntries};
+ghost use Rattle.image.specs.Limits.{mostLevels, mostParameters, mostWords, statementWords};
 ghost use Rattle.image.specs.Layout.{LayoutOf, SmallPlace};
 ghost use Rattle.image_entries.specs.Flaws.{flawOf, registerFlaw, bodyWordsOk};
-ghost use Rattle.image_entries.specs.Judging.{accepts, JudgementTables, leafFits, wordsOk, JudgementIs};
+ghost use Rattle.image_entries.specs.Judging.{accepts, JudgementTables, TablesFit, TablesOf, leafFits, wordsOk, JudgementIs};
 
 // What is wrong with an image: a number of document 01 with its place. Number 0 is nothing wrong.
 pub struct Flaw {
@@ -37,7 +38,7 @@ pub fn fits(a: u64, n: u64, m: u64) -> bool
 
 // The first bad register of a list: one of size 0, or one that passes the limit in all.
 pub fn first_bad_register(image: &[u64], at: u64, n: u64) -> Flaw
-    requires { ⌜ SmallPlace at × (n ≤ 8192) ⌝ }
+    requires { ⌜ SmallPlace at × (n ≤ mostWords) ⌝ }
     ensures { λ r. ⌜ flawOf r ≡ firstBad (registerFlaw (λ i. word (now (image .entry)) (at + i))) (λ i. at + i) (range 0 n) ⌝ }
 {
     let mut total = 0u64;
@@ -138,7 +139,7 @@ const REAL_LIMIT: u64 = 0x1_0000_0000;
 
 // Whether a leaf of a kind may have the word a, with as many variables as a gate has at most; no other kind may.
 fn leaf_fits(kind: u64, a: u64) -> bool
-    ensures { λ r. ⌜ r ≡ leafFits 16 kind a ⌝ }
+    ensures { λ r. ⌜ r ≡ leafFits mostParameters kind a ⌝ }
 {
     match kind {
         0 => a == 0,
@@ -248,7 +249,7 @@ fn judge_expression(
 
 // Judges each expression once, in ascending order: an operand has a smaller number than its user.
 pub fn judge_expressions(image: &[u64], l: Layout, levels: &mut [u64], variables: &mut [u64])
-    requires { ⌜ LayoutOf (now image) l × (l .expressions ≤ length (now levels)) × (l .expressions ≤ length (now variables)) ⌝ }
+    requires { ⌜ LayoutOf (now image) l × TablesFit l (now levels) (now variables) ⌝ }
     ensures { λ r. ⌜ JudgementTables (now (image .entry)) (l .expressions) (now (levels .exit)) (now (variables .exit)) ⌝ }
 {
     let n = l.expressions;
@@ -262,17 +263,10 @@ pub fn judge_expressions(image: &[u64], l: Layout, levels: &mut [u64], variables
     }
 }
 
-// Whether expression e is well formed with v variables.
-pub fn expression_ok(
-    image: &[u64],
-    l: Layout,
-    levels: &[u64],
-    variables: &[u64],
-    v: u64,
-    e: u64,
-) -> bool
-    requires { ⌜ LayoutOf (now image) l × JudgementTables (now image) (l .expressions) (now levels) (now variables) × (v ≤ 16) ⌝ }
-    ensures { λ r. ⌜ r ≡ expressionOk (now (image .entry)) v 32 e ⌝ }
+// Whether expression e is well formed with v variables, by the tables.
+pub fn expression_ok(l: Layout, levels: &[u64], variables: &[u64], v: u64, e: u64) -> bool
+    requires { ⌜ TablesFit l (now levels) (now variables) × (v ≤ mostParameters) ⌝ }
+    ensures { λ r. ⌜ ((image : List ℕ) → TablesOf image l (now (levels .entry)) (now (variables .entry)) → r ≡ expressionOk image v mostLevels e) ⌝ }
 {
     if e < l.expressions {
         let i = e as usize;
@@ -295,13 +289,13 @@ pub fn parameters_ok(
     p: u64,
     n: u64,
 ) -> bool
-    requires { ⌜ LayoutOf (now image) l × JudgementTables (now image) (l .expressions) (now levels) (now variables) × (v ≤ 16) × (p + n ≤ 8192) ⌝ }
-    ensures { λ r. ⌜ r ≡ all (λ i. expressionOk (now (image .entry)) v 32 (parameter (now (image .entry)) i)) (range p n) ⌝ }
+    requires { ⌜ TablesOf (now image) l (now levels) (now variables) × (v ≤ mostParameters) × (p + n ≤ mostWords) ⌝ }
+    ensures { λ r. ⌜ r ≡ all (λ i. expressionOk (now (image .entry)) v mostLevels (parameter (now (image .entry)) i)) (range p n) ⌝ }
 {
     let mut i = 0u64;
     while i < n {
         let e = image::word(image, l.parameter_at(p + i));
-        if expression_ok(image, l, levels, variables, v, e) {
+        if expression_ok(l, levels, variables, v, e) {
             i += 1;
         } else {
             return false;
@@ -325,7 +319,7 @@ pub fn variables_of(image: &[u64], l: Layout, scope: u64) -> u64
 
 // Whether argument a is well formed in a scope.
 pub fn argument_ok(image: &[u64], l: Layout, scope: u64, a: u64) -> bool
-    requires { ⌜ LayoutOf (now image) l × (scope ≤ l .gates) × (a ≤ 8192) ⌝ }
+    requires { ⌜ LayoutOf (now image) l × (scope ≤ l .gates) × (a ≤ mostWords) ⌝ }
     ensures { λ r. ⌜ r ≡ argumentOk (now (image .entry)) scope a ⌝ }
 {
     let at = l.argument_at(a);
@@ -345,7 +339,7 @@ pub fn argument_ok(image: &[u64], l: Layout, scope: u64, a: u64) -> bool
 
 // Whether argument a is a well formed classical one, which main alone has.
 pub fn classical_argument_ok(image: &[u64], l: Layout, a: u64) -> bool
-    requires { ⌜ LayoutOf (now image) l × (a ≤ 8192) ⌝ }
+    requires { ⌜ LayoutOf (now image) l × (a ≤ mostWords) ⌝ }
     ensures { λ r. ⌜ r ≡ classicalArgumentOk (now (image .entry)) a ⌝ }
 {
     let at = l.argument_at(a);
@@ -358,7 +352,7 @@ pub fn classical_argument_ok(image: &[u64], l: Layout, a: u64) -> bool
 
 // Whether n arguments from a on are well formed in a scope.
 pub fn arguments_ok(image: &[u64], l: Layout, scope: u64, a: u64, n: u64) -> bool
-    requires { ⌜ LayoutOf (now image) l × (scope ≤ l .gates) × (a + n ≤ 8192) ⌝ }
+    requires { ⌜ LayoutOf (now image) l × (scope ≤ l .gates) × (a + n ≤ mostWords) ⌝ }
     ensures { λ r. ⌜ r ≡ all (argumentOk (now (image .entry)) scope) (range a n) ⌝ }
 {
     let mut i = 0u64;
@@ -374,7 +368,7 @@ pub fn arguments_ok(image: &[u64], l: Layout, scope: u64, a: u64, n: u64) -> boo
 
 // Whether the sizes of n arguments from a on, other than 1, are equal.
 pub fn sizes_match(image: &[u64], l: Layout, scope: u64, a: u64, n: u64) -> bool
-    requires { ⌜ LayoutOf (now image) l × (a + n ≤ 8192) ⌝ }
+    requires { ⌜ LayoutOf (now image) l × (a + n ≤ mostWords) ⌝ }
     ensures { λ r. ⌜ r ≡ matching (map (argumentSize (now (image .entry)) scope) (range a n)) ⌝ }
 {
     let most = image::rounds_of(image, l, scope, a, n);
@@ -411,8 +405,8 @@ pub fn two_match(x: u64, y: u64) -> bool
 
 // Whether the words of a statement after its first n are 0.
 fn unused_words(image: &[u64], at: u64, n: u64) -> bool
-    requires { ⌜ SmallPlace at × (n ≤ 5) ⌝ }
-    ensures { λ r. ⌜ r ≡ all (λ i. eqb (word (now (image .entry)) (at + i)) 0) (range n (5 - n)) ⌝ }
+    requires { ⌜ SmallPlace at × (n ≤ statementWords) ⌝ }
+    ensures { λ r. ⌜ r ≡ all (λ i. eqb (word (now (image .entry)) (at + i)) 0) (range n (statementWords - n)) ⌝ }
 {
     let mut i = n;
     while i < image::STATEMENT_WORDS {
@@ -426,7 +420,7 @@ fn unused_words(image: &[u64], at: u64, n: u64) -> bool
 
 // Whether the words of statement s after its first n are 0.
 pub fn unused_after(image: &[u64], l: Layout, s: u64, n: u64) -> bool
-    requires { ⌜ LayoutOf (now image) l × (s ≤ 8192) × (n ≤ 5) ⌝ }
+    requires { ⌜ LayoutOf (now image) l × (s ≤ mostWords) × (n ≤ statementWords) ⌝ }
     ensures { λ r. ⌜ r ≡ unused (now (image .entry)) s n ⌝ }
 {
     unused_words(image, l.statement_at(s), n)

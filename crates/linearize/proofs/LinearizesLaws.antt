@@ -15,7 +15,7 @@ use Rattle.model.specs.Check.{Flaw, fine, bad, check}
 use Rattle.model.specs.Steps.{steps}
 use Rattle.model.specs.Run.{Answer, done, full, traceOf, Played, flawed, accepted, play, runs, output, Outcome, laidOver, outcomeOf, linearize}
 use Rattle.model.specs.Tally.{recordFigure, wordBound}
-use Rattle.model.specs.Reader.{recordsIn}
+use Rattle.model.specs.RecordReader.{recordsIn}
 use Rattle.model.specs.Claims.{Claims, count, declared, distinct}
 use Rattle.model.proofs.PlayLaws.{plays-all}
 use Rattle.model.proofs.Outcome.{claims}

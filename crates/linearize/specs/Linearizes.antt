@@ -9,7 +9,7 @@ use Rattle.model.specs.Lists.{range, sum}
 use Rattle.model.specs.Image.{mainStatements}
 use Rattle.model.specs.Run.{Answer, done, full, Outcome, linearize}
 use Rattle.model.specs.Tally.{recordFigure, wordBound}
-use Rattle.model.specs.Reader.{recordsIn}
+use Rattle.model.specs.RecordReader.{recordsIn}
 use Rattle.model.specs.Claims.{count, declared, distinct}
 use Rattle.record_writer.specs.declared.LinearizeErrorKind.{LinearizeErrorKind}
 use Rattle.record_writer.specs.declared.Linearized.{Linearized}

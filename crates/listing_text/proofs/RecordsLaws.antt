@@ -5,7 +5,7 @@ use mathlib.Core.Path.{_≡_, refl, sym, ap, _∙_}
 use mathlib.Core.List.{List, [], _∷_, _++_, map, flatMap, append-nil, append-assoc, map-append}
 use lib.ListN.{length, length-append}
 use Rattle.model.specs.Records.{Record, encode}
-use Rattle.model.specs.Reader.{nextAt, recordsIn}
+use Rattle.model.specs.RecordReader.{nextAt, recordsIn}
 use Rattle.model.proofs.ReadBack.{next-record, reads-back}
 use Rattle.record_reader.specs.Answer.{nextWordsOf}
 use Rattle.model.proofs.ListLaws.{flat-append}

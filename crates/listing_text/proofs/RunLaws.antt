@@ -9,7 +9,7 @@ use Rattle.value.specs.Value.{Sound}
 use Rattle.model.specs.Records.{Record, encode}
 use Rattle.model.specs.Steps.{Step, write, enter, refuse, steps}
 use Rattle.model.specs.Run.{Answer, Played, runs, output, traceOf, answerNumbers, laidOver, linearize}
-use Rattle.model.specs.Reader.{recordsIn}
+use Rattle.model.specs.RecordReader.{recordsIn}
 use Rattle.model.specs.Claims.{anglesOf}
 use Rattle.model.specs.Listing.{fromText, refusedText, closing, recordText, runText}
 use Rattle.model.proofs.All.{All-front, All-members}

@@ -10,7 +10,7 @@ ghost use lib.ListN.{length, take, drop};
 ghost use lib.Seq.{sets};
 ghost use Rattle.model.specs.Listing.{ascii, decimal, line, fromText, refusedText, runText, littleEndian, wordsOf, listing};
 ghost use Rattle.model.specs.Run.{runs, numbers};
-ghost use Rattle.model.specs.Reader.{recordsIn};
+ghost use Rattle.model.specs.RecordReader.{recordsIn};
 ghost use Rattle.record_writer.specs.Promise.{positionOf};
 ghost use Rattle.unit.specs.Told.{numbersOf};
 ghost use Rattle.listing_text.specs.Put.{Room, Put, PutMost, imageText, ListingInFront};

@@ -10,7 +10,7 @@ use Rattle.value.specs.declared.Evaluation.{Evaluation}
 use Rattle.value.specs.declared.Evaluation.the-variants as evaluation
 use Rattle.value.specs.Value.{Sound}
 use Rattle.value.specs.Promise.{SoundEvaluation}
-use Rattle.value.proofs.Soundness.{zero-lowest, one-lowest, integer-sound, from-float-sound, then-sound, sum-sound-value, difference-sound-value, product-sound-value, quotient-sound-value, power-sound-value, negation-sound, square-root-sound, sine-sound, cosine-sound, tangent-sound}
+use Rattle.value.proofs.SoundLaws.{zero-lowest, one-lowest, integer-sound, from-float-sound, then-sound, sum-sound-value, difference-sound-value, product-sound-value, quotient-sound-value, power-sound-value, negation-sound, square-root-sound, sine-sound, cosine-sound, tangent-sound}
 use Rattle.value.specs.Value.{exponential, logarithm}
 use Rattle.model.specs.Image.{Expr, Pi, Real, Int, Var, Binary, Unary, Binop, Add, Sub, Mul, Div, Pow, Unop, Neg, Sin, Cos, Tan, Exp, Ln, Sqrt, expression, expressionAt}
 use Rattle.model.specs.Evaluate.{zeroValue, binary, unary, valueOf, evaluate}

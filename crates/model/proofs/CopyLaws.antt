@@ -15,7 +15,7 @@ use Rattle.model.specs.Lists.{all}
 use Rattle.model.specs.Records.{Record, kind, fields, encode, angleWords, fractionWords}
 use Rattle.model.specs.Steps.{Step, openGate, opening}
 use Rattle.model.specs.Run.{done, play, output}
-use Rattle.model.specs.Playing.{Place, room, Plays}
+use Rattle.model.specs.Playing.{OutputState, room, Plays}
 use Rattle.model.specs.Claims.{differ}
 use Rattle.model.proofs.All.{test, all-All, All-getD}
 use Rattle.model.specs.All.{All, nil, cons}
@@ -125,7 +125,7 @@ module _ {image out : List ℕ} {at g n : ℕ} {vs : List Value} {qs : List ℕ}
       }
 
 -- a body that has just been played to its end
-pub kept-new : (image : List ℕ) (g n : ℕ) (t : List ℕ) (vs : List Value) (qs : List ℕ) {p q : Place} → Plays (openGate image (opening image n) (bodyFrame t g vs qs) g) p q done
+pub kept-new : (image : List ℕ) (g n : ℕ) (t : List ℕ) (vs : List Value) (qs : List ℕ) {p q : OutputState} → Plays (openGate image (opening image n) (bodyFrame t g vs qs) g) p q done
     → p .words ≤ length (p .out) → Kept image (q .out) (q .words) g n vs qs (p .words) (q .words - p .words) (q .records - p .records)
 kept-new image g n t vs qs {p} {q} h f =
     let fits = output-fits (room p) (openGate image (opening image n) (bodyFrame t g vs qs) g) in
@@ -150,12 +150,12 @@ renamed-shorter r (x ∷ l) = simp length-append (omega (arith, shorter r x, ren
 abbrev pub copiedWords : (ℕ → ℕ) → List Record → List ℕ
 copiedWords r rs = flatMap encode (map (renamedRecord r) rs)
 
-abbrev pub copiedPlace : (ℕ → ℕ) → List Record → Place → Place
+abbrev pub copiedPlace : (ℕ → ℕ) → List Record → OutputState → OutputState
 copiedPlace r rs p = record { out = sets (p .out) (p .words) (copiedWords r rs); words = p .words + length (copiedWords r rs); records = p .records + length rs }
 
 -- Steps that are others renamed, which were played to their end: to write the renamed records is to play them.
 pub copied-plays : (r : ℕ → ℕ) (ahead : ℕ) {ss ss′ : List Step} → Renamed r ss ss′ → play ahead ss .answer ≡ done
-    → (p : Place) → p .words + length (output (play ahead ss)) ≤ length (p .out) → Plays ss′ p (copiedPlace r (play ahead ss .written) p) done
+    → (p : OutputState) → p .words + length (output (play ahead ss)) ≤ length (p .out) → Plays ss′ p (copiedPlace r (play ahead ss .written) p) done
 unfolding output
 copied-plays r ahead {ss} {ss′} h d p f =
     let a = renamed-plays r ahead (room p) h d (omega arith) in
@@ -172,7 +172,7 @@ copied-plays r ahead {ss} {ss′} h d p f =
     }
 
 -- The law that the code's copy rests on: the table's entry, the same values, levels as before or enough in both, the formals renamed, and room for the words.
-pub kept-copies : {image : List ℕ} → Accepted image → (r : ℕ → ℕ) (p : Place) (g n n′ : ℕ) (vs : List Value) (qs qs′ t′ : List ℕ) {from words records : ℕ} (k : Kept image (p .out) (p .words) g n vs qs from words records)
+pub kept-copies : {image : List ℕ} → Accepted image → (r : ℕ → ℕ) (p : OutputState) (g n n′ : ℕ) (vs : List Value) (qs qs′ t′ : List ℕ) {from words records : ℕ} (k : Kept image (p .out) (p .words) g n vs qs from words records)
     → g < gates image → Levels r g n n′ → Formals r (gateArguments image g) qs qs′ → p .words + words ≤ length (p .out)
     → Plays (openGate image (opening image n′) (bodyFrame t′ g vs qs′) g) p (copiedPlace r (keptRecords k) p) done
 kept-copies {image} acc r p g n n′ vs qs qs′ t′ k h l f fits =
@@ -225,7 +225,7 @@ plain-words r (plain-opaque {g} {xs} {qs}) =
 -- ---- silent bodies, as the code plays them
 
 -- steps that came to their end where they began are silent
-pub plays-nothing : {ss : List Step} {p q : Place} → Plays ss p q done → q .words ≡ p .words → Silent ss
+pub plays-nothing : {ss : List Step} {p q : OutputState} → Plays ss p q done → q .words ≡ p .words → Silent ss
 plays-nothing {ss} {p} h e = plays-silent (room p) ss (empty (play (room p) ss .written) (omega (arith, h .position, words-enough (play (room p) ss .written)))) (sym (h .answers))
   where
     empty : (l : List Record) → length l ≡ 0 → l ≡ []
@@ -233,7 +233,7 @@ plays-nothing {ss} {p} h e = plays-silent (room p) ss (empty (play (room p) ss .
     empty (x ∷ l) d = absurd (omega arith)
 
 -- and silent ones are played from any place to that place
-pub silent-stays : {ss : List Step} → Silent ss → (p : Place) → p .words ≤ length (p .out) → Plays ss p p done
+pub silent-stays : {ss : List Step} → Silent ss → (p : OutputState) → p .words ≤ length (p .out) → Plays ss p p done
 unfolding output flatMap
 silent-stays {ss} h p f =
     let s = silent-plays (room p) h in
@@ -249,5 +249,5 @@ silent-stays {ss} h p f =
 
 -- The law of a table of silent bodies: with the same values, as many levels or more, and any qubits, nothing is to be done.
 pub hushed-plays : (image : List ℕ) (g n n′ : ℕ) (vs : List Value) (t t′ qs qs′ : List ℕ) → Silent (openGate image (opening image n) (bodyFrame t g vs qs) g) → n ≤ n′
-    → (p : Place) → p .words ≤ length (p .out) → Plays (openGate image (opening image n′) (bodyFrame t′ g vs qs′) g) p p done
+    → (p : OutputState) → p .words ≤ length (p .out) → Plays (openGate image (opening image n′) (bodyFrame t′ g vs qs′) g) p p done
 hushed-plays image g n n′ vs t t′ qs qs′ h l p f = silent-stays (openings-hushed image n n′ l .hushed t t′ g vs qs qs′ h) p f

@@ -16,7 +16,7 @@ use Rattle.model.specs.Check.{Flaw, fine, bad, check}
 use Rattle.model.specs.Steps.{Step, write, enter, refuse, steps}
 use Rattle.model.specs.Run.{Answer, done, full, flawed, shortTrace, Played, stop, after, traceOf, play, accepted, runs, output, laidOver, linearize}
 use Rattle.model.specs.Tally.{weightTally, ofKind, theWords, recordFigure, entryFigure, wordBound}
-use Rattle.model.specs.Reader.{recordsIn}
+use Rattle.model.specs.RecordReader.{recordsIn}
 use Rattle.model.specs.Claims.{count, declared, distinct, Claims, written, recordsFound}
 use Rattle.model.proofs.All.{head-All, tail-All, All-front, All-of, members-All}
 use Rattle.model.specs.All.{All, nil, cons}
@@ -285,7 +285,7 @@ module _ (image : List ℕ) (depth : ℕ) (out trace : List ℕ) where
   abbrev played : Played
   played = runs image depth (length out) (length trace)
 
-  -- the words written stand in front of the output, and the reader finds the records in them
+  -- the words written stand in front of the output, and the record reader finds the records in them
   front : written image depth out trace ≡ output played
   unfolding linearize
   front = take-append-seam (output played) (drop (length (output played)) out)

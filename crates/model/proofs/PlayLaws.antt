@@ -14,7 +14,7 @@ use Rattle.model.specs.Lists.{range}
 use Rattle.model.specs.Records.{Record, encode}
 use Rattle.model.specs.Steps.{Step, write, enter, refuse, inRounds}
 use Rattle.model.specs.Run.{Answer, done, refused, full, flawed, shortTrace, Played, stop, after, play, output, laidOver}
-use Rattle.model.specs.Playing.{Place, room, Plays, Going}
+use Rattle.model.specs.Playing.{OutputState, room, Plays, Going}
 use Rattle.model.proofs.ReadBack.{words-enough}
 
 -- stores after stores
@@ -39,22 +39,22 @@ output-fits n (write t r ∷ ss) = go (leb (length (encode r)) n) refl (output-f
 
 -- ---- where steps come to from a place, and the answer
 
-abbrev came : Place → Played → Place × Answer
+abbrev came : OutputState → Played → OutputState × Answer
 came p x = (record { out = sets (p .out) (p .words) (output x); words = p .words + length (output x); records = p .records + length (x .written) }, x .answer)
 
-abbrev comes : List Step → Place → Place × Answer
+abbrev comes : List Step → OutputState → OutputState × Answer
 comes ss p = came p (play (room p) ss)
 
 -- nothing is written
-came-stop : (p : Place) (a : Answer) → came p (stop a) ≡ (p, a)
+came-stop : (p : OutputState) (a : Answer) → came p (stop a) ≡ (p, a)
 unfolding output flatMap
 came-stop p a = λ i. (record { out = p .out; words = add-zero (p .words) i; records = add-zero (p .records) i }, a)
 
 -- a record is written, and steps are played after it
-abbrev wrote : Place → Record → Place
+abbrev wrote : OutputState → Record → OutputState
 wrote p r = record { out = sets (p .out) (p .words) (encode r); words = p .words + length (encode r); records = p .records + 1 }
 
-came-after : (r : Record) (ss : List Step) (p : Place) → came p (after r (play (room p - length (encode r)) ss)) ≡ comes ss (wrote p r)
+came-after : (r : Record) (ss : List Step) (p : OutputState) → came p (after r (play (room p - length (encode r)) ss)) ≡ comes ss (wrote p r)
 unfolding output flatMap
 came-after r ss p = ap (λ n. came p (after r (play n ss))) less ∙ moved (play (room (wrote p r)) ss)
   where
@@ -68,17 +68,17 @@ came-after r ss p = ap (λ n. came p (after r (play n ss))) less ∙ moved (play
         λ i. (record { out = sym (sets-append (p .out) (p .words) (encode r) (output x)) i; words = words i; records = records i }, x .answer)
 
 -- steps after others, which came to a place and an answer
-next : List Step → Place → Answer → Place × Answer
+next : List Step → OutputState → Answer → OutputState × Answer
 next ss p done = comes ss p
 next ss p (refused t x) = (p, refused t x)
 next ss p (full t) = (p, full t)
 next ss p (flawed n q) = (p, flawed n q)
 next ss p shortTrace = (p, shortTrace)
 
-abbrev onward : List Step → Place × Answer → Place × Answer
+abbrev onward : List Step → OutputState × Answer → OutputState × Answer
 onward ss x = next ss (x .0) (x .1)
 
-stays : (ss : List Step) (p : Place) (a : Answer) → ¬ (a ≡ done) → next ss p a ≡ (p, a)
+stays : (ss : List Step) (p : OutputState) (a : Answer) → ¬ (a ≡ done) → next ss p a ≡ (p, a)
 unfolding next
 stays ss p done h = absurd (h refl)
 stays ss p (refused t x) h = refl
@@ -86,7 +86,7 @@ stays ss p (full t) h = refl
 stays ss p (flawed n q) h = refl
 stays ss p shortTrace h = refl
 
-comes-append : (s ss : List Step) (p : Place) → comes (s ++ ss) p ≡ onward ss (comes s p)
+comes-append : (s ss : List Step) (p : OutputState) → comes (s ++ ss) p ≡ onward ss (comes s p)
 unfolding play next output
 comes-append [] ss p = sym (ap (onward ss) (came-stop p done))
 comes-append (refuse t x ∷ s) ss p = refl
@@ -103,7 +103,7 @@ comes-append (write t r ∷ s) ss p = go (leb (length (encode r)) (room p)) (com
 
 -- ---- functions that play steps
 
-module _ {ss : List Step} {p q : Place} {a : Answer} where
+module _ {ss : List Step} {p q : OutputState} {a : Answer} where
   there : Plays ss p q a → (q, a) ≡ comes ss p
   there h = λ i. (record { out = h .contents i; words = h .position i; records = h .counts i }, h .answers i)
 
@@ -124,11 +124,11 @@ module _ {ss : List Step} {p q : Place} {a : Answer} where
       }
 
 -- steps that stop at once
-pub plays-stop : (ss : List Step) {p : Place} {a : Answer} → p .words ≤ length (p .out) → play (room p) ss ≡ stop a → Plays ss p p a
+pub plays-stop : (ss : List Step) {p : OutputState} {a : Answer} → p .words ≤ length (p .out) → play (room p) ss ≡ stop a → Plays ss p p a
 plays-stop ss {p} {a} h e = plays h (sym (ap (came p) e ∙ came-stop p a))
 
 -- a record is written
-pub plays-write : (t : List ℕ) (r : Record) {p q : Place} → p .words + length (encode r) ≤ length (p .out)
+pub plays-write : (t : List ℕ) (r : Record) {p q : OutputState} → p .words + length (encode r) ≤ length (p .out)
     → q .out ≡ sets (p .out) (p .words) (encode r) → q .words ≡ p .words + length (encode r) → q .records ≡ p .records + 1 → Plays (write t r ∷ []) p q done
 unfolding play
 plays-write t r {p} {q} h o w n =
@@ -138,31 +138,31 @@ plays-write t r {p} {q} h o w n =
     plays f (ap (λ x. (x, done)) e ∙ rw (le-leb _ _ k) (sym (came-after r [] p ∙ came-stop (wrote p r) done)))
 
 -- a body is entered, which leaves no mark
-pub plays-enter : (t : List ℕ) (g : ℕ) {ss : List Step} {p q : Place} {a : Answer} → Plays ss p q a → Plays (enter t g ∷ ss) p q a
+pub plays-enter : (t : List ℕ) (g : ℕ) {ss : List Step} {p q : OutputState} {a : Answer} → Plays ss p q a → Plays (enter t g ∷ ss) p q a
 unfolding play output
 plays-enter t g h = plays (h .fits) (there h)
 
 -- steps after others that are done, and after others that stop
-pub plays-append : {s ss : List Step} {p q q′ : Place} {a : Answer} → Plays s p q done → Plays ss q q′ a → Plays (s ++ ss) p q′ a
+pub plays-append : {s ss : List Step} {p q q′ : OutputState} {a : Answer} → Plays s p q done → Plays ss q q′ a → Plays (s ++ ss) p q′ a
 unfolding next
 plays-append {s} {ss} {p} h k = plays (k .fits) (there k ∙ ap (onward ss) (there h) ∙ sym (comes-append s ss p))
 
-pub plays-stopped : {s : List Step} (ss : List Step) {p q : Place} {a : Answer} → Plays s p q a → ¬ (a ≡ done) → Plays (s ++ ss) p q a
+pub plays-stopped : {s : List Step} (ss : List Step) {p q : OutputState} {a : Answer} → Plays s p q a → ¬ (a ≡ done) → Plays (s ++ ss) p q a
 plays-stopped {s} ss {p} {q} {a} h n = plays (h .fits) (sym (stays ss q a n) ∙ ap (onward ss) (there h) ∙ sym (comes-append s ss p))
 
 -- ---- a loop that plays steps
 
-pub going-start : (ss : List Step) {p : Place} → p .words ≤ length (p .out) → Going ss ss p p
+pub going-start : (ss : List Step) {p : OutputState} → p .words ≤ length (p .out) → Going ss ss p p
 unfolding play
 going-start ss h = record { part = []; split = refl; played = plays-stop [] h refl }
 
-module _ {ss rest : List Step} {from now : Place} (g : Going ss rest from now) where
+module _ {ss rest : List Step} {from now : OutputState} (g : Going ss rest from now) where
   -- the rest is played
-  pub going-rest : {to : Place} {a : Answer} → Plays rest now to a → Plays ss from to a
+  pub going-rest : {to : OutputState} {a : Answer} → Plays rest now to a → Plays ss from to a
   going-rest h = rw (g .split) (plays-append (g .played) h)
 
   -- a part of the rest is played: it is done, or it is not
-  pub going-part : {part more : List Step} {to : Place} → rest ≡ part ++ more → Plays part now to done → Going ss more from to
+  pub going-part : {part more : List Step} {to : OutputState} → rest ≡ part ++ more → Plays part now to done → Going ss more from to
   going-part {part} {more} e h =
       record {
         part = g .part ++ part;
@@ -170,7 +170,7 @@ module _ {ss rest : List Step} {from now : Place} (g : Going ss rest from now) w
         played = plays-append (g .played) h;
       }
 
-  pub going-stopped : {part : List Step} (more : List Step) {to : Place} {a : Answer} → rest ≡ part ++ more → Plays part now to a → ¬ (a ≡ done) → Plays ss from to a
+  pub going-stopped : {part : List Step} (more : List Step) {to : OutputState} {a : Answer} → rest ≡ part ++ more → Plays part now to a → ¬ (a ≡ done) → Plays ss from to a
   going-stopped more e h n = going-rest (rw e (plays-stopped more h n))
 
   -- the rest stops at once
@@ -210,7 +210,7 @@ module _ (g : ℕ → List Step) where
 
 -- ---- the run: what it leaves of an output that was lent to it
 
-pub plays-all : (ss : List Step) {out : List ℕ} {to : Place} {a : Answer} → Plays ss (record { out = out; words = 0; records = 0 }) to a
+pub plays-all : (ss : List Step) {out : List ℕ} {to : OutputState} {a : Answer} → Plays ss (record { out = out; words = 0; records = 0 }) to a
     → let x = play (length out) ss in (a ≡ x .answer) × (to .records ≡ length (x .written)) × (to .words ≡ length (output x)) × (to .out ≡ laidOver (output x) out)
 plays-all ss {out} h =
     let e : length out - 0 ≡ length out = omega arith in

@@ -7,7 +7,7 @@ use mathlib.Core.Path.{_≡_, refl, sym, ap, _∙_}
 use mathlib.Core.Bool.{Bool, true, false, _&&_}
 use mathlib.Core.List.{_∷_, map}
 use borrow.Author.Tests.{eq-eqb, ne-eqb}
-use Rattle.rational.proofs.Soundness.{both-true}
+use Rattle.rational.proofs.LowestTermsLaws.{both-true}
 use Rattle.model.specs.Lists.{range, sum, largest, all}
 use Rattle.model.specs.Check.{fine, bad, firstBad}
 

@@ -1,4 +1,4 @@
--- The reader finds in the words of records those records, in order.
+-- The record reader finds in the words of records those records, in order.
 use Prim.Native.Nat.{ℕ, zero, suc, _+_, _-_, _≤_, zero-le}
 use native.Mathlib.Nat.{le-of-suc-le-suc, not-suc-le-zero}
 use native.Mathlib.Omega.{arith}
@@ -8,7 +8,7 @@ use borrow.Author.Tests.{lt-ltb, le-leb, le-ltb}
 use lib.ListN.{length, length-append}
 use lib.Seq.{take-append-seam, drop-append-seam}
 use Rattle.model.specs.Records.{Record, kind, angleWords, fields, encode}
-use Rattle.model.specs.Reader.{recordLength, next, nextAt, found, recordsFrom, recordsIn}
+use Rattle.model.specs.RecordReader.{recordLength, next, nextAt, found, recordsFrom, recordsIn}
 use Rattle.model.proofs.Lengths.{length-words, length-pairs}
 
 -- a record's own words tell its length
@@ -28,7 +28,7 @@ positive : (r : Record) → 1 ≤ length (encode r)
 unfolding encode
 positive r = omega arith
 
--- where a record's words stand, the reader finds that record
+-- where a record's words stand, the record reader finds that record
 pub next-record : (before : List ℕ) (r : Record) (rest : List ℕ) → nextAt (before ++ (encode r ++ rest)) (length before) ≡ next (encode r)
 unfolding nextAt
 next-record before r rest =

@@ -11,7 +11,7 @@ use Rattle.model.specs.Image.{Statement, Gate, Conditional, statement, s
 use Rattle.model.specs.Records.{Record, encode}
 use Rattle.model.specs.Steps.{Step, write, enter, refuse, Frame, Opening, Values, have, lack, given, inRounds, qubitIn, argumentQubits, parameterValues, withValues, writeU, writeCX, distinctly, writeOpaque, writeMeasure, writeReset, pushFrame, openGate, visitGate, visitPlain, visitConditional, visitStatement, visitBody, opening}
 use Rattle.model.specs.Run.{Answer, done, refused, full, flawed, shortTrace, Played, stop, after, play, output}
-use Rattle.model.specs.Playing.{Place, room, Plays}
+use Rattle.model.specs.Playing.{OutputState, room, Plays}
 
 map-append : (f : Step → Step) (s t : List Step) → map f (s ++ t) ≡ map f s ++ map f t
 map-append f [] t = refl
@@ -60,7 +60,7 @@ module _ (u : List ℕ) where
       go true e = ap (after r) e
       go false e = refl
 
-  pub plays-under : {ss : List Step} {p q : Place} {a : Answer} → Plays ss p q a → Plays (map under ss) p q (underAnswer a)
+  pub plays-under : {ss : List Step} {p q : OutputState} {a : Answer} → Plays ss p q a → Plays (map under ss) p q (underAnswer a)
   unfolding output
   plays-under {ss} {p} h =
       let e = play-under (room p) ss in

@@ -5,6 +5,7 @@ use mathlib.Core.List.{List, [], _∷_, map, flatMap}
 use lib.ListN.{length}
 use lib.Dec.{leb, ltb, eqb}
 use Rattle.model.specs.Lists.{range, largest, every, all}
+use Rattle.model.specs.Refusals as refusal
 use Rattle.model.specs.Image.{Statement, U, CX, Gate, Barrier, Measure, Reset, Conditional, Unknown, statement, Expr, Pi, Real, Int, Var, Binary, Unary, expression}
 use Rattle.model.specs.Image.{word, quantumRegisters, classicalRegisters, gates, mainStatements, allStatements, arguments, parameters, expressions, quantumRegisterAt, classicalRegisterAt, gateAt, statementAt, expressionAt, quantumSize, classicalSize, firstQubit, firstBit, gateParameters, gateArguments, gateBody, bodyStart, bodyLength, parameter, argumentRegister, argumentIndex, variables, scopeStatements, argumentSize, classicalArgumentSize}
 
@@ -41,10 +42,10 @@ module _ (image : List ℕ) where
 
   -- "2 for a register": "sizes 1 to 4,096; 4,096 qubits and 4,096 bits in all (the register that passes a total is the bad one)"
   unfoldable pub quantumRegisterFlaw : ℕ → ℕ
-  quantumRegisterFlaw r = firstOf ((every (leb 1 (quantumSize image r) ∷ leb (quantumSize image r) 4096 ∷ leb (firstQubit image (suc r)) 4096 ∷ []), 2) ∷ [])
+  quantumRegisterFlaw r = firstOf ((every (leb 1 (quantumSize image r) ∷ leb (quantumSize image r) 4096 ∷ leb (firstQubit image (suc r)) 4096 ∷ []), refusal.register) ∷ [])
 
   unfoldable pub classicalRegisterFlaw : ℕ → ℕ
-  classicalRegisterFlaw r = firstOf ((every (leb 1 (classicalSize image r) ∷ leb (classicalSize image r) 4096 ∷ leb (firstBit image (suc r)) 4096 ∷ []), 2) ∷ [])
+  classicalRegisterFlaw r = firstOf ((every (leb 1 (classicalSize image r) ∷ leb (classicalSize image r) 4096 ∷ leb (firstBit image (suc r)) 4096 ∷ []), refusal.register) ∷ [])
 
   -- n entries from a on, in a list of m: "An empty run of statements, parameters or arguments starts at most at its list's count."
   abbrev pub fits : ℕ → ℕ → ℕ → Bool
@@ -61,7 +62,7 @@ module _ (image : List ℕ) where
       (eqb (bodyLength image g) 0 || leb (mainStatements image) (bodyStart image g)) ∷ [])
 
   unfoldable pub gateFlaw : ℕ → ℕ
-  gateFlaw g = firstOf ((gateOk g, 3) ∷ [])
+  gateFlaw g = firstOf ((gateOk g, refusal.gateEntry) ∷ [])
 
   -- "6 expression or a parameter's number": an entry with v variables at hand, at place p; `operand` judges its operands
   unfoldable pub entryOk : ℕ → (ℕ → Bool) → ℕ → Expr → Bool
@@ -99,32 +100,32 @@ module _ (image : List ℕ) where
   unfoldable pub plainFlaw : (ℕ → ℕ → ℕ → ℕ) → ℕ → ℕ → Statement → ℕ
   plainFlaw ifFlaw scope s (U theta phi lambda q) =
       firstOf
-      ((every (ltb theta (expressions image) ∷ ltb phi (expressions image) ∷ ltb lambda (expressions image) ∷ ltb q (arguments image) ∷ []), 4)
-      ∷ (all (expressionOk (variables image scope) 32) (theta ∷ phi ∷ lambda ∷ []), 6)
-      ∷ (argumentOk scope q, 5) ∷ [])
+      ((every (ltb theta (expressions image) ∷ ltb phi (expressions image) ∷ ltb lambda (expressions image) ∷ ltb q (arguments image) ∷ []), refusal.form)
+      ∷ (all (expressionOk (variables image scope) 32) (theta ∷ phi ∷ lambda ∷ []), refusal.expression)
+      ∷ (argumentOk scope q, refusal.argument) ∷ [])
   plainFlaw ifFlaw scope s (CX a b) =
       firstOf
-      ((every (unused s 3 ∷ ltb a (arguments image) ∷ ltb b (arguments image) ∷ []), 4)
-      ∷ (every (argumentOk scope a ∷ argumentOk scope b ∷ []), 5)
-      ∷ (matching (argumentSize image scope a ∷ argumentSize image scope b ∷ []), 7) ∷ [])
+      ((every (unused s 3 ∷ ltb a (arguments image) ∷ ltb b (arguments image) ∷ []), refusal.form)
+      ∷ (every (argumentOk scope a ∷ argumentOk scope b ∷ []), refusal.argument)
+      ∷ (matching (argumentSize image scope a ∷ argumentSize image scope b ∷ []), refusal.sizes) ∷ [])
   plainFlaw ifFlaw scope s (Gate g p a) =
       firstOf
-      ((every (unused s 4 ∷ ltb g (gates image) ∷ fits p (gateParameters image g) (parameters image) ∷ fits a (gateArguments image g) (arguments image) ∷ []), 4)
-      ∷ (downward scope g, 8)
-      ∷ (all (λ i. expressionOk (variables image scope) 32 (parameter image i)) (range p (gateParameters image g)), 6)
-      ∷ (all (argumentOk scope) (range a (gateArguments image g)), 5)
-      ∷ (matching (map (argumentSize image scope) (range a (gateArguments image g))), 7) ∷ [])
+      ((every (unused s 4 ∷ ltb g (gates image) ∷ fits p (gateParameters image g) (parameters image) ∷ fits a (gateArguments image g) (arguments image) ∷ []), refusal.form)
+      ∷ (downward scope g, refusal.upward)
+      ∷ (all (λ i. expressionOk (variables image scope) 32 (parameter image i)) (range p (gateParameters image g)), refusal.expression)
+      ∷ (all (argumentOk scope) (range a (gateArguments image g)), refusal.argument)
+      ∷ (matching (map (argumentSize image scope) (range a (gateArguments image g))), refusal.sizes) ∷ [])
   plainFlaw ifFlaw scope s (Barrier a n) =
-      firstOf ((every (unused s 3 ∷ fits a n (arguments image) ∷ []), 4) ∷ (all (argumentOk scope) (range a n), 5) ∷ [])
+      firstOf ((every (unused s 3 ∷ fits a n (arguments image) ∷ []), refusal.form) ∷ (all (argumentOk scope) (range a n), refusal.argument) ∷ [])
   plainFlaw ifFlaw scope s (Measure q c) =
       firstOf
-      ((every (eqb scope 0 ∷ unused s 3 ∷ ltb q (arguments image) ∷ ltb c (arguments image) ∷ []), 4)
-      ∷ (every (argumentOk scope q ∷ classicalArgumentOk c ∷ []), 5)
-      ∷ (matching (argumentSize image scope q ∷ classicalArgumentSize image c ∷ []), 7) ∷ [])
+      ((every (eqb scope 0 ∷ unused s 3 ∷ ltb q (arguments image) ∷ ltb c (arguments image) ∷ []), refusal.form)
+      ∷ (every (argumentOk scope q ∷ classicalArgumentOk c ∷ []), refusal.argument)
+      ∷ (matching (argumentSize image scope q ∷ classicalArgumentSize image c ∷ []), refusal.sizes) ∷ [])
   plainFlaw ifFlaw scope s (Reset q) =
-      firstOf ((every (eqb scope 0 ∷ unused s 2 ∷ ltb q (arguments image) ∷ []), 4) ∷ (argumentOk scope q, 5) ∷ [])
+      firstOf ((every (eqb scope 0 ∷ unused s 2 ∷ ltb q (arguments image) ∷ []), refusal.form) ∷ (argumentOk scope q, refusal.argument) ∷ [])
   plainFlaw ifFlaw scope s (Conditional r v t) = ifFlaw r v t
-  plainFlaw ifFlaw scope s Unknown = 4
+  plainFlaw ifFlaw scope s Unknown = refusal.form
 
   -- "An if takes one further statement of kind 1, 2, 3, 5 or 6."
   unfoldable pub inConditional : Statement → Bool
@@ -143,7 +144,7 @@ module _ (image : List ℕ) where
 
   -- "An if has its inner statement's faults, at its own place." Its value is any word.
   unfoldable pub conditionalFlaw : ℕ → ℕ → ℕ → ℕ → ℕ → ℕ
-  conditionalFlaw scope s r v t = cond (conditionalOk scope s r t) (plainFlaw (λ r v t. 4) scope t (statement image t)) 4
+  conditionalFlaw scope s r v t = cond (conditionalOk scope s r t) (plainFlaw (λ r v t. refusal.form) scope t (statement image t)) refusal.form
 
   unfoldable pub flaw : ℕ → ℕ → ℕ
   flaw scope s = plainFlaw (conditionalFlaw scope s) scope s (statement image s)
@@ -166,4 +167,4 @@ module _ (image : List ℕ) where
   statementEntries = firstBad (λ x. flaw (x .0) (x .1)) (λ x. statementAt image (x .1)) everyStatement
 
   unfoldable pub check : Flaw
-  check = cond contentsOk (orElse registers (orElse gateEntries statementEntries)) (bad 1 0)
+  check = cond contentsOk (orElse registers (orElse gateEntries statementEntries)) (bad refusal.contents 0)

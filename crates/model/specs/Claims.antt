@@ -15,7 +15,7 @@ use Rattle.model.specs.Records.{Record, kind, encode}
 use Rattle.model.specs.Steps.{Step, write, enter, refuse, steps}
 use Rattle.model.specs.Run.{Outcome, done, full, runs, linearize}
 use Rattle.model.specs.Tally.{recordFigure, entryFigure, wordBound}
-use Rattle.model.specs.Reader.{recordsIn}
+use Rattle.model.specs.RecordReader.{recordsIn}
 
 -- ---- of a record's words
 
@@ -104,7 +104,7 @@ module _ (image : List ℕ) (depth : ℕ) (out trace : List ℕ) where
   abbrev pub ran : Outcome
   ran = linearize image depth out trace
 
-  -- the output words written, and the records that the reader finds in them
+  -- the output words written, and the records that the record reader finds in them
   abbrev pub written : List ℕ
   written = take (ran .outputWords) (ran .outputLeft)
 
@@ -120,7 +120,7 @@ module _ (image : List ℕ) (depth : ℕ) (out trace : List ℕ) where
     pub ample : wordBound image depth ≤ length out → (t : List ℕ) → ¬ (ran .answer ≡ full t)
     -- "The number of records that a finished run tells is the figures of kinds 1 to 7 added up, kind 7's once more for the ends, and 1 for a head if any."
     pub number : ran .answer ≡ done → ran .records ≡ sum (map (recordFigure image depth) (range 1 7)) + recordFigure image depth 7 + cond (eqb (mainStatements image) 0) 0 1
-    -- the records told are those that the reader finds, and they fill the words written
+    -- the records told are those that the record reader finds, and they fill the words written
     pub read : length recordsFound ≡ ran .records
     pub filled : flatMap (λ r. r) recordsFound ≡ written
     -- "body entries": those of a finished run

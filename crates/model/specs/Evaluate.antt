@@ -7,7 +7,7 @@ use Rattle.value.specs.declared.Value.{Value}
 use Rattle.value.specs.declared.Evaluation.{Evaluation}
 use Rattle.value.specs.declared.Evaluation.the-variants as evaluation
 use Rattle.value.specs.Value.{value, andThen, pi, integer, fromFloat, valueSum, valueDifference, valueProduct, valueQuotient, valuePower, negation, sine, cosine, tangent, exponential, logarithm, squareRoot}
-use Rattle.value.specs.Value.{zero as noFraction}
+use Rattle.value.specs.Value.{zeroFraction}
 use Rattle.model.specs.Image.{Expr, Pi, Real, Int, Var, Binary, Unary, Binop, Add, Sub, Mul, Div, Pow, Unop, Neg, Sin, Cos, Tan, Exp, Ln, Sqrt, expression}
 
 unfoldable pub binary : Binop → Value → Value → Evaluation
@@ -27,7 +27,7 @@ unary Ln x = logarithm x
 unary Sqrt x = squareRoot x
 
 abbrev pub zeroValue : Value
-zeroValue = value noFraction noFraction
+zeroValue = value zeroFraction zeroFraction
 
 -- an entry's value, from the parameters' values and its operands'. "The left operand's refusal wins." An unknown kind is in no accepted image.
 unfoldable pub valueOf : List Value → (ℕ → Evaluation) → Expr → Evaluation

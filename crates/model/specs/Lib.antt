@@ -1,4 +1,5 @@
 pub mod Lists
+pub mod Refusals
 pub mod Image
 pub mod Check
 pub mod Evaluate
@@ -6,7 +7,7 @@ pub mod Records
 pub mod Steps
 pub mod Run
 pub mod Tally
-pub mod Reader
+pub mod RecordReader
 pub mod Listing
 pub mod Cases
 pub mod Claims

@@ -9,6 +9,7 @@ use lib.ListN.{length, getD, take, drop}
 use lib.Dec.{eqb, ltb, leb}
 use Rattle.rational.specs.declared.Rational64.{Rational64}
 use Rattle.value.specs.declared.Value.{Value}
+use Rattle.model.specs.Refusals as refusal
 use Rattle.model.specs.Records.{Record, kind, fields}
 use Rattle.model.specs.Run.{Numbers, numbers, Answer, done, refused, full, flawed, shortTrace, answerNumbers, Played, runs}
 
@@ -95,4 +96,4 @@ listing bytes =
     let input = wordsOf (length bytes / 8) bytes in
     cond (eqb (length bytes % 8) 0 && leb 8 (length bytes))
     (runText (runs (drop 1 input) (getD input 0 0) 8192 256))
-    (refusedText (numbers 1 0 0))
+    (refusedText (numbers refusal.contents 0 0))

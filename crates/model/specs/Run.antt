@@ -4,6 +4,7 @@ use mathlib.Core.Bool.{cond}
 use mathlib.Core.List.{List, [], _∷_, _++_, flatMap}
 use lib.ListN.{length, drop}
 use lib.Dec.{leb, ltb}
+use Rattle.model.specs.Refusals as refusal
 use Rattle.model.specs.Records.{Record, encode}
 use Rattle.model.specs.Check.{Flaw, fine, bad, check}
 use Rattle.model.specs.Steps.{Refusal, DivideByZero, ApproximateFail, NumericalOverflow, OverlappingRegs, FunctionOfFloats, Step, write, enter, refuse, steps}
@@ -27,14 +28,14 @@ numbers n p q = record { number = n; place = p; second = q }
 
 unfoldable pub answerNumbers : Answer → Numbers
 answerNumbers done = numbers 0 0 0
-answerNumbers (refused t (DivideByZero p)) = numbers 9 p 0
-answerNumbers (refused t (ApproximateFail p f)) = numbers 10 p f
-answerNumbers (refused t (NumericalOverflow p)) = numbers 11 p 0
-answerNumbers (refused t (OverlappingRegs p q)) = numbers 12 p q
-answerNumbers (refused t (FunctionOfFloats p)) = numbers 13 p 0
-answerNumbers (full t) = numbers 14 0 0
+answerNumbers (refused t (DivideByZero p)) = numbers refusal.divideByZero p 0
+answerNumbers (refused t (ApproximateFail p f)) = numbers refusal.approximateFail p f
+answerNumbers (refused t (NumericalOverflow p)) = numbers refusal.numericalOverflow p 0
+answerNumbers (refused t (OverlappingRegs p q)) = numbers refusal.overlappingRegs p q
+answerNumbers (refused t (FunctionOfFloats p)) = numbers refusal.functionOfFloats p 0
+answerNumbers (full t) = numbers refusal.outputFull 0 0
 answerNumbers (flawed n p) = numbers n p 0
-answerNumbers shortTrace = numbers 15 0 0
+answerNumbers shortTrace = numbers refusal.shortTrace 0 0
 
 -- "Only 9 to 14 write a trace."
 unfoldable pub traceOf : Answer → List ℕ

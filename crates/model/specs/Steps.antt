@@ -5,7 +5,7 @@ use mathlib.Core.List.{List, [], _∷_, _++_, map, flatMap}
 use mathlib.Core.Option.{Option, none, some}
 use lib.ListN.{getD}
 use lib.Dec.{eqb}
-use Rattle.float.specs.Float.{bits as floatBits}
+use Rattle.float.specs.Float.{floatBits}
 use Rattle.value.specs.declared.Value.{Value}
 use Rattle.value.specs.declared.Evaluation.{Evaluation}
 use Rattle.value.specs.declared.Evaluation.the-variants as evaluation

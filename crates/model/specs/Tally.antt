@@ -5,6 +5,7 @@ use mathlib.Core.List.{List, [], _∷_, _++_, map}
 use mathlib.Core.Option.{Option, none, some}
 use lib.Dec.{eqb, leb}
 use Rattle.model.specs.Lists.{range, sum, largest, all}
+use Rattle.model.specs.Refusals as refusal
 use Rattle.model.specs.Image.{Statement, U, CX, Gate, Barrier, Measure, Reset, Conditional, Unknown, statement, gateParameters, gateArguments, gateBody, qubits, bits, mainStatements, argumentSize, classicalArgumentSize, rounds, scopeStatements}
 use Rattle.model.specs.Check.{Flaw, fine, bad, check}
 
@@ -80,4 +81,4 @@ ifAccepted fine a = a
 ifAccepted (bad n p) a = refused n p
 
 unfoldable pub tally : List ℕ → ℕ → TallyAnswer
-tally image depth = ifAccepted (check image) (cond (all (λ n. leb n 4294967295) (figures image depth)) (tallied (figures image depth)) (refused 16 0))
+tally image depth = ifAccepted (check image) (cond (all (λ n. leb n 4294967295) (figures image depth)) (tallied (figures image depth)) (refused refusal.figureTooLarge 0))

@@ -68,7 +68,7 @@ fn of_number(case: u64, n: u64) -> Outcome {
 }
 
 fn of_float(case: u64, x: f32) -> Outcome {
-    of_number(case, float::bits_of(x) as u64)
+    of_number(case, float::f32_to_bits(x) as u64)
 }
 
 fn of_evaluation(e: Evaluation) -> Outcome {
@@ -116,7 +116,7 @@ fn of_angles(op: u64, x: Value, y: Value) -> Outcome {
 
 fn of_word(word: u64) -> Outcome {
     if word < 0x1_0000_0000 {
-        return of_evaluation(Value::from_float(float::of_bits(word)));
+        return of_evaluation(Value::from_float(float::f32_from_bits(word)));
     }
     Outcome::Unfit
 }

@@ -35,11 +35,11 @@ pub gcd-greatest : (a b d : ℕ) → d ∣ a → d ∣ b → d ∣ gcd a b
 unfolding gcd
 gcd-greatest a b d p q = euclid-greatest (suc b) a b d p q
 
--- a common divisor that every common divisor divides is the gcd
+-- A common divisor that every common divisor divides is the gcd.
 pub gcd-unique : (a b g : ℕ) → g ∣ a → g ∣ b → ((d : ℕ) → d ∣ a → d ∣ b → d ∣ g) → g ≡ gcd a b
 gcd-unique a b g p q r = dvd-antisymm (gcd-greatest a b g p q) (r (gcd a b) (gcd-dvd-left a b) (gcd-dvd-right a b))
 
--- the loop's step
+-- The gcd stays as it is in a step of the code's loop.
 pub gcd-step : (a b : ℕ) → 0 < b → gcd a b ≡ gcd b (a % b)
 gcd-step a b h =
     let g = gcd a b in

@@ -1,10 +1,10 @@
 pub mod GcdLaws
 pub mod RootLaws
-pub mod Capped
+pub mod CappedLaws
 pub mod SumLaws
 pub mod ProductLaws
 pub mod PowerLaws
-pub mod Soundness
-pub mod WholeRoots
-pub mod Integers
-pub mod Exactly
+pub mod LowestTermsLaws
+pub mod WholeRootLaws
+pub mod SignedNumeratorLaws
+pub mod ReducedLaws

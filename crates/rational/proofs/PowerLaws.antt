@@ -1,4 +1,4 @@
--- A power of a fraction in reduced terms is in reduced terms.
+-- The power whose parts are capped at the limit is the definition's power, since a power of a fraction in reduced terms is in reduced terms.
 use mathlib.Core.Path.{_≡_, refl, sym, _∙_}
 use mathlib.Core.Bool.{_&&_}
 use Prim.Native.Nat.{ℕ, _%_, _^_, min}

@@ -7,7 +7,7 @@ use native.Mathlib.Omega.{arith}
 use lib.Dec.{leb}
 use lib.Pow.{pow-pos, pow-lt}
 use borrow.Author.Tests.{leb-true, leb-false}
-use Rattle.rational.specs.Root.{digits, root}
+use Rattle.rational.specs.Root.{rootDigits, root}
 
 pub pow-of-product : (a b k : ℕ) → (a * b) ^ k ≡ a ^ k * b ^ k
 pow-of-product a b zero = simp pow-zero
@@ -25,7 +25,7 @@ root-unique k n a b p q = le-antisymm (side a b p q) (side b a q p)
     side : (a b : ℕ) → IsRoot k n a → IsRoot k n b → a ≤ b
     side a b p q = le-of-suc-le-suc (lt-of-not-le (λ (g : suc b ≤ a). lt-irrefl n (lt-of-lt-of-le (q .1) (le-trans (pow-le-pow-left (subst (λ (z : ℕ). z ≤ a) (sym (plus b)) g) k) (p .0)))))
 
--- one digit more: r is the root of n / 2 ^ k
+-- If r is the root of n / 2 ^ k, then twice r or one more is the root of n.
 step : (k n r : ℕ) → IsRoot k (n / 2 ^ k) r → IsRoot k n (cond (leb ((2 * r + 1) ^ k) n) (2 * r + 1) (2 * r))
 step k n r p = go (leb ((2 * r + 1) ^ k) n) refl
   where
@@ -41,15 +41,15 @@ step k n r p = go (leb ((2 * r + 1) ^ k) n) refl
     go true e = (leb-true ((2 * r + 1) ^ k) n e, hi)
     go false e = (lo, leb-false ((2 * r + 1) ^ k) n e)
 
-digits-is : (f k n : ℕ) → n ≤ f → IsRoot (suc k) n (digits f (suc k) n)
-unfolding digits
+digits-is : (f k n : ℕ) → n ≤ f → IsRoot (suc k) n (rootDigits f (suc k) n)
+unfolding rootDigits
 digits-is zero k n h = let e : n ≡ 0 = omega arith in rw e (none k)
   where
     none : (k : ℕ) → IsRoot (suc k) 0 0
     none k = (le-of-eq (pow-suc 0 k ∙ mul-zero (0 ^ k)), one-le-pow (suc k) 1 (zero-lt-suc 0))
 digits-is (suc f) k zero h = (le-of-eq (pow-suc 0 k ∙ mul-zero (0 ^ k)), one-le-pow (suc k) 1 (zero-lt-suc 0))
 digits-is (suc f) k (suc n) h =
-    step (suc k) (suc n) (digits f (suc k) (suc n / 2 ^ suc k)) (digits-is f k (suc n / 2 ^ suc k) (fall (suc n / 2 ^ suc k) n f h (div-lt-self (zero-lt-suc n) (pow-lt {i = 0} (zero-lt-suc k)))))
+    step (suc k) (suc n) (rootDigits f (suc k) (suc n / 2 ^ suc k)) (digits-is f k (suc n / 2 ^ suc k) (fall (suc n / 2 ^ suc k) n f h (div-lt-self (zero-lt-suc n) (pow-lt {i = 0} (zero-lt-suc k)))))
   where
     fall : (x n f : ℕ) → suc n ≤ suc f → x < suc n → x ≤ f
     fall x n f p q = omega arith

@@ -3,13 +3,13 @@ use Prim.Native.Nat.{ℕ, zero, suc, _+_, _*_, _/_, _^_}
 use mathlib.Core.Bool.{cond}
 use lib.Dec.{leb}
 
--- twice the root of n without its last k binary digits, or one more; at most as many digits as the first argument says
-unfoldable pub digits : ℕ → ℕ → ℕ → ℕ
-digits zero k n = 0
-digits (suc f) k zero = 0
-digits (suc f) k (suc n) = let r = 2 * digits f k (suc n / 2 ^ k) in cond (leb ((r + 1) ^ k) (suc n)) (r + 1) r
+-- The binary digits of the root, at most as many as the first argument says: twice the root of n without its last k binary digits, or one more.
+unfoldable pub rootDigits : ℕ → ℕ → ℕ → ℕ
+rootDigits zero k n = 0
+rootDigits (suc f) k zero = 0
+rootDigits (suc f) k (suc n) = let r = 2 * rootDigits f k (suc n / 2 ^ k) in cond (leb ((r + 1) ^ k) (suc n)) (r + 1) r
 
--- it computes at numerals n of any size, where k is not huge
+-- The whole part of the k-th root of n. The definition computes at numerals n of any size, where k is not huge.
 unfoldable pub root : ℕ → ℕ → ℕ
-unfolding digits
-root k n = digits n k n
+unfolding rootDigits
+root k n = rootDigits n k n

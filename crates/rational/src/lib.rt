@@ -5,8 +5,9 @@ ghost use lib.Dec.{ltb, eqb};
 ghost use Prim.Native.Nat.{_+_, _-_, _*_, _/_, _%_, _<_, _≤_, _^_, min};
 ghost use Rattle.rational.specs.Gcd.{gcd};
 ghost use Rattle.rational.specs.Root.{root};
-ghost use Rattle.rational.specs.Rational.{LowestTerms, reduced, checked, unlike, sumMagnitude, sumSign, commonDenominator, allInRange, sum, opposite, difference, product, reciprocal, quotient, power, wholeRoot, rootRatio, rationalRoot, fraction, same, both};
-ghost use Rattle.rational.specs.Promise.{SoundChecked, ChecksTo};
+ghost use Rattle.rational.specs.Rational.{magnitudeLimit, LowestTerms, reduced, checked, unlike, opposite, reciprocal, fractionalPart, sameFraction, both};
+ghost use Rattle.rational.specs.Rational.{sumMagnitude, sumSign, commonDenominator, allInRange, fractionSum, difference, product, quotient, power, wholeRoot, rootRatio, rationalRoot};
+ghost use Rattle.rational.specs.Promise.{SoundOption, ChecksTo};
 
 pub struct Rational64 {
     pub negative: bool,
@@ -14,8 +15,8 @@ pub struct Rational64 {
     pub denom: u64,
 }
 
-// Option<Rational64> in the Rust.
-pub enum Checked {
+// Option<Rational64> in the Rust: None is an overflow, or a root that is no fraction.
+pub enum OptionRational64 {
     Some(Rational64),
     None,
 }
@@ -26,9 +27,16 @@ pub enum WholeRoot {
     Absent,
 }
 
-// The first magnitude out of range. What passes it is cut to it, and tested once at the end.
-const LIMIT: u64 = 0x8000_0000_0000_0000;
+// 2^63, the first magnitude out of range. A step that passes it is capped at it, and the range is tested once at the end.
+pub const MAGNITUDE_LIMIT: u64 = 0x8000_0000_0000_0000;
 
+// 2^32. The square root of a magnitude in range is below it, and so is every further root.
+const ROOT_LIMIT: u64 = 0x1_0000_0000;
+
+// 2^31. A number below it times a number below 2^32 is in range.
+const SHORT_FACTOR_LIMIT: u64 = MAGNITUDE_LIMIT / ROOT_LIMIT;
+
+// The greatest common divisor, by Euclid's steps.
 pub fn gcd(a: u64, b: u64) -> u64
     ensures { λ r. ⌜ r ≡ gcd a b ⌝ }
 {
@@ -42,28 +50,28 @@ pub fn gcd(a: u64, b: u64) -> u64
     x
 }
 
-// a * b, cut to the limit.
+// a * b, capped at the limit.
 pub fn capped_mul(a: u64, b: u64) -> u64
-    ensures { λ r. ⌜ r ≡ min (a * b) (2 ^ 63) ⌝ }
+    ensures { λ r. ⌜ r ≡ min (a * b) magnitudeLimit ⌝ }
 {
     // Short factors, as most are, need no division.
-    if a < 0x1_0000_0000 {
-        if b < 0x8000_0000 {
+    if a < ROOT_LIMIT {
+        if b < SHORT_FACTOR_LIMIT {
             return a * b;
         }
     }
     if a == 0 {
         return 0;
     }
-    if b <= LIMIT / a {
+    if b <= MAGNITUDE_LIMIT / a {
         return a * b;
     }
-    LIMIT
+    MAGNITUDE_LIMIT
 }
 
-// b^k, cut to the limit, after at most 64 turns.
+// b^k, capped at the limit, after at most 64 turns of the loop.
 pub fn capped_pow(b: u64, k: u64) -> u64
-    ensures { λ r. ⌜ r ≡ min (b ^ k) (2 ^ 63) ⌝ }
+    ensures { λ r. ⌜ r ≡ min (b ^ k) magnitudeLimit ⌝ }
 {
     if k == 0 {
         return 1;
@@ -74,8 +82,8 @@ pub fn capped_pow(b: u64, k: u64) -> u64
     let mut r = 1u64;
     let mut i = 0u64;
     while i < k {
-        if LIMIT <= r {
-            return LIMIT;
+        if MAGNITUDE_LIMIT <= r {
+            return MAGNITUDE_LIMIT;
         }
         r = capped_mul(r, b);
         i += 1;
@@ -90,79 +98,80 @@ pub fn signs_differ(s: bool, t: bool) -> bool
     if s { !t } else { t }
 }
 
-// A sign, which zero has not.
-pub fn sign_of(s: bool, n: u64) -> bool
-    ensures { λ r. ⌜ r ≡ (s && ltb 0 n) ⌝ }
+// The sign of ±n. Zero has none.
+pub fn sign_unless_zero(negative: bool, n: u64) -> bool
+    ensures { λ r. ⌜ r ≡ (negative && ltb 0 n) ⌝ }
 {
-    if s { 0 < n } else { false }
+    if negative { 0 < n } else { false }
 }
 
 // The fraction, if it is in range.
-pub fn range_checked(x: Rational64) -> Checked
+pub fn range_checked(x: Rational64) -> OptionRational64
     ensures { λ r. ⌜ r ≡ checked x ⌝ }
 {
-    if x.numer < LIMIT {
-        if x.denom < LIMIT {
-            return Checked::Some(x);
+    if x.numer < MAGNITUDE_LIMIT {
+        if x.denom < MAGNITUDE_LIMIT {
+            return OptionRational64::Some(x);
         }
     }
-    Checked::None
+    OptionRational64::None
 }
 
-// n/d in lowest terms.
-fn lowest_terms(s: bool, n: u64, d: u64) -> Rational64
+// ±n/d in lowest terms.
+fn lowest_terms(negative: bool, n: u64, d: u64) -> Rational64
     requires { ⌜ 0 < d ⌝ }
-    ensures { λ r. ⌜ r ≡ reduced s n d ⌝ }
+    ensures { λ r. ⌜ r ≡ reduced negative n d ⌝ }
 {
     let g = gcd(n, d);
     let k = n / g;
     Rational64 {
-        negative: sign_of(s, k),
+        negative: sign_unless_zero(negative, k),
         numer: k,
         denom: d / g,
     }
 }
 
-// The sum's common denominator, cut to the limit.
+// The common denominator of a sum, capped at the limit.
 fn common_denominator(b: u64, d: u64) -> u64
     requires { ⌜ 0 < d ⌝ }
-    ensures { λ r. ⌜ r ≡ min (commonDenominator b d) (2 ^ 63) ⌝ }
+    ensures { λ r. ⌜ r ≡ min (commonDenominator b d) magnitudeLimit ⌝ }
 {
     let g = gcd(b, d);
     capped_mul(b / g, d)
 }
 
-// p + q, or how far they are apart where the signs differ, cut to the limit.
-fn sum_magnitude(u: bool, p: u64, q: u64) -> u64
-    requires { ⌜ (p ≤ 2 ^ 63) × (q ≤ 2 ^ 63) ⌝ }
-    ensures { λ r. ⌜ r ≡ min (sumMagnitude u p q) (2 ^ 63) ⌝ }
+// The magnitude of a sum, capped at the limit: p + q, or how far p and q are apart where the signs differ.
+fn sum_magnitude(differ: bool, p: u64, q: u64) -> u64
+    requires { ⌜ (p ≤ magnitudeLimit) × (q ≤ magnitudeLimit) ⌝ }
+    ensures { λ r. ⌜ r ≡ min (sumMagnitude differ p q) magnitudeLimit ⌝ }
 {
-    if u {
+    if differ {
         if p < q {
             return q - p;
         }
         return p - q;
     }
-    if q <= LIMIT - p {
+    if q <= MAGNITUDE_LIMIT - p {
         return p + q;
     }
-    LIMIT
+    MAGNITUDE_LIMIT
 }
 
-// The sign of the larger.
+// The sign of a sum, which is that of the larger magnitude.
 fn sum_sign(s: bool, p: u64, t: bool, q: u64) -> bool
     ensures { λ r. ⌜ r ≡ sumSign s p t q ⌝ }
 {
     if p < q { t } else { s }
 }
 
+// Whether the four magnitudes of a sum are in range.
 fn all_in_range(l: u64, p: u64, q: u64, s: u64) -> bool
     ensures { λ r. ⌜ r ≡ allInRange l p q s ⌝ }
 {
-    if l < LIMIT {
-        if p < LIMIT {
-            if q < LIMIT {
-                return s < LIMIT;
+    if l < MAGNITUDE_LIMIT {
+        if p < MAGNITUDE_LIMIT {
+            if q < MAGNITUDE_LIMIT {
+                return s < MAGNITUDE_LIMIT;
             }
         }
     }
@@ -171,11 +180,11 @@ fn all_in_range(l: u64, p: u64, q: u64, s: u64) -> bool
 
 // The whole part of the k-th root, by halving the interval that it lies in.
 fn floor_root(n: u64, k: u64) -> u64
-    requires { ⌜ (1 < k) × (n < 2 ^ 63) ⌝ }
+    requires { ⌜ (1 < k) × (n < magnitudeLimit) ⌝ }
     ensures { λ r. ⌜ r ≡ root k n ⌝ }
 {
     let mut lo = 0u64;
-    let mut hi = 0x1_0000_0000u64;
+    let mut hi = ROOT_LIMIT;
     while lo + 1 < hi {
         let mid = (lo + hi) / 2;
         if capped_pow(mid, k) <= n {
@@ -189,7 +198,7 @@ fn floor_root(n: u64, k: u64) -> u64
 
 // The k-th root of n, if it is whole.
 pub fn int_root(n: u64, k: u64) -> WholeRoot
-    requires { ⌜ (1 < k) × (n < 2 ^ 63) ⌝ }
+    requires { ⌜ (1 < k) × (n < magnitudeLimit) ⌝ }
     ensures { λ r. ⌜ r ≡ wholeRoot k n ⌝ }
 {
     let r = floor_root(n, k);
@@ -199,30 +208,31 @@ pub fn int_root(n: u64, k: u64) -> WholeRoot
     WholeRoot::Absent
 }
 
-// A root's numerator over its denominator.
-fn root_ratio(n: WholeRoot, d: WholeRoot) -> Checked
+// The root of a fraction, if numerator and denominator have whole roots.
+fn root_ratio(n: WholeRoot, d: WholeRoot) -> OptionRational64
     ensures { λ r. ⌜ r ≡ rootRatio n d ⌝ }
 {
     let WholeRoot::Whole(a) = n else {
-        return Checked::None;
+        return OptionRational64::None;
     };
     let WholeRoot::Whole(b) = d else {
-        return Checked::None;
+        return OptionRational64::None;
     };
-    Checked::Some(Rational64 {
+    OptionRational64::Some(Rational64 {
         negative: false,
         numer: a,
         denom: b,
     })
 }
 
-// Whether a power keeps the sign.
-fn power_sign(s: bool, k: u64) -> bool
-    ensures { λ r. ⌜ r ≡ (s && eqb (k % 2) 1) ⌝ }
+// The sign of a power, which is that of the base for an odd exponent.
+fn power_sign(negative: bool, k: u64) -> bool
+    ensures { λ r. ⌜ r ≡ (negative && eqb (k % 2) 1) ⌝ }
 {
-    if s { k % 2 == 1 } else { false }
+    if negative { k % 2 == 1 } else { false }
 }
 
+// Whether two signs are the same.
 fn signs_equal(s: bool, t: bool) -> bool
     ensures { λ r. ⌜ r ≡ Bool·beq s t ⌝ }
 {
@@ -230,9 +240,9 @@ fn signs_equal(s: bool, t: bool) -> bool
 }
 
 impl Rational64 {
-    pub fn checked_add(self, y: Rational64) -> Checked
+    pub fn checked_add(self, y: Rational64) -> OptionRational64
         requires { ⌜ LowestTerms self × LowestTerms y ⌝ }
-        ensures { λ r. ⌜ ChecksTo (sum self y) r ⌝ }
+        ensures { λ r. ⌜ ChecksTo (fractionSum self y) r ⌝ }
     {
         let l = common_denominator(self.denom, y.denom);
         let p = capped_mul(l / self.denom, self.numer);
@@ -240,16 +250,17 @@ impl Rational64 {
         let s = sum_magnitude(signs_differ(self.negative, y.negative), p, q);
         let sign = sum_sign(self.negative, p, y.negative, q);
         if all_in_range(l, p, q, s) {
-            return Checked::Some(lowest_terms(sign, s, l));
+            return OptionRational64::Some(lowest_terms(sign, s, l));
         }
-        Checked::None
+        OptionRational64::None
     }
 
+    // The fraction with the other sign.
     pub fn opposite(self) -> Rational64
         requires { ⌜ LowestTerms self ⌝ }
         ensures { λ r. ⌜ (r ≡ opposite self) × LowestTerms r ⌝ }
     {
-        let s = sign_of(!self.negative, self.numer);
+        let s = sign_unless_zero(!self.negative, self.numer);
         Rational64 {
             negative: s,
             numer: self.numer,
@@ -257,15 +268,15 @@ impl Rational64 {
         }
     }
 
-    pub fn checked_sub(self, y: Rational64) -> Checked
+    pub fn checked_sub(self, y: Rational64) -> OptionRational64
         requires { ⌜ LowestTerms self × LowestTerms y ⌝ }
         ensures { λ r. ⌜ ChecksTo (difference self y) r ⌝ }
     {
         self.checked_add(y.opposite())
     }
 
-    // Reduced crosswise first, so that no product leaves the range that the result does not leave.
-    pub fn checked_mul(self, y: Rational64) -> Checked
+    // Numerators and denominators are reduced crosswise first, so that no product leaves the range unless the result does.
+    pub fn checked_mul(self, y: Rational64) -> OptionRational64
         requires { ⌜ LowestTerms self × LowestTerms y ⌝ }
         ensures { λ r. ⌜ ChecksTo (product self y) r ⌝ }
     {
@@ -273,7 +284,7 @@ impl Rational64 {
         let h = gcd(y.numer, self.denom);
         let n = capped_mul(self.numer / g, y.numer / h);
         let d = capped_mul(self.denom / h, y.denom / g);
-        let s = sign_of(signs_differ(self.negative, y.negative), n);
+        let s = sign_unless_zero(signs_differ(self.negative, y.negative), n);
         range_checked(Rational64 {
             negative: s,
             numer: n,
@@ -292,20 +303,20 @@ impl Rational64 {
         }
     }
 
-    pub fn checked_div(self, y: Rational64) -> Checked
+    pub fn checked_div(self, y: Rational64) -> OptionRational64
         requires { ⌜ LowestTerms self × (LowestTerms y × (0 < y .numer)) ⌝ }
         ensures { λ r. ⌜ ChecksTo (quotient self y) r ⌝ }
     {
         self.checked_mul(y.recip())
     }
 
-    pub fn checked_pow(self, k: u64) -> Checked
+    pub fn checked_pow(self, k: u64) -> OptionRational64
         requires { ⌜ LowestTerms self ⌝ }
         ensures { λ r. ⌜ ChecksTo (power self k) r ⌝ }
     {
         let n = capped_pow(self.numer, k);
         let d = capped_pow(self.denom, k);
-        let s = sign_of(power_sign(self.negative, k), n);
+        let s = sign_unless_zero(power_sign(self.negative, k), n);
         range_checked(Rational64 {
             negative: s,
             numer: n,
@@ -313,26 +324,26 @@ impl Rational64 {
         })
     }
 
-    // The k-th root, if numerator and denominator have whole ones.
-    pub fn rat_root(self, k: u64) -> Checked
+    // The k-th root, if numerator and denominator have whole roots.
+    pub fn rat_root(self, k: u64) -> OptionRational64
         requires { ⌜ LowestTerms self × (1 < k) ⌝ }
         ensures { λ r. ⌜ ChecksTo (rationalRoot k self) r ⌝ }
     {
         if self.negative {
-            return Checked::None;
+            return OptionRational64::None;
         }
         let n = int_root(self.numer, k);
         let d = int_root(self.denom, k);
         root_ratio(n, d)
     }
 
-    // Without its whole part, toward zero.
+    // The fraction without its whole part, toward zero.
     pub fn fract(self) -> Rational64
         requires { ⌜ LowestTerms self ⌝ }
-        ensures { λ r. ⌜ (r ≡ fraction self) × LowestTerms r ⌝ }
+        ensures { λ r. ⌜ (r ≡ fractionalPart self) × LowestTerms r ⌝ }
     {
         let n = self.numer % self.denom;
-        let s = sign_of(self.negative, n);
+        let s = sign_unless_zero(self.negative, n);
         Rational64 {
             negative: s,
             numer: n,
@@ -341,7 +352,7 @@ impl Rational64 {
     }
 
     pub fn equals(self, y: Rational64) -> bool
-        ensures { λ r. ⌜ r ≡ same self y ⌝ }
+        ensures { λ r. ⌜ r ≡ sameFraction self y ⌝ }
     {
         if signs_equal(self.negative, y.negative) {
             if self.numer == y.numer {
@@ -352,30 +363,30 @@ impl Rational64 {
     }
 }
 
-// The product of two results.
-pub fn product_of(x: Checked, y: Checked) -> Checked
-    requires { ⌜ SoundChecked x × SoundChecked y ⌝ }
+// The product of two fractions, if both are there.
+pub fn product_of_options(x: OptionRational64, y: OptionRational64) -> OptionRational64
+    requires { ⌜ SoundOption x × SoundOption y ⌝ }
     ensures { λ r. ⌜ ChecksTo (both product x y) r ⌝ }
 {
-    let Checked::Some(a) = x else {
-        return Checked::None;
+    let OptionRational64::Some(a) = x else {
+        return OptionRational64::None;
     };
-    let Checked::Some(b) = y else {
-        return Checked::None;
+    let OptionRational64::Some(b) = y else {
+        return OptionRational64::None;
     };
     a.checked_mul(b)
 }
 
-// The sum of two results.
-pub fn sum_of(x: Checked, y: Checked) -> Checked
-    requires { ⌜ SoundChecked x × SoundChecked y ⌝ }
-    ensures { λ r. ⌜ ChecksTo (both sum x y) r ⌝ }
+// The sum of two fractions, if both are there.
+pub fn sum_of_options(x: OptionRational64, y: OptionRational64) -> OptionRational64
+    requires { ⌜ SoundOption x × SoundOption y ⌝ }
+    ensures { λ r. ⌜ ChecksTo (both fractionSum x y) r ⌝ }
 {
-    let Checked::Some(a) = x else {
-        return Checked::None;
+    let OptionRational64::Some(a) = x else {
+        return OptionRational64::None;
     };
-    let Checked::Some(b) = y else {
-        return Checked::None;
+    let OptionRational64::Some(b) = y else {
+        return OptionRational64::None;
     };
     a.checked_add(b)
 }

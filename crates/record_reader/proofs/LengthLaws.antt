@@ -11,7 +11,7 @@ use lib.Seq.{getD-drop, length-take-le}
 use native.Mathlib.Nat.{add-zero}
 use Rattle.record_reader.specs.declared.NextRecord.the-variants as answer
 use Rattle.record_reader.specs.Answer.{nextRecordOf, nextWordsOf}
-use Rattle.model.specs.Reader.{next, end, wrong, recordLength, nextAt}
+use Rattle.model.specs.RecordReader.{next, end, wrong, recordLength, nextAt}
 use Rattle.model.proofs.ListLaws.{four-up}
 
 pub short : (n available : ℕ) → available < n → 0 ≡ cond (leb n available) n 0

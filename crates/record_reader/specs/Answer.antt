@@ -4,7 +4,7 @@ use mathlib.Core.Bool.{cond}
 use mathlib.Core.List.{List, []}
 use lib.Dec.{leb}
 use lib.ListN.{length}
-use Rattle.model.specs.Reader.{Next, next, end, wrong}
+use Rattle.model.specs.RecordReader.{Next, next, end, wrong}
 use Rattle.record_reader.specs.declared.NextRecord.{NextRecord}
 use Rattle.record_reader.specs.declared.NextRecord.the-variants as answer
 

@@ -2,7 +2,7 @@
 ghost use mathlib.Core.Path.{_≡_};
 ghost use lib.ListN.{length, getD, drop};
 ghost use Prim.Native.Nat.{_+_, _-_, _*_, _/_, _<_};
-ghost use Rattle.model.specs.Reader.{recordLength, nextAt};
+ghost use Rattle.model.specs.RecordReader.{recordLength, nextAt};
 ghost use Rattle.record_reader.specs.Answer.{lengthWithin, nextRecordOf, nextWordsOf};
 
 // What stands at a position: a record of so many words, the end of the words, or no record, which has the number 17.

@@ -8,7 +8,7 @@ use borrow.Author.Tests.{lt-ltb, ne-eqb}
 use lib.ListN.{length, take, drop}
 use lib.Seq.{take-nil, take-take, length-take-le}
 use Rattle.model.specs.Lists.{sum}
-use Rattle.model.specs.Reader.{recordsIn}
+use Rattle.model.specs.RecordReader.{recordsIn}
 use Rattle.model.specs.Listing.{littleEndian, wordsOf}
 use Rattle.record_text.specs.Answers.{lastLine, recordsText, readBack}
 

@@ -9,7 +9,7 @@ use lib.Dec.{leb, ltb}
 use lib.ListN.{length, take, drop, length-append, length-drop}
 use lib.Seq.{length-take-le}
 use Rattle.model.specs.Lists.{sum}
-use Rattle.model.specs.Reader.{Next, next, end, wrong, recordLength, nextAt, found, recordsFrom, recordsIn}
+use Rattle.model.specs.RecordReader.{Next, next, end, wrong, recordLength, nextAt, found, recordsFrom, recordsIn}
 use Rattle.record_reader.specs.Answer.{nextWordsOf}
 use Rattle.model.proofs.ListLaws.{flat-append}
 use Rattle.listing_text.specs.Put.{Put, PutMost}

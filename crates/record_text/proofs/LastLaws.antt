@@ -8,7 +8,7 @@ use borrow.Author.Tests.{eq-eqb, ne-eqb, lt-ltb, le-ltb}
 use lib.Dec.{ltb}
 use lib.ListN.{length, take, drop, replicate, length-append, length-replicate}
 use lib.Seq.{sets}
-use Rattle.model.specs.Reader.{recordsIn}
+use Rattle.model.specs.RecordReader.{recordsIn}
 use Rattle.model.specs.Listing.{ascii, decimal, line, wordsOf}
 use Rattle.listing_text.specs.Put.{Room, Put}
 use Rattle.listing_text.specs.WordText.{twoText}

@@ -10,7 +10,7 @@ use lib.Dec.{leb, ltb}
 use lib.ListN.{length, getD, take, drop, length-drop}
 use lib.Seq.{drop-drop, length-take-le, take-take}
 use Rattle.model.specs.Lists.{sum}
-use Rattle.model.specs.Reader.{Next, next, end, wrong, recordLength, nextAt, found, recordsFrom, recordsIn}
+use Rattle.model.specs.RecordReader.{Next, next, end, wrong, recordLength, nextAt, found, recordsFrom, recordsIn}
 use Rattle.record_text.proofs.CutLaws.{drop-take}
 
 -- ---- what stands at a position depends on the words from there on alone

@@ -2,7 +2,7 @@
 use mathlib.Core.Path.{_≡_, refl}
 use mathlib.Core.List.{[], _∷_, _++_, flatMap}
 use Rattle.model.specs.Lists.{sum}
-use Rattle.model.specs.Reader.{recordLength, nextAt, found, recordsFrom, recordsIn}
+use Rattle.model.specs.RecordReader.{recordLength, nextAt, found, recordsFrom, recordsIn}
 use Rattle.model.specs.Listing.{ascii, digits, decimal, line, littleEndian, wordsOf}
 use Rattle.listing_text.specs.WordText.{numerator, wordsText, recordLine}
 use Rattle.record_text.specs.Answers.{lastLine, recordsText, readBack}

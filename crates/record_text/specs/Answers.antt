@@ -5,7 +5,7 @@ use mathlib.Core.List.{List, [], _∷_, _++_, map, flatMap}
 use lib.ListN.{length}
 use lib.Dec.{eqb, ltb}
 use Rattle.model.specs.Lists.{sum}
-use Rattle.model.specs.Reader.{recordsIn}
+use Rattle.model.specs.RecordReader.{recordsIn}
 use Rattle.model.specs.Listing.{ascii, decimal, line, wordsOf}
 use Rattle.listing_text.specs.WordText.{recordLine}
 

@@ -4,7 +4,7 @@ use mathlib.Core.Path.{_≡_}
 use mathlib.Core.List.{List, map, flatMap}
 use lib.ListN.{length}
 use Rattle.model.specs.Lists.{sum}
-use Rattle.model.specs.Reader.{recordsIn}
+use Rattle.model.specs.RecordReader.{recordsIn}
 use Rattle.listing_text.specs.Put.{Put}
 use Rattle.listing_text.specs.WordText.{recordLine}
 use Rattle.record_text.specs.declared.Front.{Front}

@@ -9,7 +9,7 @@ use lib.ListN.{length, set, take, getD, replicate, length-append}
 use lib.Seq.{sets, take-suc, length-take-le}
 use Rattle.rational.specs.declared.Rational64.{Rational64}
 use Rattle.rational.specs.Rational.{LowestTerms}
-use Rattle.rational.proofs.Soundness.{nonzero}
+use Rattle.rational.proofs.LowestTermsLaws.{nonzero}
 use Rattle.value.specs.declared.Value.{Value}
 use Rattle.value.specs.Value.{Sound}
 use Rattle.model.specs.Evaluate.{zeroValue}

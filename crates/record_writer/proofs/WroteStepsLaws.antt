@@ -11,7 +11,7 @@ use Rattle.model.specs.Steps.{Step, write, refuse, Refusal}
 use Rattle.model.specs.Run.{Answer, done, refused, full, play}
 use Rattle.model.specs.Playing.{Plays}
 use Rattle.model.proofs.PlayLaws.{plays-write, plays-stop}
-use Rattle.record_writer.specs.Promise.{afterRecord, outputFullAt, InOutput, WroteSteps, AppendedWords, placeAt, refusalAnswer}
+use Rattle.record_writer.specs.Promise.{afterRecord, outputFullAt, InOutput, WroteSteps, AppendedWords, stateAt, refusalAnswer}
 use Rattle.record_writer.specs.declared.Position.{Position}
 use Rattle.record_writer.specs.declared.LinearizeErrorKind.{LinearizeErrorKind}
 use Rattle.record_writer.specs.declared.LinearizeErrorKind.the-variants as kind
@@ -31,7 +31,7 @@ pub full-up : (x : Record) {out : List ℕ} {at : Position} → InOutput out at 
 unfolding play
 full-up x {out} {at} k h =
     record {
-      plays = plays-stop (write [] x ∷ []) {p = placeAt out at} {a = full []} (k .inside) (rw (lt-leb (length (encode x)) (length out - at .words) (omega arith)) refl);
+      plays = plays-stop (write [] x ∷ []) {p = stateAt out at} {a = full []} (k .inside) (rw (lt-leb (length (encode x)) (length out - at .words) (omega arith)) refl);
       level = refl;
     }
 
@@ -55,8 +55,8 @@ pub refuses : (x : Refusal) (e : LinearizeError) {out : List ℕ} {at : Position
 unfolding play
 refuses x e {out} {at} p q o =
     record {
-      plays = subst (λ (z : Position). Plays (refuse [] x ∷ []) (placeAt out at) (placeAt out z) (refusalAnswer (e .kind) [])) (sym p)
-          (subst (λ (z : Answer). Plays (refuse [] x ∷ []) (placeAt out at) (placeAt out at) z) (sym (q [])) (plays-stop (refuse [] x ∷ []) (o .inside) refl));
+      plays = subst (λ (z : Position). Plays (refuse [] x ∷ []) (stateAt out at) (stateAt out z) (refusalAnswer (e .kind) [])) (sym p)
+          (subst (λ (z : Answer). Plays (refuse [] x ∷ []) (stateAt out at) (stateAt out at) z) (sym (q [])) (plays-stop (refuse [] x ∷ []) (o .inside) refl));
       level = ap (λ (z : Position). z .trace) p;
     }
 

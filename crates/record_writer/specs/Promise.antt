@@ -6,11 +6,11 @@ use lib.ListN.{length, getD}
 use Rattle.value.specs.declared.Value.{Value}
 use Rattle.value.specs.Value.{Sound}
 use Rattle.model.specs.Evaluate.{zeroValue}
-use Rattle.float.specs.Float.{bits as floatBits}
+use Rattle.float.specs.Float.{floatBits}
 use Rattle.model.specs.Records.{Record, encode}
 use Rattle.model.specs.Steps.{Step, write, Refusal}
 use Rattle.model.specs.Run.{Answer, done, refused, full, flawed, shortTrace}
-use Rattle.model.specs.Playing.{Place, Plays}
+use Rattle.model.specs.Playing.{OutputState, Plays}
 use Rattle.image.specs.Answer.{refusalFlaw, numberIn, placeIn}
 use Rattle.record_writer.specs.declared.Position.{Position}
 use Rattle.record_writer.specs.declared.LinearizeErrorKind.{LinearizeErrorKind}
@@ -38,8 +38,8 @@ abbrev pub positionOf : Linearized → Position
 positionOf (linearized.Done p) = p
 positionOf (linearized.Refused e) = e .at
 
-abbrev pub placeAt : List ℕ → Position → Place
-placeAt out p = record { out = out; words = p .words; records = p .records }
+abbrev pub stateAt : List ℕ → Position → OutputState
+stateAt out p = record { out = out; words = p .words; records = p .records }
 
 -- a position in an output: a record has a word at least, so that the count of records cannot wrap
 pub record InOutput (out : List ℕ) (at : Position) : Type 0 where
@@ -48,7 +48,7 @@ pub record InOutput (out : List ℕ) (at : Position) : Type 0 where
 
 -- some steps were played, and no call is left on the stack by them
 pub record WroteSteps (ss : List Step) (out : List ℕ) (at : Position) (r : Linearized) (out′ : List ℕ) : Type 0 where
-  pub plays : Plays ss (placeAt out at) (placeAt out′ (positionOf r)) (runAnswerOf r [])
+  pub plays : Plays ss (stateAt out at) (stateAt out′ (positionOf r)) (runAnswerOf r [])
   pub level : positionOf r .trace ≡ at .trace
 
 -- some steps were played, and none was refused

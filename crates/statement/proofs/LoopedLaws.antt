@@ -12,13 +12,13 @@ use Rattle.record_writer.specs.declared.Position.{Position}
 use Rattle.record_writer.specs.declared.LinearizeError.{LinearizeError}
 use Rattle.record_writer.specs.declared.Linearized.{Linearized}
 use Rattle.record_writer.specs.declared.Linearized.the-variants as linearized
-use Rattle.record_writer.specs.Promise.{placeAt, InOutput, WroteSteps}
+use Rattle.record_writer.specs.Promise.{stateAt, InOutput, WroteSteps}
 use Rattle.record_writer.proofs.WroteStepsLaws.{not-done, wrote-open}
 
 -- of n rounds the first i are played
 pub record Looped (g : ℕ → List Step) (n : ℕ) (out : List ℕ) (at : Position) (i : ℕ) (out′ : List ℕ) (position : Position) : Type 0 where
   pub few : i ≤ n
-  pub going : Going (inRounds n g) (flatMap g (range i (n - i))) (placeAt out at) (placeAt out′ position)
+  pub going : Going (inRounds n g) (flatMap g (range i (n - i))) (stateAt out at) (stateAt out′ position)
   pub level : position .trace ≡ at .trace
   pub in-output : InOutput out′ position
 
@@ -27,7 +27,7 @@ module _ (g : ℕ → List Step) (n : ℕ) {out : List ℕ} {at : Position} wher
   looped-start o =
       record {
         few = zero-le;
-        going = subst (λ (rest : List Step). Going (inRounds n g) rest (placeAt out at) (placeAt out at)) (rounds-all g n) (going-start (inRounds n g) (o .inside));
+        going = subst (λ (rest : List Step). Going (inRounds n g) rest (stateAt out at) (stateAt out at)) (rounds-all g n) (going-start (inRounds n g) (o .inside));
         level = refl;
         in-output = o;
       }

@@ -16,7 +16,7 @@ use Rattle.record_writer.specs.declared.LinearizeErrorKind.the-variants as kind
 use Rattle.record_writer.specs.declared.LinearizeError.{LinearizeError}
 use Rattle.record_writer.specs.declared.Linearized.{Linearized}
 use Rattle.record_writer.specs.declared.Linearized.the-variants as linearized
-use Rattle.record_writer.specs.Promise.{outputFullAt, InOutput, WroteSteps, refusalAnswer, placeAt}
+use Rattle.record_writer.specs.Promise.{outputFullAt, InOutput, WroteSteps, refusalAnswer, stateAt}
 use Rattle.record_writer.proofs.WroteStepsLaws.{full-up}
 use Rattle.argument.specs.Frames.{scopeFrame}
 use Rattle.statement.specs.Statements.{apartCX, overlapAtCX}

@@ -20,11 +20,14 @@ use Rattle.tally.proofs.PlainTallyLaws.{plain-any}
 module _ (image : List ℕ) where
   -- ---- one statement
   module _ (scope s at kind : ℕ) (at-is : at ≡ statementAt image s) (kind-is : kind ≡ word image at) where
-    pub if-comes : (j n t r : ℕ) → kind ≡ 7 → t ≡ word image (at + 3) → r ≡ capped (conditionalTally image (weightOf j) (entryOf j) (openingFor image j n) scope t) → r ≡ capped (statementTally image (weightOf j) (entryOf j) (openingFor image j n) scope s)
+    pub if-comes : (j n t r : ℕ) → kind ≡ 7 → t ≡ word image (at + 3) → r ≡ capped (conditionalTally image (weightOf j) (entryOf j) (openingFor image j n) scope t)
+        → r ≡ capped (statementTally image (weightOf j) (entryOf j) (openingFor image j n) scope s)
     unfolding statementTally plainTally
     if-comes j n t r e et er = rw (if-at image scope s at kind at-is kind-is t e et) er
 
-  pub plain-comes : (scope s j n r : ℕ) → PlainFacts image scope (statement image s) → r ≡ capped (plainTally image (weightOf j) (entryOf j) (λ t. 0) (openingFor image j n) scope (statement image s)) → r ≡ capped (statementTally image (weightOf j) (entryOf j) (openingFor image j n) scope s)
+  pub plain-comes : (scope s j n r : ℕ) → PlainFacts image scope (statement image s)
+      → r ≡ capped (plainTally image (weightOf j) (entryOf j) (λ t. 0) (openingFor image j n) scope (statement image s))
+      → r ≡ capped (statementTally image (weightOf j) (entryOf j) (openingFor image j n) scope s)
   unfolding statementTally
   plain-comes scope s j n r f er =
       er ∙ ap capped (plain-any image scope (weightOf j) (entryOf j) (λ t. 0) (conditionalTally image (weightOf j) (entryOf j) (openingFor image j n) scope) (openingFor image j n) (statement image s) f)
@@ -33,12 +36,15 @@ module _ (image : List ℕ) where
   pub body-facts : check image ≡ fine → (scope first count i : ℕ) → scope ≤ gates image → scopeStatements image scope ≡ range first count → i < count → Facts image scope (statement image (first + i))
   body-facts ok scope first count i within run h = run-facts image (accepts image ok) scope first count i within run h
 
-  pub body-is : (scope first count j n r : ℕ) → scopeStatements image scope ≡ range first count → r ≡ capped (0 + sum (map (statementTally image (weightOf j) (entryOf j) (openingFor image j n) scope) (range first count))) → r ≡ capped (bodyTally image (weightOf j) (entryOf j) (openingFor image j n) scope)
+  pub body-is : (scope first count j n r : ℕ) → scopeStatements image scope ≡ range first count
+      → r ≡ capped (0 + sum (map (statementTally image (weightOf j) (entryOf j) (openingFor image j n) scope) (range first count)))
+      → r ≡ capped (bodyTally image (weightOf j) (entryOf j) (openingFor image j n) scope)
   unfolding bodyTally
   body-is scope first count j n r run er = rw run (omega arith)
 
   -- ---- in all
-  total-cases : (f : ℕ → ℕ) (main w statements head r : ℕ) → statements ≡ capped (sum (map f (range 0 main))) → head ≡ cond (eqb main 0) 0 w → r ≡ capped (statements + head) → r ≡ capped (cond (eqb main 0) 0 (w + sum (map f (range 0 main))))
+  total-cases : (f : ℕ → ℕ) (main w statements head r : ℕ) → statements ≡ capped (sum (map f (range 0 main))) → head ≡ cond (eqb main 0) 0 w
+      → r ≡ capped (statements + head) → r ≡ capped (cond (eqb main 0) 0 (w + sum (map f (range 0 main))))
   unfolding range sum
   total-cases f zero w statements head r es eh er = omega arith
   total-cases f (suc m) w statements head r es eh er =

@@ -8,7 +8,7 @@ use mathlib.Core.Bool.{Bool, true, false, cond}
 use mathlib.Core.List.{map}
 use lib.Dec.{eqb, ltb}
 use borrow.Author.Tests.{lt-ltb, le-ltb, eq-eqb, ne-eqb}
-use Rattle.rational.proofs.Capped.{min-mul}
+use Rattle.rational.proofs.CappedLaws.{min-mul}
 use Rattle.model.specs.Lists.{range, sum}
 use Rattle.model.proofs.Ranges.{sum-next}
 use Rattle.tally.specs.Weights.{weightOf, entryOf, capped}

@@ -28,7 +28,8 @@ module _ (image : List ℕ) (n : ℕ) where
   pub begun-below : (g j : ℕ) (first table : List ℕ) → FigureTable image n g first → Begun g j first table → FigureTable image n (callsBelow image (g + 1)) table
   begun-below g j first table tab b = rw (add-one g) (record { holds = λ k h i e p q. b .1 h i (omega arith) q ∙ tab .holds k h i e p q })
 
-  pub begun-next : (g j x : ℕ) (first table next : List ℕ) → Begun g j first table → j < 9 → 9 * g + j < length table → x ≡ capped (bodyTally image (weightOf j) (entryOf j) (openingFor image j n) (g + 1)) → next ≡ set table (9 * g + j) x → Begun g (j + 1) first next
+  pub begun-next : (g j x : ℕ) (first table next : List ℕ) → Begun g j first table → j < 9 → 9 * g + j < length table
+      → x ≡ capped (bodyTally image (weightOf j) (entryOf j) (openingFor image j n) (g + 1)) → next ≡ set table (9 * g + j) x → Begun g (j + 1) first next
   begun-next g j x first table next b few h ex en = (λ k p. rw en (go k p (j - k) refl), λ m k p q. rw en (getD-set-other table (9 * g + j) (9 * m + k) x 0 (omega arith) ∙ b .1 m k p q))
     where
       go : (k : ℕ) → k < j + 1 → (d : ℕ) → j - k ≡ d → getD (set table (9 * g + j) x) (9 * g + k) 0 ≡ capped (body image n g k)
@@ -41,7 +42,8 @@ module _ (image : List ℕ) (n : ℕ) where
   begun-done g j first table h b = record { here = λ k p. b .0 k (omega arith); others = b .1 }
 
   -- a gate's figure, after a row was put
-  rowed-figure : (g h j x : ℕ) (table next : List ℕ) → RowFilled image n g table next → j < 9 → (h ≡ g → capped (body image n h j) ≡ x) → (¬ (h ≡ g) → getD table (9 * h + j) 0 ≡ x) → getD next (9 * h + j) 0 ≡ x
+  rowed-figure : (g h j x : ℕ) (table next : List ℕ) → RowFilled image n g table next → j < 9 → (h ≡ g → capped (body image n h j) ≡ x)
+      → (¬ (h ≡ g) → getD table (9 * h + j) 0 ≡ x) → getD next (9 * h + j) 0 ≡ x
   rowed-figure g h j x table next new few here other = go (eqb h g) refl
     where
       go : (t : Bool) → eqb h g ≡ t → getD next (9 * h + j) 0 ≡ x

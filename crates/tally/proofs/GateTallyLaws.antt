@@ -14,11 +14,13 @@ use Rattle.tally.specs.Weights.{weightOf, entryOf, capped, openingFor, b
 use Rattle.tally.proofs.CappedLaws.{rounds-of-body}
 
 module _ (image : List ℕ) (j g at k : ℕ) (at-is : at ≡ gateAt image g) where
-  pub gate-opaque : (n p q b r : ℕ) → p ≡ word image at → q ≡ word image (at + 1) → b ≡ word image (at + 2) → b ≡ 0 → r ≡ capped (k * weightOf j 3 (4 + 4 * p + q)) → r ≡ capped (k * gateTally image (weightOf j) (entryOf j) (openingFor image j n) g)
+  pub gate-opaque : (n p q b r : ℕ) → p ≡ word image at → q ≡ word image (at + 1) → b ≡ word image (at + 2) → b ≡ 0 → r ≡ capped (k * weightOf j 3 (4 + 4 * p + q))
+      → r ≡ capped (k * gateTally image (weightOf j) (entryOf j) (openingFor image j n) g)
   unfolding gateTally
   gate-opaque n p q b r ep eq eb z er = rw (← at-is, ← ep, ← eq, ← eb, eq-eqb b 0 z) er
 
-  pub gate-cut : (n q b r : ℕ) → q ≡ word image (at + 1) → b ≡ word image (at + 2) → ¬ (b ≡ 0) → n ≡ 0 → r ≡ capped (k * weightOf j 3 (4 + q)) → r ≡ capped (k * gateTally image (weightOf j) (entryOf j) (openingFor image j n) g)
+  pub gate-cut : (n q b r : ℕ) → q ≡ word image (at + 1) → b ≡ word image (at + 2) → ¬ (b ≡ 0) → n ≡ 0 → r ≡ capped (k * weightOf j 3 (4 + q))
+      → r ≡ capped (k * gateTally image (weightOf j) (entryOf j) (openingFor image j n) g)
   unfolding gateTally openGateTally openingTally
   gate-cut n q b r eq eb z e er = rw (e, ← at-is, ← eq, ← eb, ne-eqb b 0 z) er
 

@@ -13,7 +13,8 @@ use Rattle.image.specs.Layout.{LayoutOf}
 
 module _ (image : List ℕ) (scope : ℕ) where
   -- what a plain statement comes to does not hang on what an if comes to
-  pub plain-any : (weight : ℕ → ℕ → ℕ) (entry : ℕ) (v w : ℕ → ℕ) (o : Option (ℕ → ℕ)) (x : Statement) → PlainFacts image scope x → plainTally image weight entry v o scope x ≡ plainTally image weight entry w o scope x
+  pub plain-any : (weight : ℕ → ℕ → ℕ) (entry : ℕ) (v w : ℕ → ℕ) (o : Option (ℕ → ℕ)) (x : Statement) → PlainFacts image scope x
+      → plainTally image weight entry v o scope x ≡ plainTally image weight entry w o scope x
   unfolding plainTally
   plain-any weight entry v w o (U a b c d) f = refl
   plain-any weight entry v w o (CX a b) f = refl

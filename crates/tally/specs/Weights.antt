@@ -6,9 +6,14 @@ use mathlib.Core.List.{List, [], _∷_}
 use mathlib.Core.Option.{Option}
 use lib.Dec.{eqb, ltb}
 use lib.ListN.{getD}
+use Rattle.model.specs.Refusals as refusal
 use Rattle.model.specs.Check.{Flaw, fine, bad}
-use Rattle.model.specs.Tally.{bodyTally, openingTally, TallyAnswer, tallied, refused}
+use Rattle.model.specs.Image.{statement}
+use Rattle.model.specs.Accepted.{callsBelow}
+use Rattle.model.specs.Tally.{gateTally, plainTally, conditionalTally, statementTally, bodyTally, openingTally, TallyAnswer, tallied, refused}
+use Rattle.image.specs.declared.Layout.{Layout}
 use Rattle.image.specs.Answer.{refusalFlaw}
+use Rattle.image_check.specs.Answer.{AcceptedLayout}
 use Rattle.tally.specs.declared.Figures.{Figures}
 use Rattle.tally.specs.declared.Tallied.{Tallied}
 use Rattle.tally.specs.declared.Tallied.the-variants as answer
@@ -33,9 +38,38 @@ openingFor image j n = openingTally image (weightOf j) (entryOf j) n
 abbrev pub body : List ℕ → ℕ → ℕ → ℕ → ℕ
 body image n g j = bodyTally image (weightOf j) (entryOf j) (openingFor image j n) (suc g)
 
+-- figure j, with bodies opened n deep, of a call of gate g, of a statement that is no if, of an if around statement t, of a statement, and of a scope
+abbrev pub gateFigure : List ℕ → ℕ → ℕ → ℕ → ℕ
+gateFigure image n g j = gateTally image (weightOf j) (entryOf j) (openingFor image j n) g
+
+abbrev pub plainFigure : List ℕ → ℕ → ℕ → ℕ → ℕ → ℕ
+plainFigure image n scope s j = plainTally image (weightOf j) (entryOf j) (λ t. 0) (openingFor image j n) scope (statement image s)
+
+abbrev pub conditionalFigure : List ℕ → ℕ → ℕ → ℕ → ℕ → ℕ
+conditionalFigure image n scope t j = conditionalTally image (weightOf j) (entryOf j) (openingFor image j n) scope t
+
+abbrev pub statementFigure : List ℕ → ℕ → ℕ → ℕ → ℕ → ℕ
+statementFigure image n scope s j = statementTally image (weightOf j) (entryOf j) (openingFor image j n) scope s
+
+abbrev pub bodyFigure : List ℕ → ℕ → ℕ → ℕ → ℕ
+bodyFigure image n scope j = bodyTally image (weightOf j) (entryOf j) (openingFor image j n) scope
+
 -- where bodies are opened n deep, the table has the nine figures, capped, of the body of each gate below m
 pub record FigureTable (image : List ℕ) (n m : ℕ) (table : List ℕ) : Type 0 where
   pub holds : (k g j : ℕ) → n ≡ suc k → g < m → j < 9 → getD table (9 * g + j) 0 ≡ capped (body image k g j)
+
+-- what is known where figure j of a scope is worked out with bodies opened n deep: the table has the bodies that the scope may call
+pub record FigureContext (image : List ℕ) (l : Layout) (n scope j : ℕ) (table : List ℕ) : Type 0 where
+  pub ready : AcceptedLayout image l
+  pub rows : FigureTable image n (callsBelow image scope) table
+  pub figure : j < 9
+
+-- what is known where figure j of a call of gate g is worked out: the table has its body, and the bodies of the gates before it
+pub record CallContext (image : List ℕ) (l : Layout) (n g j : ℕ) (table : List ℕ) : Type 0 where
+  pub ready : AcceptedLayout image l
+  pub rows : FigureTable image n (suc g) table
+  pub gate : g < l .gates
+  pub figure : j < 9
 
 -- gate g's figures are put into the table, and those of the others stay
 pub record RowFilled (image : List ℕ) (n g : ℕ) (table next : List ℕ) : Type 0 where
@@ -55,4 +89,4 @@ refusedAs (bad n p) = refused n p
 abbrev pub tallyAnswerOf : Tallied → TallyAnswer
 tallyAnswerOf (answer.Figures f) = tallied (nineOf f)
 tallyAnswerOf (answer.Refused c) = refusedAs (refusalFlaw c)
-tallyAnswerOf answer.TooLarge = refused 16 0
+tallyAnswerOf answer.TooLarge = refused refusal.figureTooLarge 0

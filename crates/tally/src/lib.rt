@@ -9,11 +9,13 @@ ghost use lib.Dec.{eqb};
 ghost use Prim.Native.Nat.{suc, _+_, _-_, _*_, _<_, _≤_, _^_, min};
 ghost use Rattle.model.specs.Lists.{range, sum, largest};
 ghost use Rattle.model.specs.Image.{statement, argumentSize, classicalArgumentSize, rounds, gates, gateArguments, qubits, bits};
-ghost use Rattle.model.specs.Tally.{gateTally, plainTally, conditionalTally, statementTally, bodyTally, weightTally, figures, tally};
-ghost use Rattle.model.specs.Accepted.{PlainFacts, Facts, callsBelow};
+ghost use Rattle.model.specs.Tally.{weightTally, figures, tally};
+ghost use Rattle.model.specs.Accepted.{PlainFacts, Facts};
+ghost use Rattle.image.specs.Limits.{mostWords};
 ghost use Rattle.image.specs.Layout.{LayoutOf};
 ghost use Rattle.image_check.specs.Answer.{AcceptedLayout};
-ghost use Rattle.tally.specs.Weights.{weightOf, entryOf, capped, openingFor, FigureTable, RowFilled, nineOf, tallyAnswerOf};
+ghost use Rattle.tally.specs.Weights.{weightOf, entryOf, capped, nineOf, tallyAnswerOf};
+ghost use Rattle.tally.specs.Weights.{gateFigure, plainFigure, conditionalFigure, statementFigure, bodyFigure, FigureTable, FigureContext, CallContext, RowFilled};
 
 // The records of kinds 1 to 7, the body entries and the word bound.
 pub struct Figures {
@@ -118,7 +120,7 @@ fn record_figure(rounds: u64, j: u64, kind: u64, words: u64) -> u64
 
 // The words of a barrier: its argument sizes are added up, of which each is 1 in a body.
 fn barrier_words(image: &[u64], l: Layout, scope: u64, a: u64, n: u64) -> u64
-    requires { ⌜ LayoutOf (now image) l × (a + n ≤ 8192) ⌝ }
+    requires { ⌜ LayoutOf (now image) l × (a + n ≤ mostWords) ⌝ }
     ensures { λ r. ⌜ r ≡ capped (2 + sum (map (argumentSize (now (image .entry)) scope) (range a n))) ⌝ }
 {
     if scope != 0 {
@@ -135,7 +137,7 @@ fn barrier_words(image: &[u64], l: Layout, scope: u64, a: u64, n: u64) -> u64
 
 // What a barrier adds to figure j.
 fn barrier_figure(image: &[u64], l: Layout, scope: u64, a: u64, n: u64, j: u64) -> u64
-    requires { ⌜ LayoutOf (now image) l × (a + n ≤ 8192) ⌝ }
+    requires { ⌜ LayoutOf (now image) l × (a + n ≤ mostWords) ⌝ }
     ensures { λ r. ⌜ r ≡ capped (weightOf j 4 (2 + sum (map (argumentSize (now (image .entry)) scope) (range a n)))) ⌝ }
 {
     record_figure(1, j, 4, barrier_words(image, l, scope, a, n))
@@ -143,7 +145,7 @@ fn barrier_figure(image: &[u64], l: Layout, scope: u64, a: u64, n: u64, j: u64) 
 
 // The rounds of a statement with one argument.
 fn rounds_of_one(image: &[u64], l: Layout, scope: u64, a: u64) -> u64
-    requires { ⌜ LayoutOf (now image) l × (a ≤ 8192) ⌝ }
+    requires { ⌜ LayoutOf (now image) l × (a ≤ mostWords) ⌝ }
     ensures { λ r. ⌜ r ≡ rounds (now (image .entry)) scope (a ∷ []) ⌝ }
 {
     image::argument_size(image, l, scope, a)
@@ -151,7 +153,7 @@ fn rounds_of_one(image: &[u64], l: Layout, scope: u64, a: u64) -> u64
 
 // The rounds of a statement with two arguments.
 fn rounds_of_two(image: &[u64], l: Layout, scope: u64, a: u64, b: u64) -> u64
-    requires { ⌜ LayoutOf (now image) l × (a ≤ 8192) × (b ≤ 8192) ⌝ }
+    requires { ⌜ LayoutOf (now image) l × (a ≤ mostWords) × (b ≤ mostWords) ⌝ }
     ensures { λ r. ⌜ r ≡ rounds (now (image .entry)) scope (a ∷ b ∷ []) ⌝ }
 {
     image::larger(
@@ -162,7 +164,7 @@ fn rounds_of_two(image: &[u64], l: Layout, scope: u64, a: u64, b: u64) -> u64
 
 // The rounds of a measurement.
 fn rounds_of_measure(image: &[u64], l: Layout, scope: u64, q: u64, c: u64) -> u64
-    requires { ⌜ LayoutOf (now image) l × (q ≤ 8192) × (c ≤ 8192) ⌝ }
+    requires { ⌜ LayoutOf (now image) l × (q ≤ mostWords) × (c ≤ mostWords) ⌝ }
     ensures { λ r. ⌜ r ≡ largest (argumentSize (now (image .entry)) scope q ∷ classicalArgumentSize (now (image .entry)) c ∷ []) ⌝ }
 {
     image::larger(
@@ -181,8 +183,8 @@ fn gate_figure(
     rounds: u64,
     j: u64,
 ) -> u64
-    requires { ⌜ AcceptedLayout (now image) l × FigureTable (now image) n (suc g) (now table) × (g < l .gates) × (j < 9) ⌝ }
-    ensures { λ r. ⌜ r ≡ capped (rounds * gateTally (now (image .entry)) (weightOf j) (entryOf j) (openingFor (now (image .entry)) j n) g) ⌝ }
+    requires { ⌜ CallContext (now image) l n g j (now table) ⌝ }
+    ensures { λ r. ⌜ r ≡ capped (rounds * gateFigure (now (image .entry)) n g j) ⌝ }
 {
     let at = l.gate_at(g);
     let parameters = image::word(image, at);
@@ -214,8 +216,8 @@ fn call_figure(
     a: u64,
     j: u64,
 ) -> u64
-    requires { ⌜ AcceptedLayout (now image) l × FigureTable (now image) n (suc g) (now table) × (g < l .gates) × (a + gateArguments (now image) g ≤ 8192) × (j < 9) ⌝ }
-    ensures { λ r. ⌜ r ≡ capped (rounds (now (image .entry)) scope (range a (gateArguments (now (image .entry)) g)) * gateTally (now (image .entry)) (weightOf j) (entryOf j) (openingFor (now (image .entry)) j n) g) ⌝ }
+    requires { ⌜ CallContext (now image) l n g j (now table) × (a + gateArguments (now image) g ≤ mostWords) ⌝ }
+    ensures { λ r. ⌜ r ≡ capped (rounds (now (image .entry)) scope (range a (gateArguments (now (image .entry)) g)) * gateFigure (now (image .entry)) n g j) ⌝ }
 {
     let arguments = image::word(image, l.gate_at(g) + 1);
     let rounds = image::rounds_of(image, l, scope, a, arguments);
@@ -232,8 +234,8 @@ fn plain_figure(
     s: u64,
     j: u64,
 ) -> u64
-    requires { ⌜ AcceptedLayout (now image) l × FigureTable (now image) n (callsBelow (now image) scope) (now table) × PlainFacts (now image) scope (statement (now image) s) × (s ≤ 8192) × (j < 9) ⌝ }
-    ensures { λ r. ⌜ r ≡ capped (plainTally (now (image .entry)) (weightOf j) (entryOf j) (λ t. 0) (openingFor (now (image .entry)) j n) scope (statement (now (image .entry)) s)) ⌝ }
+    requires { ⌜ FigureContext (now image) l n scope j (now table) × PlainFacts (now image) scope (statement (now image) s) × (s ≤ mostWords) ⌝ }
+    ensures { λ r. ⌜ r ≡ capped (plainFigure (now (image .entry)) n scope s j) ⌝ }
 {
     let at = l.statement_at(s);
     let kind = image::word(image, at);
@@ -267,8 +269,8 @@ fn conditional_figure(
     t: u64,
     j: u64,
 ) -> u64
-    requires { ⌜ AcceptedLayout (now image) l × FigureTable (now image) n (callsBelow (now image) scope) (now table) × PlainFacts (now image) scope (statement (now image) t) × (t ≤ 8192) × (j < 9) ⌝ }
-    ensures { λ r. ⌜ r ≡ capped (conditionalTally (now (image .entry)) (weightOf j) (entryOf j) (openingFor (now (image .entry)) j n) scope t) ⌝ }
+    requires { ⌜ FigureContext (now image) l n scope j (now table) × PlainFacts (now image) scope (statement (now image) t) × (t ≤ mostWords) ⌝ }
+    ensures { λ r. ⌜ r ≡ capped (conditionalFigure (now (image .entry)) n scope t j) ⌝ }
 {
     let inner = plain_figure(image, l, table, n, scope, t, j);
     let started = capped_sum(inner, weight(j, 7, CONDITIONAL_START_WORDS));
@@ -285,8 +287,8 @@ fn statement_figure(
     s: u64,
     j: u64,
 ) -> u64
-    requires { ⌜ AcceptedLayout (now image) l × FigureTable (now image) n (callsBelow (now image) scope) (now table) × Facts (now image) scope (statement (now image) s) × (s ≤ 8192) × (j < 9) ⌝ }
-    ensures { λ r. ⌜ r ≡ capped (statementTally (now (image .entry)) (weightOf j) (entryOf j) (openingFor (now (image .entry)) j n) scope s) ⌝ }
+    requires { ⌜ FigureContext (now image) l n scope j (now table) × Facts (now image) scope (statement (now image) s) × (s ≤ mostWords) ⌝ }
+    ensures { λ r. ⌜ r ≡ capped (statementFigure (now (image .entry)) n scope s j) ⌝ }
 {
     let at = l.statement_at(s);
     if image::word(image, at) == 7 {
@@ -307,8 +309,8 @@ fn body_figure(
     scope: u64,
     j: u64,
 ) -> u64
-    requires { ⌜ AcceptedLayout (now image) l × FigureTable (now image) n (callsBelow (now image) scope) (now table) × (scope ≤ l .gates) × (j < 9) ⌝ }
-    ensures { λ r. ⌜ r ≡ capped (bodyTally (now (image .entry)) (weightOf j) (entryOf j) (openingFor (now (image .entry)) j n) scope) ⌝ }
+    requires { ⌜ FigureContext (now image) l n scope j (now table) × (scope ≤ l .gates) ⌝ }
+    ensures { λ r. ⌜ r ≡ capped (bodyFigure (now (image .entry)) n scope j) ⌝ }
 {
     let span = image::statements_of(image, l, scope);
     let first = span.first;
@@ -411,7 +413,7 @@ fn if_any(main: u64, head: u64) -> u64
 
 // Figure j of the whole image.
 fn total_figure(image: &[u64], l: Layout, table: &[u64; TABLE_WORDS], n: u64, j: u64) -> u64
-    requires { ⌜ AcceptedLayout (now image) l × FigureTable (now image) n (gates (now image)) (now table) × (j < 9) ⌝ }
+    requires { ⌜ FigureContext (now image) l n 0 j (now table) ⌝ }
     ensures { λ r. ⌜ r ≡ capped (weightTally (now (image .entry)) (weightOf j) (entryOf j) (n + 1)) ⌝ }
 {
     let main = l.main_statements;

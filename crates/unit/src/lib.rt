@@ -8,7 +8,7 @@ use record_writer::Position;
 ghost use mathlib.Core.Path.{_≡_};
 ghost use Rattle.model.specs.Check.{check};
 ghost use Rattle.model.specs.Tally.{tally};
-ghost use Rattle.model.specs.Reader.{nextAt};
+ghost use Rattle.model.specs.RecordReader.{nextAt};
 ghost use Rattle.image.specs.Answer.{answerFlaw};
 ghost use Rattle.tally.specs.Weights.{tallyAnswerOf};
 ghost use Rattle.record_reader.specs.Answer.{nextRecordOf as nextOf, nextWordsOf};
@@ -72,7 +72,7 @@ fn of_kind(kind: LinearizeErrorKind) -> Numbers
         LinearizeErrorKind::ApproximateFail(place, x) => Numbers {
             number: 10,
             place,
-            second: float::bits_of(x) as u64,
+            second: float::f32_to_bits(x) as u64,
         },
         LinearizeErrorKind::NumericalOverflow(place) => Numbers {
             number: 11,

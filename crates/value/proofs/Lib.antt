@@ -1,5 +1,6 @@
-pub mod Cases
-pub mod Soundness
+pub mod ArithmeticCases
+pub mod SoundLaws
 pub mod TurnLaws
-pub mod WholeNumbers
-pub mod Multiples
+pub mod IntoFloatLaws
+pub mod NegationLaws
+pub mod TangentLaws

@@ -4,7 +4,7 @@ use Rattle.value.specs.Value.{Sound}
 use Rattle.value.specs.declared.Evaluation.{Evaluation}
 use Rattle.value.specs.declared.Evaluation.the-variants as evaluation
 
--- an angle in lowest terms and in range, if it is an angle
+-- Both parts of the angle are in lowest terms and in range, if there is an angle.
 abbrev pub SoundEvaluation : Evaluation → Type 0
 SoundEvaluation (evaluation.Value x) = Sound x
 SoundEvaluation evaluation.DivideByZero = Unit {0}
@@ -12,7 +12,7 @@ SoundEvaluation evaluation.Overflow = Unit {0}
 SoundEvaluation (evaluation.ApproximateFail f) = Unit {0}
 SoundEvaluation evaluation.FunctionOfFloats = Unit {0}
 
--- the result is the definition's. That it is sound follows from the definitions, and spares callers that proof.
+-- The result of an operation on angles is the one that is defined. That it is sound follows from the definitions, and spares callers that proof.
 pub record EvaluatesTo (defined result : Evaluation) : Type 0 where
   pub is : result ≡ defined
   pub sound : SoundEvaluation result

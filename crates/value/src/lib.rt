@@ -1,13 +1,15 @@
-// Angles a + b·pi: value.rs.
-use rational::Checked;
+// Angles a + b·pi with their arithmetic, after the Rust's value.rs.
+use rational::MAGNITUDE_LIMIT;
+use rational::OptionRational64;
 use rational::Rational64;
 ghost use mathlib.Core.Path.{_≡_};
 ghost use mathlib.Core.Bool.{false, _||_};
 ghost use Prim.Native.Nat.{_<_};
-ghost use Rattle.rational.specs.Rational.{LowestTerms, ratio, same};
-ghost use Rattle.rational.specs.Promise.{SoundChecked, ChecksTo};
-ghost use Rattle.rational.specs.declared.Checked.the-variants.{Some};
-ghost use Rattle.value.specs.Value.{Sound, zero, one, two, rational, given, parts, andThen, pi, halfPi, integer, intoFloat, fromFloat, valueSum, valueDifference, piSquared, valueProduct, negation, approximateQuotient, commonRatio, valueQuotient, extractRoot, inverted, rooted, valuePower, squareRoot, sineTable, turn, sine, cosine, tangent, exponential, logarithm};
+ghost use Rattle.rational.specs.Rational.{LowestTerms, ratio, sameFraction};
+ghost use Rattle.rational.specs.Promise.{SoundOption, ChecksTo};
+ghost use Rattle.rational.specs.declared.OptionRational64.the-variants.{Some};
+ghost use Rattle.value.specs.Value.{Sound, zeroFraction, one, two, rationalValue, orOverflow, partsOrOverflow, andThen, pi, halfPi, piSquared, commonRatio, extractRoot, inverted, orFunctionOfFloats, sineTable, turn};
+ghost use Rattle.value.specs.Value.{integer, intoFloat, fromFloat, valueSum, valueDifference, valueProduct, negation, approximateQuotient, valueQuotient, valuePower, squareRoot, sine, cosine, tangent, exponential, logarithm};
 ghost use Rattle.value.specs.Promise.{SoundEvaluation, EvaluatesTo};
 
 pub struct Value {
@@ -24,8 +26,15 @@ pub enum Evaluation {
     FunctionOfFloats,
 }
 
-fn raw_zero() -> Rational64
-    ensures { λ r. ⌜ (r ≡ zero) × LowestTerms r ⌝ }
+// 2^32, the first index of a root that the Rust does not take.
+const ROOT_INDEX_LIMIT: u64 = 0x1_0000_0000;
+
+// The bits of the f32 nearest to pi.
+const PI_BITS: u32 = 0x4049_0fdb;
+
+// The fraction 0.
+fn rational_zero() -> Rational64
+    ensures { λ r. ⌜ (r ≡ zeroFraction) × LowestTerms r ⌝ }
 {
     Rational64 {
         negative: false,
@@ -34,7 +43,8 @@ fn raw_zero() -> Rational64
     }
 }
 
-fn raw_two() -> Rational64
+// The fraction 2.
+fn rational_two() -> Rational64
     ensures { λ r. ⌜ (r ≡ two) × LowestTerms r ⌝ }
 {
     Rational64 {
@@ -44,56 +54,57 @@ fn raw_two() -> Rational64
     }
 }
 
-fn pi_squared() -> Checked
+// The fraction that stands for pi².
+fn pi_squared() -> OptionRational64
     ensures { λ r. ⌜ ChecksTo (Some piSquared) r ⌝ }
 {
-    Checked::Some(Rational64 {
+    OptionRational64::Some(Rational64 {
         negative: false,
         numer: 6499908331188584841,
         denom: 658578405682719844,
     })
 }
 
-// A rational angle.
+// The angle x, with no part of pi.
 fn rational_value(x: Rational64) -> Evaluation
-    ensures { λ r. ⌜ r ≡ rational x ⌝ }
+    ensures { λ r. ⌜ r ≡ rationalValue x ⌝ }
 {
-    let z = raw_zero();
+    let z = rational_zero();
     Evaluation::Value(Value { a: x, b: z })
 }
 
-// A rational angle, or the overflow.
-fn rational_part(x: Checked) -> Evaluation
-    ensures { λ r. ⌜ r ≡ given x rational ⌝ }
+// The angle of a fraction, or overflow where there is none.
+fn rational_or_overflow(x: OptionRational64) -> Evaluation
+    ensures { λ r. ⌜ r ≡ orOverflow x rationalValue ⌝ }
 {
-    let Checked::Some(a) = x else {
+    let OptionRational64::Some(a) = x else {
         return Evaluation::Overflow;
     };
     rational_value(a)
 }
 
-// Both parts, or the overflow.
-fn both_parts(a: Checked, b: Checked) -> Evaluation
-    ensures { λ r. ⌜ r ≡ parts a b ⌝ }
+// The angle of both parts, or overflow where one of them is missing.
+fn parts_or_overflow(a: OptionRational64, b: OptionRational64) -> Evaluation
+    ensures { λ r. ⌜ r ≡ partsOrOverflow a b ⌝ }
 {
-    let Checked::Some(x) = a else {
+    let OptionRational64::Some(x) = a else {
         return Evaluation::Overflow;
     };
-    let Checked::Some(y) = b else {
+    let OptionRational64::Some(y) = b else {
         return Evaluation::Overflow;
     };
     Evaluation::Value(Value { a: x, b: y })
 }
 
-// The common ratio, or one division of floats.
-fn common_ratio(p: Checked, q: Checked, x: Value, y: Value) -> Evaluation
+// The ratio p of two angles where it is also q, and otherwise one division of floats.
+fn common_ratio(p: OptionRational64, q: OptionRational64, x: Value, y: Value) -> Evaluation
     requires { ⌜ Sound x × Sound y ⌝ }
-    ensures { λ r. ⌜ r ≡ given p (λ f. given q (λ g. commonRatio x y f g)) ⌝ }
+    ensures { λ r. ⌜ r ≡ orOverflow p (λ f. orOverflow q (λ g. commonRatio x y f g)) ⌝ }
 {
-    let Checked::Some(f) = p else {
+    let OptionRational64::Some(f) = p else {
         return Evaluation::Overflow;
     };
-    let Checked::Some(g) = q else {
+    let OptionRational64::Some(g) = q else {
         return Evaluation::Overflow;
     };
     if f.equals(g) {
@@ -102,25 +113,25 @@ fn common_ratio(p: Checked, q: Checked, x: Value, y: Value) -> Evaluation
     x.approximate_div(y)
 }
 
-// The root of a power, where one is to be taken.
-fn extract_root(x: Rational64, k: u64) -> Checked
+// The k-th root of a power. No root is taken with index 1, or of 1.
+fn extract_root(x: Rational64, k: u64) -> OptionRational64
     requires { ⌜ LowestTerms x × (0 < k) ⌝ }
     ensures { λ r. ⌜ ChecksTo (extractRoot k x) r ⌝ }
 {
     if k == 1 {
-        return Checked::Some(x);
+        return OptionRational64::Some(x);
     }
     if is_ratio(x, 1, 1) {
-        return Checked::Some(x);
+        return OptionRational64::Some(x);
     }
-    if k < 0x1_0000_0000 {
+    if k < ROOT_INDEX_LIMIT {
         return x.rat_root(k);
     }
-    Checked::None
+    OptionRational64::None
 }
 
-// A negative exponent inverts.
-fn power_value(negative: bool, r: Rational64) -> Evaluation
+// The angle of a power, which a negative exponent inverts.
+fn inverted_if_negative(negative: bool, r: Rational64) -> Evaluation
     requires { ⌜ LowestTerms r ⌝ }
     ensures { λ r0. ⌜ r0 ≡ inverted negative r ⌝ }
 {
@@ -133,33 +144,34 @@ fn power_value(negative: bool, r: Rational64) -> Evaluation
     rational_value(r)
 }
 
-// The k-th root of a power, inverted for a negative exponent.
-fn root_of_power(p: Checked, k: u64, negative: bool) -> Evaluation
-    requires { ⌜ SoundChecked p × (0 < k) ⌝ }
-    ensures { λ r. ⌜ r ≡ given p (λ x. rooted (extractRoot k x) (inverted negative)) ⌝ }
+// The angle of the k-th root of a power, which a negative exponent inverts.
+fn root_of_power(p: OptionRational64, k: u64, negative: bool) -> Evaluation
+    requires { ⌜ SoundOption p × (0 < k) ⌝ }
+    ensures { λ r. ⌜ r ≡ orOverflow p (λ x. orFunctionOfFloats (extractRoot k x) (inverted negative)) ⌝ }
 {
-    let Checked::Some(x) = p else {
+    let OptionRational64::Some(x) = p else {
         return Evaluation::Overflow;
     };
     let root = extract_root(x, k);
-    let Checked::Some(r) = root else {
+    let OptionRational64::Some(r) = root else {
         return Evaluation::FunctionOfFloats;
     };
-    power_value(negative, r)
+    inverted_if_negative(negative, r)
 }
 
-// A rational root, or a function of floats.
-fn root_value(root: Checked) -> Evaluation
-    ensures { λ r. ⌜ r ≡ rooted root rational ⌝ }
+// The angle of a root, or a function of floats where there is none.
+fn rational_or_function_of_floats(root: OptionRational64) -> Evaluation
+    ensures { λ r. ⌜ r ≡ orFunctionOfFloats root rationalValue ⌝ }
 {
-    let Checked::Some(x) = root else {
+    let OptionRational64::Some(x) = root else {
         return Evaluation::FunctionOfFloats;
     };
     rational_value(x)
 }
 
+// Whether x is n/d.
 fn is_ratio(x: Rational64, n: u64, d: u64) -> bool
-    ensures { λ r. ⌜ r ≡ same x (ratio false n d) ⌝ }
+    ensures { λ r. ⌜ r ≡ sameFraction x (ratio false n d) ⌝ }
 {
     x.equals(Rational64 {
         negative: false,
@@ -169,8 +181,8 @@ fn is_ratio(x: Rational64, n: u64, d: u64) -> bool
 }
 
 // Whether x is m/6 or n/6.
-fn is_sixths(x: Rational64, m: u64, n: u64) -> bool
-    ensures { λ r. ⌜ r ≡ (same x (ratio false m 6) || same x (ratio false n 6)) ⌝ }
+fn is_either_sixth(x: Rational64, m: u64, n: u64) -> bool
+    ensures { λ r. ⌜ r ≡ (sameFraction x (ratio false m 6) || sameFraction x (ratio false n 6)) ⌝ }
 {
     if is_ratio(x, m, 6) {
         return true;
@@ -178,9 +190,9 @@ fn is_sixths(x: Rational64, m: u64, n: u64) -> bool
     is_ratio(x, n, 6)
 }
 
-// ±n/d as an angle.
-fn constant(negative: bool, n: u64, d: u64) -> Evaluation
-    ensures { λ r. ⌜ r ≡ rational (record { negative = negative; numer = n; denom = d }) ⌝ }
+// The angle ±n/d.
+fn ratio_value(negative: bool, n: u64, d: u64) -> Evaluation
+    ensures { λ r. ⌜ r ≡ rationalValue (record { negative = negative; numer = n; denom = d }) ⌝ }
 {
     rational_value(Rational64 {
         negative,
@@ -194,53 +206,54 @@ fn sine_table(f: Rational64) -> Evaluation
     ensures { λ r. ⌜ r ≡ sineTable f ⌝ }
 {
     if is_ratio(f, 0, 1) {
-        return constant(false, 0, 1);
+        return ratio_value(false, 0, 1);
     }
-    if is_sixths(f, 1, 5) {
-        return constant(false, 1, 2);
+    if is_either_sixth(f, 1, 5) {
+        return ratio_value(false, 1, 2);
     }
     if is_ratio(f, 1, 2) {
-        return constant(false, 1, 1);
+        return ratio_value(false, 1, 1);
     }
-    if is_sixths(f, 7, 11) {
-        return constant(true, 1, 2);
+    if is_either_sixth(f, 7, 11) {
+        return ratio_value(true, 1, 2);
     }
     if is_ratio(f, 3, 2) {
-        return constant(true, 1, 1);
+        return ratio_value(true, 1, 1);
     }
     Evaluation::FunctionOfFloats
 }
 
 // b without whole turns, from 0 to below 2.
-fn part_of_turn(b: Rational64) -> Checked
+fn without_whole_turns(b: Rational64) -> OptionRational64
     requires { ⌜ LowestTerms b ⌝ }
     ensures { λ r. ⌜ ChecksTo (turn b) r ⌝ }
 {
-    let quotient = b.checked_div(raw_two());
-    let Checked::Some(h) = quotient else {
-        return Checked::None;
+    let quotient = b.checked_div(rational_two());
+    let OptionRational64::Some(h) = quotient else {
+        return OptionRational64::None;
     };
-    let doubled = h.fract().checked_mul(raw_two());
-    let Checked::Some(f) = doubled else {
-        return Checked::None;
+    let doubled = h.fract().checked_mul(rational_two());
+    let OptionRational64::Some(f) = doubled else {
+        return OptionRational64::None;
     };
     if f.negative {
-        return f.checked_add(raw_two());
+        return f.checked_add(rational_two());
     }
-    Checked::Some(f)
+    OptionRational64::Some(f)
 }
 
-fn sine_of_part(t: Checked) -> Evaluation
-    ensures { λ r. ⌜ r ≡ given t sineTable ⌝ }
+// The sine of f·pi from the source's list, or overflow where f is missing.
+fn sine_table_or_overflow(t: OptionRational64) -> Evaluation
+    ensures { λ r. ⌜ r ≡ orOverflow t sineTable ⌝ }
 {
-    let Checked::Some(f) = t else {
+    let OptionRational64::Some(f) = t else {
         return Evaluation::Overflow;
     };
     sine_table(f)
 }
 
-// The sine of a result.
-fn sine_of(x: Evaluation) -> Evaluation
+// The sine of an angle, or the refusal.
+fn sine_of_evaluation(x: Evaluation) -> Evaluation
     requires { ⌜ SoundEvaluation x ⌝ }
     ensures { λ r. ⌜ r ≡ andThen x sine ⌝ }
 {
@@ -253,8 +266,8 @@ fn sine_of(x: Evaluation) -> Evaluation
     }
 }
 
-// A value divided by a result.
-fn divided_by(s: Value, y: Evaluation) -> Evaluation
+// The quotient by an angle, or the refusal.
+fn divided_by_evaluation(s: Value, y: Evaluation) -> Evaluation
     requires { ⌜ Sound s × SoundEvaluation y ⌝ }
     ensures { λ r. ⌜ r ≡ andThen y (λ c. valueQuotient s c) ⌝ }
 {
@@ -267,13 +280,13 @@ fn divided_by(s: Value, y: Evaluation) -> Evaluation
     }
 }
 
-// The quotient of two results.
-fn quotient_of(x: Evaluation, y: Evaluation) -> Evaluation
+// The quotient of two angles, or the first refusal.
+fn quotient_of_evaluations(x: Evaluation, y: Evaluation) -> Evaluation
     requires { ⌜ SoundEvaluation x × SoundEvaluation y ⌝ }
     ensures { λ r. ⌜ r ≡ andThen x (λ s. andThen y (λ c. valueQuotient s c)) ⌝ }
 {
     match x {
-        Evaluation::Value(v) => divided_by(v, y),
+        Evaluation::Value(v) => divided_by_evaluation(v, y),
         Evaluation::DivideByZero => Evaluation::DivideByZero,
         Evaluation::Overflow => Evaluation::Overflow,
         Evaluation::ApproximateFail(f) => Evaluation::ApproximateFail(f),
@@ -285,7 +298,7 @@ impl Value {
     pub fn pi() -> Value
         ensures { λ r. ⌜ (r ≡ pi) × Sound r ⌝ }
     {
-        let a = raw_zero();
+        let a = rational_zero();
         Value {
             a,
             b: Rational64 {
@@ -300,7 +313,7 @@ impl Value {
     fn half_pi() -> Value
         ensures { λ r. ⌜ (r ≡ halfPi) × Sound r ⌝ }
     {
-        let a = raw_zero();
+        let a = rational_zero();
         Value {
             a,
             b: Rational64 {
@@ -314,8 +327,8 @@ impl Value {
     pub fn int(n: u64) -> Evaluation
         ensures { λ r. ⌜ EvaluatesTo (integer n) r ⌝ }
     {
-        if n < 0x8000_0000_0000_0000 {
-            return constant(false, n, 1);
+        if n < MAGNITUDE_LIMIT {
+            return ratio_value(false, n, 1);
         }
         Evaluation::Overflow
     }
@@ -326,14 +339,14 @@ impl Value {
     {
         let a = self.a;
         let b = self.b;
-        float::ratio_f32(a) + f32::from_bits(0x4049_0fdb) * float::ratio_f32(b)
+        float::ratio_f32(a) + f32::from_bits(PI_BITS) * float::ratio_f32(b)
     }
 
     pub fn from_float(x: f32) -> Evaluation
         ensures { λ r. ⌜ EvaluatesTo (fromFloat x) r ⌝ }
     {
         let exact = float::approximate_float(x);
-        let Checked::Some(a) = exact else {
+        let OptionRational64::Some(a) = exact else {
             return Evaluation::ApproximateFail(x);
         };
         rational_value(a)
@@ -347,7 +360,7 @@ impl Value {
         let xb = self.b;
         let ya = y.a;
         let yb = y.b;
-        both_parts(xa.checked_add(ya), xb.checked_add(yb))
+        parts_or_overflow(xa.checked_add(ya), xb.checked_add(yb))
     }
 
     pub fn checked_sub(self, y: Value) -> Evaluation
@@ -358,7 +371,7 @@ impl Value {
         let xb = self.b;
         let ya = y.a;
         let yb = y.b;
-        both_parts(xa.checked_sub(ya), xb.checked_sub(yb))
+        parts_or_overflow(xa.checked_sub(ya), xb.checked_sub(yb))
     }
 
     pub fn checked_mul(self, y: Value) -> Evaluation
@@ -369,17 +382,17 @@ impl Value {
         let xb = self.b;
         let ya = y.a;
         let yb = y.b;
-        let c = rational::product_of(xb.checked_mul(yb), pi_squared());
-        let a = rational::sum_of(xa.checked_mul(ya), c);
-        let b = rational::sum_of(xb.checked_mul(ya), xa.checked_mul(yb));
-        both_parts(a, b)
+        let c = rational::product_of_options(xb.checked_mul(yb), pi_squared());
+        let a = rational::sum_of_options(xa.checked_mul(ya), c);
+        let b = rational::sum_of_options(xb.checked_mul(ya), xa.checked_mul(yb));
+        parts_or_overflow(a, b)
     }
 
     pub fn checked_neg(self) -> Evaluation
         requires { ⌜ Sound self ⌝ }
         ensures { λ r. ⌜ EvaluatesTo (negation self) r ⌝ }
     {
-        let b = raw_zero();
+        let b = rational_zero();
         self.checked_mul(Value {
             a: Rational64 {
                 negative: true,
@@ -390,7 +403,7 @@ impl Value {
         })
     }
 
-    // One division of floats, made a fraction.
+    // The quotient by one division of floats, made a fraction.
     fn approximate_div(self, y: Value) -> Evaluation
         requires { ⌜ Sound self × Sound y ⌝ }
         ensures { λ r. ⌜ EvaluatesTo (approximateQuotient self y) r ⌝ }
@@ -410,11 +423,11 @@ impl Value {
             if ya.numer == 0 {
                 return Evaluation::DivideByZero;
             }
-            return both_parts(xa.checked_div(ya), xb.checked_div(ya));
+            return parts_or_overflow(xa.checked_div(ya), xb.checked_div(ya));
         }
         if ya.numer == 0 {
             if xa.numer == 0 {
-                return rational_part(xb.checked_div(yb));
+                return rational_or_overflow(xb.checked_div(yb));
             }
             return self.approximate_div(y);
         }
@@ -444,7 +457,7 @@ impl Value {
         let a = self.a;
         let b = self.b;
         if b.numer == 0 {
-            return root_value(a.rat_root(2));
+            return rational_or_function_of_floats(a.rat_root(2));
         }
         Evaluation::FunctionOfFloats
     }
@@ -456,7 +469,7 @@ impl Value {
         let a = self.a;
         let b = self.b;
         if a.numer == 0 {
-            return sine_of_part(part_of_turn(b));
+            return sine_table_or_overflow(without_whole_turns(b));
         }
         Evaluation::FunctionOfFloats
     }
@@ -465,14 +478,14 @@ impl Value {
         requires { ⌜ Sound self ⌝ }
         ensures { λ r. ⌜ EvaluatesTo (cosine self) r ⌝ }
     {
-        sine_of(self.checked_add(Value::half_pi()))
+        sine_of_evaluation(self.checked_add(Value::half_pi()))
     }
 
     pub fn checked_tan(self) -> Evaluation
         requires { ⌜ Sound self ⌝ }
         ensures { λ r. ⌜ EvaluatesTo (tangent self) r ⌝ }
     {
-        quotient_of(self.checked_sin(), self.checked_cos())
+        quotient_of_evaluations(self.checked_sin(), self.checked_cos())
     }
 
     pub fn checked_exp(self) -> Evaluation

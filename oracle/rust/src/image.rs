@@ -138,6 +138,7 @@ impl Builder<'_> {
                     reg,
                 }
             }
+            // The source calls the control of a CX `copy` and its target `xor`.
             2 => Stmt::CX { copy: quantum(first), xor: quantum(second) },
             3 => {
                 let called = self.image.entry(GATES, first);

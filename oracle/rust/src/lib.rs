@@ -6,7 +6,7 @@ pub mod random;
 #[cfg(feature = "unit")]
 pub mod unit;
 
-/// What a run tells and writes; a finished one has number 0.
+/// A run's answer and the words that it writes; a finished one has number 0.
 #[derive(Debug, Clone, PartialEq, Eq, Default)]
 pub struct Outcome {
     pub number: u64,
@@ -18,7 +18,7 @@ pub struct Outcome {
     pub trace: Vec<u64>,
 }
 
-/// The words of a record that starts some words, by document 01's reader; 0 if none does.
+/// The words of a record that starts some words, by document 01's record reader; 0 if none does.
 pub fn record_length(words: &[u64]) -> usize {
     let word = |at: usize| words.get(at).copied().unwrap_or(0) as u128;
     let length = match words.first() {

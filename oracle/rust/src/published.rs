@@ -1,4 +1,4 @@
-//! A run of the published linearizer, told in document 01's words.
+//! A run of the published linearizer as document 01's numbers, records and trace.
 use crate::image::{self, Image};
 use crate::Outcome;
 use num::watch;
@@ -159,8 +159,8 @@ impl GateWriter for Pen<'_> {
         self.0.write(&record)
     }
 
-    fn write_cx(&mut self, copy: usize, xor: usize) -> Result<(), Full> {
-        self.0.write(&[2, copy as u64, xor as u64])
+    fn write_cx(&mut self, control: usize, target: usize) -> Result<(), Full> {
+        self.0.write(&[2, control as u64, target as u64])
     }
 
     fn write_opaque(&mut self, name: &Symbol, params: &[Value], args: &[usize]) -> Result<(), Full> {

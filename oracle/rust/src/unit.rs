@@ -1,8 +1,8 @@
-//! The sequence unit's operations, from the static library of crate `unit`.
+//! The sequence unit's operations, from the static library of crate `unit_words`.
 use crate::random::Random;
 use crate::Outcome;
 
-#[link(name = "unit", kind = "static")]
+#[link(name = "unit_words", kind = "static")]
 extern "C" {
     pub fn cowhirame_check(image: *const u64, words: usize, answer: *mut u64);
     pub fn cowhirame_next(words: *const u64, count: usize, at: usize, answer: *mut u64);
@@ -59,15 +59,15 @@ impl Lent {
         &mut self.words[AROUND..end]
     }
 
-    /// The words told as written, if all others are as they were.
-    fn written(self, told: u64, what: &str) -> Result<Vec<u64>, String> {
+    /// So many words from the first on, which the answer says were written, if all others are as they were.
+    fn written(self, count: u64, what: &str) -> Result<Vec<u64>, String> {
         let most = self.words.len() - 2 * AROUND;
-        if told > most as u64 {
-            return Err(format!("{what}: {told} words told, {most} lent"));
+        if count > most as u64 {
+            return Err(format!("{what}: {count} words written by the answer, {most} lent"));
         }
-        let end = AROUND + told as usize;
+        let end = AROUND + count as usize;
         if self.words[..AROUND] != self.filled[..AROUND] || self.words[end..] != self.filled[end..] {
-            return Err(format!("{what}: a word changed beside the {told} told"));
+            return Err(format!("{what}: a word changed beside the {count} written"));
         }
         Ok(self.words[AROUND..end].to_vec())
     }

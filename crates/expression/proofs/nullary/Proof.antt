@@ -21,8 +21,8 @@ small m = m .before .pre .3 (is-variable m)
 pi-requires : tie.Need-pi-requires
 pi-requires c κs = search needs
 
-of-bits-requires : tie.Need-of-bits-requires
-of-bits-requires c κs = c .before .pre .2 (c .match .keys2)
+f32-from-bits-requires : tie.Need-f32-from-bits-requires
+f32-from-bits-requires c κs = c .before .pre .2 (c .match .keys2)
 
 from-float-requires : tie.Need-from-float-requires
 from-float-requires c κs = search needs
@@ -40,7 +40,7 @@ returns : tie.Need-returns
 returns c = over-pi _ _ _ _ (c .before .match .keys1) (c .pi .ensures)
 
 returns-2 : tie.Need-returns-2
-returns-2 c = over-real _ _ _ _ _ (c .before .before .match .keys2) (c .before .of-bits .ensures) (c .from-float .ensures)
+returns-2 c = over-real _ _ _ _ _ (c .before .before .match .keys2) (c .before .f32-from-bits .ensures) (c .from-float .ensures)
 
 returns-3 : tie.Need-returns-3
 returns-3 c = over-int _ _ _ _ (c .before .match .keys3) (c .int .ensures)
@@ -55,7 +55,7 @@ nullary-spec =
     tie.close
     (tie.spec
     pi-requires
-    of-bits-requires
+    f32-from-bits-requires
     from-float-requires
     int-requires
     mul-value-at

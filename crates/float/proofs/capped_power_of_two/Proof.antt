@@ -1,4 +1,5 @@
-use Rattle.float.proofs.PowersOfTwo.{shift-is, large-is}
+-- `capped_power_of_two` gives the power of 2 capped at the limit of a magnitude.
+use Rattle.float.proofs.PowerOfTwoLaws.{shift-is, large-is}
 use borrow.Author.Needs.{needs}
 use Rattle.float.proofs.capped_power_of_two.Statement.{statement}
 use Rattle.float.proofs.capped_power_of_two.Tie as tie

@@ -1,10 +1,11 @@
+-- `closest_whole` gives the whole number nearest to a quotient, by comparing twice the remainder with the divisor.
 use native.Mathlib.Numerals.{add-one}
 use mathlib.Core.Path.{sym}
 use native.Mathlib.Omega.{arith}
 use native.Mathlib.Nat.{mod-lt}
 use Prim.Native.Nat.{ℕ, _+_, _*_, _/_, _%_, _≤_, _<_, _^_}
 use native.Mathlib.Nat.{div-mul-le-self, mul-le-mul-left}
-use Rattle.float.proofs.Rounding.{compare-lt, compare-eq, compare-gt}
+use Rattle.float.proofs.OfIntLaws.{compare-lt, compare-eq, compare-gt}
 use borrow.Author.Needs.{needs}
 use Rattle.float.proofs.closest_whole.Statement.{statement}
 use Rattle.float.proofs.closest_whole.Tie as tie
@@ -15,7 +16,7 @@ div-q c = search needs
 rem-r : tie.Need-rem-r
 rem-r c = search needs
 
--- where something is left over, the divisor is 2 at least
+-- Where a remainder is left, the divisor is at least 2, so that the quotient has room for 1 more.
 half : (n u : ℕ) → 0 < u → u ≤ n % u * 2 → n < 2 ^ 64 → n / u + 1 < 2 ^ 64
 half n u p h l =
     let r : n % u < u = mod-lt n p in

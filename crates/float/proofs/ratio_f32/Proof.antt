@@ -1,9 +1,10 @@
+-- `ratio_f32` gives the quotient of the two nearest f32, with the sign on the numerator.
 use mathlib.Core.Path.{ap}
 use lib.IntN.{pos}
 use lib.Ieee.{Float, binary32, div, ofInt}
 use Rattle.float.specs.Float.{ratioFloat}
-use Rattle.rational.proofs.Soundness.{nonzero}
-use Rattle.float.proofs.SignedRounding.{neg-ofInt}
+use Rattle.rational.proofs.LowestTermsLaws.{nonzero}
+use Rattle.float.proofs.RoundLaws.{neg-ofInt}
 use borrow.Author.Needs.{needs}
 use Rattle.float.proofs.ratio_f32.Statement.{statement}
 use Rattle.float.proofs.ratio_f32.Tie as tie

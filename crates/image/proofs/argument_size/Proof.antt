@@ -1,3 +1,4 @@
+-- The size of an argument is 1 by its scope or its index, else its register's.
 use denote.Ref.{now}
 use Rattle.image.proofs.ArgumentSizeLaws.{size-one, size-index, size-whole}
 use borrow.Author.Needs.{needs}

@@ -1,3 +1,4 @@
+-- The size of a classical argument is 1 by its index, else its register's.
 use denote.Ref.{now}
 use Rattle.image.proofs.ArgumentSizeLaws.{classical-size-index, classical-size-whole}
 use borrow.Author.Needs.{needs}

@@ -53,7 +53,9 @@ returns-5 c =
     let short = tests .before .before .if2 .left in
     let total = sym (sum .before .expression-at .ensures .counted _ refl) ∙ sum .if4 .left in
     let image = now (tests .before .before .before .before .before .args .image) in
-    rw (le-leb 9 _ (tests .before .before .before .if1 .left), le-leb _ 8192 short, eq-eqb _ _ (sym (tests .before .word .ensures) ∙ tests .if3 .left), eq-eqb _ _ (whole-is _ _ (read .counts .ensures) _ short total), lt-leb (gates image) 128 (omega (arith, c .if5 .taken, gates-are _ _ (read .counts .ensures) _ short total))) refl
+    let long = le-leb 9 _ (tests .before .before .before .if1 .left) in
+    let counted = eq-eqb _ _ (sym (tests .before .word .ensures) ∙ tests .if3 .left) in
+    rw (long, le-leb _ 8192 short, counted, eq-eqb _ _ (whole-is _ _ (read .counts .ensures) _ short total), lt-leb (gates image) 128 (omega (arith, c .if5 .taken, gates-are _ _ (read .counts .ensures) _ short total))) refl
 
 returns-6 : tie.Need-returns-6
 unfolding contentsOk every
@@ -63,8 +65,10 @@ returns-6 c =
     let tests = read .before in
     let short = tests .before .before .if2 .left in
     let total = sym (sum .before .expression-at .ensures .counted _ refl) ∙ sum .if4 .left in
+    let long = le-leb 9 _ (tests .before .before .before .if1 .left) in
+    let counted = eq-eqb _ _ (sym (tests .before .word .ensures) ∙ tests .if3 .left) in
     let image = now (tests .before .before .before .before .before .args .image) in (
-      rw (le-leb 9 _ (tests .before .before .before .if1 .left), le-leb _ 8192 short, eq-eqb _ _ (sym (tests .before .word .ensures) ∙ tests .if3 .left), eq-eqb _ _ (whole-is _ _ (read .counts .ensures) _ short total), le-leb (gates image) 128 (omega (arith, c .if5 .left, gates-are _ _ (read .counts .ensures) _ short total))) refl,
+      rw (long, le-leb _ 8192 short, counted, eq-eqb _ _ (whole-is _ _ (read .counts .ensures) _ short total), le-leb (gates image) 128 (omega (arith, c .if5 .left, gates-are _ _ (read .counts .ensures) _ short total))) refl,
       adds-up _ _ (read .counts .ensures) _ short total refl (c .if5 .left),
     )
 

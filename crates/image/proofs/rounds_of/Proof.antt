@@ -1,3 +1,4 @@
+-- The largest size of some arguments is found one argument after another.
 use Prim.Native.Nat.{_≤_, _-_}
 use mathlib.Core.Path.{_≡_}
 use mathlib.Core.List.{map}

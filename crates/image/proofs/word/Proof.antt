@@ -1,3 +1,4 @@
+-- A word past the end reads as 0.
 use mathlib.Core.Path.{sym}
 use denote.Ref.{now}
 use lib.ListN.{List·getD-eq-default}

@@ -1,3 +1,4 @@
+-- A place past all numbers lies past the end, and reads as 0.
 use mathlib.Core.Path.{sym}
 use native.Mathlib.Omega.{arith}
 use denote.Ref.{now}
@@ -19,7 +20,9 @@ returns : tie.Need-returns
 returns c = search needs
 
 returns-2 : tie.Need-returns-2
-returns-2 c = let a = c .before .before in sym (List·getD-eq-default (now (a .args .image)) 0 (omega arith))
+returns-2 c =
+    let a = c .before .before in
+    sym (List·getD-eq-default (now (a .args .image)) 0 (omega arith))
 
 pub word-after-spec : {M : Type 1} → statement M
 word-after-spec = tie.close (tie.spec sub-if1 add-word word-requires returns returns-2)

@@ -1,3 +1,4 @@
+-- The tests of a barrier in their order give its flaw.
 use Prim.Native.Nat.{_+_, _≤_}
 use lib.Dec.{leb}
 use native.Mathlib.Omega.{arith}
@@ -18,7 +19,10 @@ rest : (c : tie.Else1) → (let a = c .before .before .before .args in unused (n
 rest c = sym (c .before .unused-after .ensures) ∙ not-false _ (c .if1 .left)
 
 run : (c : tie.After-fits2) → (let a = c .before .before .before .before .args in leb (a .a + a .n) (arguments (now (a .image))) ≡ c .fits2 .result)
-run c = run-fits (c .before .before .before .before .args .a) (c .fits2 .ensures) refl (c .before .before .before .before .pre .0 .arguments-is)
+run c =
+    let args = c .before .before .before .before .args in
+    let pre = c .before .before .before .before .pre in
+    run-fits (args .a) (c .fits2 .ensures) refl (pre .0 .arguments-is)
 
 form : (c : tie.Else2) → (let a = c .before .before .before .before .before .args in every (unused (now (a .image)) (a .s) 3 ∷ leb (a .a + a .n) (arguments (now (a .image))) ∷ []) ≡ true)
 form c = then _ (rest (c .before .before)) (then _ (run (c .before) ∙ not-false _ (c .if2 .left)) whole)

@@ -1,3 +1,4 @@
+-- The tests of a call's own words in their order give what callFits says.
 use Prim.Native.Nat.{_+_}
 use lib.Dec.{leb, ltb}
 use mathlib.Core.Path.{_≡_, sym, _∙_}
@@ -18,15 +19,21 @@ rest c = sym (c .before .unused-after .ensures) ∙ not-false _ (c .if1 .left)
 inside : (c : tie.Else2) → (let a = c .before .before .before .before .before .args in ltb (a .g) (gates (now (a .image)))) ≡ true
 inside c = below (c .before .before .before .before .before .pre .0 .gates-is) (c .if2 .left)
 
-parameters-fit : (c : tie.After-fits2) → (let a = c .before .before .before .before .before .before .before .before .before .args in leb (a .p + gateParameters (now (a .image)) (a .g)) (parameters (now (a .image)))) ≡ c .fits2 .result
+parameters-fit : (c : tie.After-fits2)
+    → (let a = c .before .before .before .before .before .before .before .before .before .args in leb (a .p + gateParameters (now (a .image)) (a .g)) (parameters (now (a .image)))) ≡ c .fits2 .result
 parameters-fit c =
     let s = c .before .before .before .before .before .before .before .before .before in
-    run-fits (s .args .p) (c .fits2 .ensures) (parameters-of (now (s .args .image)) (s .args .g) _ (c .before .before .before .gate-at .ensures .in-image _ (c .before .before .before .before .before .before .before .before .before .pre .0)) _ (c .before .before .word .ensures)) (s .pre .0 .parameters-is)
+    run-fits (s .args .p) (c .fits2 .ensures)
+    (parameters-of (now (s .args .image)) (s .args .g) _ (c .before .before .before .gate-at .ensures .in-image _ (s .pre .0)) _ (c .before .before .word .ensures))
+    (s .pre .0 .parameters-is)
 
-arguments-fit : (c : tie.After-fits3) → (let a = c .before .before .before .before .before .before .before .before .before .before .before .args in leb (a .a + gateArguments (now (a .image)) (a .g)) (arguments (now (a .image)))) ≡ c .fits3 .result
+arguments-fit : (c : tie.After-fits3)
+    → (let a = c .before .before .before .before .before .before .before .before .before .before .before .args in leb (a .a + gateArguments (now (a .image)) (a .g)) (arguments (now (a .image)))) ≡ c .fits3 .result
 arguments-fit c =
     let s = c .before .before .before .before .before .before .before .before .before .before .before in
-    run-fits (s .args .a) (c .fits3 .ensures) (arguments-of (now (s .args .image)) (s .args .g) _ (c .before .before .before .before .before .gate-at .ensures .in-image _ (c .before .before .before .before .before .before .before .before .before .before .before .pre .0)) _ (c .before .before .before .word2 .ensures)) (s .pre .0 .arguments-is)
+    run-fits (s .args .a) (c .fits3 .ensures)
+    (arguments-of (now (s .args .image)) (s .args .g) _ (c .before .before .before .before .before .gate-at .ensures .in-image _ (s .pre .0)) _ (c .before .before .before .word2 .ensures))
+    (s .pre .0 .arguments-is)
 
 unused-after-requires : tie.Need-unused-after-requires
 unused-after-requires c κs = search needs
@@ -53,13 +60,19 @@ fits-requires : tie.Need-fits-requires
 fits-requires c κs = search needs
 
 returns-3 : tie.Need-returns-3
-returns-3 c = sym (then _ (rest (c .before .before .before .before .before .before .before)) (then _ (inside (c .before .before .before .before .before)) (out _ (parameters-fit (c .before) ∙ not-true _ (c .if3 .taken)))))
+returns-3 c =
+    let before = c .before .before .before .before .before .before .before in
+    let before-2 = c .before .before .before .before .before in
+    sym (then _ (rest before) (then _ (inside before-2) (out _ (parameters-fit (c .before) ∙ not-true _ (c .if3 .taken)))))
 
 fits-requires-2 : tie.Need-fits-requires-2
 fits-requires-2 c κs = search needs
 
 returns-4 : tie.Need-returns-4
-returns-4 c = sym (then _ (rest (c .before .before .before .before .before .before .before .before)) (then _ (inside (c .before .before .before .before .before .before)) (then _ (parameters-fit (c .before .before) ∙ not-false _ (c .before .if3 .left)) (last (arguments-fit c)))))
+returns-4 c =
+    let before = c .before .before .before .before .before .before .before .before in
+    let before-2 = c .before .before .before .before .before .before in
+    sym (then _ (rest before) (then _ (inside before-2) (then _ (parameters-fit (c .before .before) ∙ not-false _ (c .before .if3 .left)) (last (arguments-fit c)))))
 
 pub call-fits-spec : {M : Type 1} → statement M
 call-fits-spec =

@@ -1,3 +1,4 @@
+-- The tests of a call in their order give its flaw.
 use Prim.Native.Nat.{_+_, _≤_}
 use native.Mathlib.Omega.{arith}
 use mathlib.Core.Path.{_≡_, sym, _∙_}
@@ -23,24 +24,35 @@ fit c = sym (c .before .call-fits .ensures) ∙ not-false _ (c .if1 .left)
 down : (c : tie.After-calls-down) → (let a = c .before .before .before .before .before .before .args in downward (now (a .image)) (a .scope) (a .g)) ≡ c .calls-down .result
 down c = sym (c .calls-down .ensures (now (c .before .before .before .before .before .before .args .image)))
 
-parameters-is : (c : tie.After-word2) → (let a = c .before .before .before .before .before .before .before .before .before .before .args in c .before .word .result ≡ gateParameters (now (a .image)) (a .g))
-parameters-is c = let a = c .before .before .before .before .before .before .before .before .before .before .args in parameters-of (now (a .image)) (a .g) _ (c .before .before .gate-at .ensures .in-image _ (c .before .before .before .before .before .before .before .before .before .before .pre .0 .laid)) _ (c .before .word .ensures)
+parameters-is : (c : tie.After-word2)
+    → (let a = c .before .before .before .before .before .before .before .before .before .before .args in c .before .word .result ≡ gateParameters (now (a .image)) (a .g))
+parameters-is c =
+    let args = c .before .before .before .before .before .before .before .before .before .before .args in
+    let pre = c .before .before .before .before .before .before .before .before .before .before .pre in
+    parameters-of (now (args .image)) (args .g) _ (c .before .before .gate-at .ensures .in-image _ (pre .0 .tables .laid)) _ (c .before .word .ensures)
 
 arguments-is : (c : tie.After-word2) → (let a = c .before .before .before .before .before .before .before .before .before .before .args in c .word2 .result ≡ gateArguments (now (a .image)) (a .g))
-arguments-is c = let a = c .before .before .before .before .before .before .before .before .before .before .args in arguments-of (now (a .image)) (a .g) _ (c .before .before .gate-at .ensures .in-image _ (c .before .before .before .before .before .before .before .before .before .before .pre .0 .laid)) _ (c .word2 .ensures)
+arguments-is c =
+    let args = c .before .before .before .before .before .before .before .before .before .before .args in
+    let pre = c .before .before .before .before .before .before .before .before .before .before .pre in
+    arguments-of (now (args .image)) (args .g) _ (c .before .before .gate-at .ensures .in-image _ (pre .0 .tables .laid)) _ (c .word2 .ensures)
 
 few-arguments : (c : tie.After-word2) → c .before .before .before .before .before .before .before .before .before .before .args .a + c .word2 .result ≤ 8192
 few-arguments c =
     let s = c .before .before .before .before .before .before .before .before .before .before in
-    call-arguments (now (s .args .image)) (s .args .l) (s .args .s) (s .args .g) (s .args .p) (s .args .a) (s .pre .0 .laid) (fit (c .before .before .before .before .before)) _ (arguments-is c)
+    call-arguments (now (s .args .image)) (s .args .l) (s .args .s) (s .args .g) (s .args .p) (s .args .a) (s .pre .0 .tables .laid)
+    (fit (c .before .before .before .before .before)) _ (arguments-is c)
 
-angles : (c : tie.After-parameters-ok) → (let a = c .before .before .before .before .before .before .before .before .before .before .before .before .args in let i = now (a .image) in all (parameterOk i (variables i (a .scope))) (range (a .p) (gateParameters i (a .g)))) ≡ c .parameters-ok .result
+angles : (c : tie.After-parameters-ok)
+    → (let a = c .before .before .before .before .before .before .before .before .before .before .before .before .args in let i = now (a .image) in all (parameterOk i (variables i (a .scope))) (range (a .p) (gateParameters i (a .g)))) ≡ c .parameters-ok .result
 angles c = sym (rw (c .before .variables-of .ensures, parameters-is (c .before .before)) at (c .parameters-ok .ensures))
 
-sound : (c : tie.After-arguments-ok) → (let a = c .before .before .before .before .before .before .before .before .before .before .before .before .before .args in let i = now (a .image) in all (argumentOk i (a .scope)) (range (a .a) (gateArguments i (a .g)))) ≡ c .arguments-ok .result
+sound : (c : tie.After-arguments-ok)
+    → (let a = c .before .before .before .before .before .before .before .before .before .before .before .before .before .args in let i = now (a .image) in all (argumentOk i (a .scope)) (range (a .a) (gateArguments i (a .g)))) ≡ c .arguments-ok .result
 sound c = sym (rw (arguments-is (c .before .before .before)) at (c .arguments-ok .ensures))
 
-sizes : (c : tie.After-sizes-match) → (let a = c .before .before .before .before .before .before .before .before .before .before .before .before .before .before .args in let i = now (a .image) in matching (map (argumentSize i (a .scope)) (range (a .a) (gateArguments i (a .g))))) ≡ c .sizes-match .result
+sizes : (c : tie.After-sizes-match)
+    → (let a = c .before .before .before .before .before .before .before .before .before .before .before .before .before .before .args in let i = now (a .image) in matching (map (argumentSize i (a .scope)) (range (a .a) (gateArguments i (a .g))))) ≡ c .sizes-match .result
 sizes c = sym (rw (arguments-is (c .before .before .before .before)) at (c .sizes-match .ensures))
 
 call-fits-requires : tie.Need-call-fits-requires
@@ -60,7 +72,7 @@ returns-2 c = passes _ _ (fit (c .before .before)) (fails _ (down (c .before) �
 gate-at-requires : tie.Need-gate-at-requires
 gate-at-requires c κs =
     let s = c .before .before .before .before .before .before .before in
-    (s .pre .0 .laid .limits, omega (arith, call-gate (now (s .args .image)) (s .args .l) (s .args .s) (s .args .g) (s .args .p) (s .args .a) (s .pre .0 .laid) (fit (c .before .before))))
+    (s .pre .0 .tables .laid .limits, omega (arith, call-gate (now (s .args .image)) (s .args .l) (s .args .s) (s .args .g) (s .args .p) (s .args .a) (s .pre .0 .tables .laid) (fit (c .before .before))))
 
 word-requires : tie.Need-word-requires
 word-requires c κs = search needs
@@ -79,14 +91,18 @@ parameters-ok-requires c κs =
     let s = c .before .before .before .before .before .before .before .before .before .before .before in
     let i = now (s .args .image) in
     let ready = s .pre .0 in
-    let few = variables-few i (ready .gated) (s .args .scope) _ (ready .laid .gates-is) (ready .within) in
-    (ready .laid, ready .judged, omega (arith, c .variables-of .ensures), call-parameters i (s .args .l) (s .args .s) (s .args .g) (s .args .p) (s .args .a) (ready .laid) (fit (c .before .before .before .before .before .before)) _ (parameters-is (c .before)))
+    let few = variables-few i (ready .gated) (s .args .scope) _ (ready .tables .laid .gates-is) (ready .within) in
+    (ready .tables, omega (arith, c .variables-of .ensures), call-parameters i (s .args .l) (s .args .s) (s .args .g) (s .args .p) (s .args .a) (ready .tables .laid) (fit (c .before .before .before .before .before .before)) _ (parameters-is (c .before)))
 
 arguments-ok-requires : tie.Need-arguments-ok-requires
-arguments-ok-requires c κs = let ready = c .before .before .before .before .before .before .before .before .before .before .before .before .pre .0 in (ready .laid, ready .within, few-arguments (c .before .before))
+arguments-ok-requires c κs =
+    let pre = c .before .before .before .before .before .before .before .before .before .before .before .before .pre in
+    let ready = pre .0 in (ready .tables .laid, ready .within, few-arguments (c .before .before))
 
 sizes-match-requires : tie.Need-sizes-match-requires
-sizes-match-requires c κs = (c .before .before .before .before .before .before .before .before .before .before .before .before .before .pre .0 .laid, few-arguments (c .before .before .before))
+sizes-match-requires c κs =
+    let pre = c .before .before .before .before .before .before .before .before .before .before .before .before .before .pre in
+    (pre .0 .tables .laid, few-arguments (c .before .before .before))
 
 call-number-requires : tie.Need-call-number-requires
 call-number-requires c κs = search needs

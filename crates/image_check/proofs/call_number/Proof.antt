@@ -1,3 +1,4 @@
+-- The first of three tests that fails gives the number.
 use borrow.Author.Tests.{not-true, not-false}
 use Rattle.image_check.proofs.FirstOfLaws.{fails, passes, none}
 use Rattle.image_check.proofs.call_number.Statement.{statement}

@@ -1,3 +1,4 @@
+-- The tests of an if in their order give its flaw, and then those of the statement that it holds.
 use lib.Dec.{ltb, leb, eqb}
 use mathlib.Core.Path.{_≡_, sym, _∙_}
 use mathlib.Core.Bool.{true}
@@ -18,13 +19,15 @@ rest : (c : tie.Else2) → (let a = c .before .before .before .before .before .b
 rest c = sym (c .before .unused-after .ensures) ∙ not-false _ (c .if2 .left)
 
 register : (c : tie.Else3) → (let a = c .before .before .before .before .before .before .before .before .args in ltb (a .r) (classicalRegisters (now (a .image))) ≡ true)
-register c = below (c .before .before .before .before .before .before .before .before .pre .0 .laid .classical-registers-is) (c .if3 .left)
+register c = below (c .before .before .before .before .before .before .before .before .pre .0 .tables .laid .classical-registers-is) (c .if3 .left)
 
 further : (c : tie.Else4) → (let a = c .before .before .before .before .before .before .before .before .before .before .args in leb (mainStatements (now (a .image))) (a .t) ≡ true)
-further c = from (c .before .before .before .before .before .before .before .before .before .before .pre .0 .laid .main-statements-is) (c .if4 .left)
+further c = from (c .before .before .before .before .before .before .before .before .before .before .pre .0 .tables .laid .main-statements-is) (c .if4 .left)
 
 listed : (c : tie.Else5) → (let a = c .before .before .before .before .before .before .before .before .before .before .before .before .args in ltb (a .t) (allStatements (now (a .image))) ≡ true)
-listed c = below (c .before .before .before .before .before .before .before .before .before .before .before .before .pre .0 .laid .statements-is) (c .if5 .left)
+listed c =
+    let pre = c .before .before .before .before .before .before .before .before .before .before .before .before .pre in
+    below (pre .0 .tables .laid .statements-is) (c .if5 .left)
 
 returns : tie.Need-returns
 unfolding conditionalOk
@@ -45,21 +48,22 @@ returns-3 : tie.Need-returns-3
 unfolding conditionalOk
 returns-3 c v =
     let a = c .before .before .before .before .before .before .before .before .args in
-    if-wrong (now (a .image)) (a .scope) (a .s) (a .r) v (a .t) (then _ (main (c .before .before .before .before)) (then _ (rest (c .before .before)) (out _ (beyond (c .before .before .before .before .before .before .before .before .pre .0 .laid .classical-registers-is) (c .if3 .taken)))))
+    if-wrong (now (a .image)) (a .scope) (a .s) (a .r) v (a .t)
+    (then _ (main (c .before .before .before .before)) (then _ (rest (c .before .before)) (out _ (beyond (c .before .before .before .before .before .before .before .before .pre .0 .tables .laid .classical-registers-is) (c .if3 .taken)))))
 
 returns-4 : tie.Need-returns-4
 unfolding conditionalOk
 returns-4 c v =
     let a = c .before .before .before .before .before .before .before .before .before .before .args in
     if-wrong (now (a .image)) (a .scope) (a .s) (a .r) v (a .t)
-    (then _ (main (c .before .before .before .before .before .before)) (then _ (rest (c .before .before .before .before)) (then _ (register (c .before .before)) (out _ (short (c .before .before .before .before .before .before .before .before .before .before .pre .0 .laid .main-statements-is) (c .if4 .taken))))))
+    (then _ (main (c .before .before .before .before .before .before)) (then _ (rest (c .before .before .before .before)) (then _ (register (c .before .before)) (out _ (short (c .before .before .before .before .before .before .before .before .before .before .pre .0 .tables .laid .main-statements-is) (c .if4 .taken))))))
 
 returns-5 : tie.Need-returns-5
 unfolding conditionalOk
 returns-5 c v =
     let a = c .before .before .before .before .before .before .before .before .before .before .before .before .args in
     if-wrong (now (a .image)) (a .scope) (a .s) (a .r) v (a .t)
-    (then _ (main (c .before .before .before .before .before .before .before .before)) (then _ (rest (c .before .before .before .before .before .before)) (then _ (register (c .before .before .before .before)) (then _ (further (c .before .before)) (out _ (beyond (c .before .before .before .before .before .before .before .before .before .before .before .before .pre .0 .laid .statements-is) (c .if5 .taken)))))))
+    (then _ (main (c .before .before .before .before .before .before .before .before)) (then _ (rest (c .before .before .before .before .before .before)) (then _ (register (c .before .before .before .before)) (then _ (further (c .before .before)) (out _ (beyond (c .before .before .before .before .before .before .before .before .before .before .before .before .pre .0 .tables .laid .statements-is) (c .if5 .taken)))))))
 
 in-conditional-requires : tie.Need-in-conditional-requires
 in-conditional-requires c κs = search needs

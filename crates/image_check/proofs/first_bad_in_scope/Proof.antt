@@ -1,3 +1,4 @@
+-- The statements of a scope are looked at in their order up to the first bad one.
 use Prim.Native.Nat.{_≤_, _-_}
 use mathlib.Core.Path.{refl}
 use native.Mathlib.Omega.{arith}
@@ -36,7 +37,7 @@ returns : tie.Need-returns Inv-loop μ-loop
 returns c =
     let a = c .before .before .before .before .before .before .before .before .before .before .args in
     from-here (flaw (now (a .image)) (a .scope)) (statementAt (now (a .image))) (scopeFlaw (now (a .image)) (a .scope)) _ _ _ _
-    (c .before .before .before .before .loop .inv .1) (c .before .before .before .loop-test .taken) (c .before .before .statement-flaw .ensures) (c .before .if1 .taken) (c .statement-at .ensures .in-image _ (c .before .before .before .before .before .before .before .before .before .before .pre .laid))
+    (c .before .before .before .before .loop .inv .1) (c .before .before .before .loop-test .taken) (c .before .before .statement-flaw .ensures) (c .before .if1 .taken) (c .statement-at .ensures .in-image _ (c .before .before .before .before .before .before .before .before .before .before .pre .tables .laid))
 
 add-s : tie.Need-add-s Inv-loop μ-loop
 add-s c = search needs

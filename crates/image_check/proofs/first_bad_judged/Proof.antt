@@ -1,3 +1,4 @@
+-- The scopes are looked at in their order up to the first bad statement.
 use Prim.Native.Nat.{_≤_, _-_, _+_}
 use native.Mathlib.Omega.{arith}
 use denote.Ref.{now}
@@ -13,7 +14,9 @@ abbrev μ-loop : tie.MeasureT-loop
 μ-loop image l levels variable-counts n scope₀ scope = n + 1 - scope
 
 loop-holds : tie.Need-loop-holds Inv-loop μ-loop
-loop-holds c = let s = c .before .before .before in (omega arith, scopes-start (now (s .args .image)) (s .args .l .gates) (s .pre .0 .gates-is))
+loop-holds c =
+    let s = c .before .before .before in
+    (omega arith, scopes-start (now (s .args .image)) (s .args .l .gates) (s .pre .0 .laid .gates-is))
 
 first-bad-in-scope-requires : tie.Need-first-bad-in-scope-requires Inv-loop μ-loop
 first-bad-in-scope-requires c κs = search needs
@@ -21,7 +24,8 @@ first-bad-in-scope-requires c κs = search needs
 returns : tie.Need-returns Inv-loop μ-loop
 returns c =
     let a = c .before .before .before .before .before .before .before .before .args in
-    scopes-here (now (a .image)) _ _ (c .before .before .first-bad-in-scope .result) (c .before .before .before .before .loop .inv .1) (c .before .before .before .loop-test .taken) (c .before .before .first-bad-in-scope .ensures) (c .if1 .taken)
+    scopes-here (now (a .image)) _ _ (c .before .before .first-bad-in-scope .result) (c .before .before .before .before .loop .inv .1)
+    (c .before .before .before .loop-test .taken) (c .before .before .first-bad-in-scope .ensures) (c .if1 .taken)
 
 add-scope : tie.Need-add-scope Inv-loop μ-loop
 add-scope c = search needs

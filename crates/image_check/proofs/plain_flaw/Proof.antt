@@ -1,3 +1,4 @@
+-- A statement that is no if is judged by its kind.
 use mathlib.Core.Path.{_≡_, refl}
 use denote.Ref.{now}
 use Rattle.model.specs.Image.{statement as statementAs, statementOf}
@@ -7,8 +8,15 @@ use borrow.Author.Needs.{needs}
 use Rattle.image_check.proofs.plain_flaw.Statement.{statement}
 use Rattle.image_check.proofs.plain_flaw.Tie as tie
 
-statement-is : (c : tie.After-word5) → (let a = c .before .before .before .before .before .before .before .before .before .args in statementAs (now (a .image)) (a .s) ≡ statementOf (c .before .before .before .before .word .result) (c .before .before .before .word2 .result) (c .before .before .word3 .result) (c .before .word4 .result) (c .word5 .result))
-statement-is c = words-are (now (c .before .before .before .before .before .before .before .before .before .args .image)) (c .before .before .before .before .before .before .before .before .before .args .s) _ _ _ _ _ _ (c .before .before .before .before .before .statement-at .ensures .in-image _ (c .before .before .before .before .before .before .before .before .before .pre .0 .laid)) (c .before .before .before .before .word .ensures) (c .before .before .before .word2 .ensures) (c .before .before .word3 .ensures) (c .before .word4 .ensures) (c .word5 .ensures)
+statement-is : (c : tie.After-word5)
+    → (let a = c .before .before .before .before .before .before .before .before .before .args in statementAs (now (a .image)) (a .s) ≡ statementOf (c .before .before .before .before .word .result) (c .before .before .before .word2 .result) (c .before .before .word3 .result) (c .before .word4 .result) (c .word5 .result))
+statement-is c =
+    let args = c .before .before .before .before .before .before .before .before .before .args in
+    let pre = c .before .before .before .before .before .before .before .before .before .pre in
+    let statement-at = c .before .before .before .before .before .statement-at .ensures in
+    let word = c .before .before .before .before .word .ensures in
+    words-are (now (args .image)) (args .s) _ _ _ _ _ _ (statement-at .in-image _ (pre .0 .tables .laid)) word (c .before .before .before .word2 .ensures)
+    (c .before .before .word3 .ensures) (c .before .word4 .ensures) (c .word5 .ensures)
 
 statement-at-requires : tie.Need-statement-at-requires
 statement-at-requires c κs = search needs
@@ -59,22 +67,34 @@ reset-flaw-requires : tie.Need-reset-flaw-requires
 reset-flaw-requires c κs = search needs
 
 returns : tie.Need-returns
-returns c = let a = c .before .before .before .before .before .before .before .before .before .before .before .args in plain-is (now (a .image)) (a .scope) (a .s) (statement-is (c .before .before)) (u-is _ _ _ _ _ (c .before .match .keys1)) (c .u-flaw .ensures (a .s))
+returns c =
+    let a = c .before .before .before .before .before .before .before .before .before .before .before .args in
+    plain-is (now (a .image)) (a .scope) (a .s) (statement-is (c .before .before)) (u-is _ _ _ _ _ (c .before .match .keys1)) (c .u-flaw .ensures (a .s))
 
 returns-2 : tie.Need-returns-2
-returns-2 c = let a = c .before .before .before .before .before .before .before .before .before .before .before .args in plain-is (now (a .image)) (a .scope) (a .s) (statement-is (c .before .before)) (cx-is _ _ _ _ _ (c .before .match .keys2)) (c .cx-flaw .ensures)
+returns-2 c =
+    let a = c .before .before .before .before .before .before .before .before .before .before .before .args in
+    plain-is (now (a .image)) (a .scope) (a .s) (statement-is (c .before .before)) (cx-is _ _ _ _ _ (c .before .match .keys2)) (c .cx-flaw .ensures)
 
 returns-3 : tie.Need-returns-3
-returns-3 c = let a = c .before .before .before .before .before .before .before .before .before .before .before .args in plain-is (now (a .image)) (a .scope) (a .s) (statement-is (c .before .before)) (gate-is _ _ _ _ _ (c .before .match .keys3)) (c .call-flaw .ensures)
+returns-3 c =
+    let a = c .before .before .before .before .before .before .before .before .before .before .before .args in
+    plain-is (now (a .image)) (a .scope) (a .s) (statement-is (c .before .before)) (gate-is _ _ _ _ _ (c .before .match .keys3)) (c .call-flaw .ensures)
 
 returns-4 : tie.Need-returns-4
-returns-4 c = let a = c .before .before .before .before .before .before .before .before .before .before .before .args in plain-is (now (a .image)) (a .scope) (a .s) (statement-is (c .before .before)) (barrier-is _ _ _ _ _ (c .before .match .keys4)) (c .barrier-flaw .ensures)
+returns-4 c =
+    let a = c .before .before .before .before .before .before .before .before .before .before .before .args in
+    plain-is (now (a .image)) (a .scope) (a .s) (statement-is (c .before .before)) (barrier-is _ _ _ _ _ (c .before .match .keys4)) (c .barrier-flaw .ensures)
 
 returns-5 : tie.Need-returns-5
-returns-5 c = let a = c .before .before .before .before .before .before .before .before .before .before .before .args in plain-is (now (a .image)) (a .scope) (a .s) (statement-is (c .before .before)) (measure-is _ _ _ _ _ (c .before .match .keys5)) (c .measure-flaw .ensures)
+returns-5 c =
+    let a = c .before .before .before .before .before .before .before .before .before .before .before .args in
+    plain-is (now (a .image)) (a .scope) (a .s) (statement-is (c .before .before)) (measure-is _ _ _ _ _ (c .before .match .keys5)) (c .measure-flaw .ensures)
 
 returns-6 : tie.Need-returns-6
-returns-6 c = let a = c .before .before .before .before .before .before .before .before .before .before .before .args in plain-is (now (a .image)) (a .scope) (a .s) (statement-is (c .before .before)) (reset-is _ _ _ _ _ (c .before .match .keys6)) (c .reset-flaw .ensures)
+returns-6 c =
+    let a = c .before .before .before .before .before .before .before .before .before .before .before .args in
+    plain-is (now (a .image)) (a .scope) (a .s) (statement-is (c .before .before)) (reset-is _ _ _ _ _ (c .before .match .keys6)) (c .reset-flaw .ensures)
 
 returns-7 : tie.Need-returns-7
 returns-7 c =

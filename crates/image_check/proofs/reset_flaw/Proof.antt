@@ -1,3 +1,4 @@
+-- The tests of a reset in their order give its flaw.
 use lib.Dec.{ltb, eqb}
 use mathlib.Core.Path.{_≡_, sym, _∙_}
 use mathlib.Core.Bool.{true}
@@ -18,8 +19,12 @@ main c = eq-eqb _ _ (c .if1 .left)
 rest : (c : tie.Else2) → (let a = c .before .before .before .before .args in unused (now (a .image)) (a .s) 2 ≡ true)
 rest c = sym (c .before .unused-after .ensures) ∙ not-false _ (c .if2 .left)
 
-form : (c : tie.Else3) → (let a = c .before .before .before .before .before .before .args in every (eqb (a .scope) 0 ∷ unused (now (a .image)) (a .s) 2 ∷ ltb (a .q) (arguments (now (a .image))) ∷ []) ≡ true)
-form c = then _ (main (c .before .before .before .before)) (then _ (rest (c .before .before)) (then _ (below (c .before .before .before .before .before .before .pre .0 .arguments-is) (c .if3 .left)) whole))
+form : (c : tie.Else3)
+    → (let a = c .before .before .before .before .before .before .args in every (eqb (a .scope) 0 ∷ unused (now (a .image)) (a .s) 2 ∷ ltb (a .q) (arguments (now (a .image))) ∷ []) ≡ true)
+form c =
+    let pre = c .before .before .before .before .before .before .pre in
+    let before = c .before .before .before .before in
+    then _ (main before) (then _ (rest (c .before .before)) (then _ (below (pre .0 .arguments-is) (c .if3 .left)) whole))
 
 returns : tie.Need-returns
 unfolding plainFlaw
@@ -34,7 +39,10 @@ returns-2 c = fails _ (then _ (main (c .before .before)) (out _ (sym (c .before 
 
 returns-3 : tie.Need-returns-3
 unfolding plainFlaw
-returns-3 c = fails _ (then _ (main (c .before .before .before .before)) (then _ (rest (c .before .before)) (out _ (beyond (c .before .before .before .before .before .before .pre .0 .arguments-is) (c .if3 .taken)))))
+returns-3 c =
+    let pre = c .before .before .before .before .before .before .pre in
+    let before = c .before .before .before .before in
+    fails _ (then _ (main before) (then _ (rest (c .before .before)) (out _ (beyond (pre .0 .arguments-is) (c .if3 .taken)))))
 
 argument-ok-requires : tie.Need-argument-ok-requires
 argument-ok-requires c κs = search needs

@@ -1,3 +1,4 @@
+-- An if is judged with the statement that it holds, any other statement by itself.
 use mathlib.Core.Path.{refl}
 use denote.Ref.{now}
 use Rattle.model.specs.Image.{word}
@@ -32,7 +33,7 @@ returns : tie.Need-returns
 returns c =
     let a = c .before .before .before .before .before .before .before .before .before .args in
     flaw-if (now (a .image)) (a .scope) (a .s) _ _ _ _ _
-    (words-are (now (a .image)) (a .s) _ _ _ _ _ _ (c .before .before .before .before .before .statement-at .ensures .in-image _ (c .before .before .before .before .before .before .before .before .before .pre .0 .laid)) (c .before .before .before .before .word .ensures) (c .before .before .word2 .ensures) refl (c .before .word3 .ensures) refl)
+    (words-are (now (a .image)) (a .s) _ _ _ _ _ _ (c .before .before .before .before .before .statement-at .ensures .in-image _ (c .before .before .before .before .before .before .before .before .before .pre .0 .tables .laid)) (c .before .before .before .before .word .ensures) (c .before .before .word2 .ensures) refl (c .before .word3 .ensures) refl)
     (c .before .before .before .if1 .taken) (c .conditional-flaw .ensures _)
 
 plain-flaw-requires : tie.Need-plain-flaw-requires
@@ -42,7 +43,7 @@ returns-2 : tie.Need-returns-2
 returns-2 c =
     let a = c .before .before .before .before .before .before .before .args in
     flaw-plain (now (a .image)) (a .scope) (a .s) _ _ _ _ _
-    (words-are (now (a .image)) (a .s) _ _ _ _ _ _ (c .before .before .before .statement-at .ensures .in-image _ (c .before .before .before .before .before .before .before .pre .0 .laid)) (c .before .before .word .ensures) refl refl refl refl)
+    (words-are (now (a .image)) (a .s) _ _ _ _ _ _ (c .before .before .before .statement-at .ensures .in-image _ (c .before .before .before .before .before .before .before .pre .0 .tables .laid)) (c .before .before .word .ensures) refl refl refl refl)
     (c .before .if1 .left) (c .plain-flaw .ensures)
 
 pub statement-flaw-spec : {M : Type 1} → statement M

@@ -37,7 +37,8 @@ returns c =
 returns-2 : tie.Need-returns-2
 returns-2 c =
     let s = c .before .before .before .before .before .before .before in
-    argument-none (now (s .args .image)) _ _ _ (c .before .before .before .before .before .argument-at .ensures .in-image _ (s .pre .0)) (c .before .before .before .before .word .ensures) _ _ (c .before .before .if1 .taken) (s .pre .0 .quantum-registers-is) (c .if2 .left)
+    argument-none (now (s .args .image)) _ _ _ (c .before .before .before .before .before .argument-at .ensures .in-image _ (s .pre .0))
+    (c .before .before .before .before .word .ensures) _ _ (c .before .before .if1 .taken) (s .pre .0 .quantum-registers-is) (c .if2 .left)
 
 sub-gate-at : tie.Need-sub-gate-at
 sub-gate-at c = search needs

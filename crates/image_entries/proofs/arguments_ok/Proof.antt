@@ -1,3 +1,4 @@
+-- All arguments are well formed if each one up to the last is.
 use Prim.Native.Nat.{_≤_, _-_}
 use mathlib.Core.Path.{_≡_, sym, _∙_}
 use mathlib.Core.Bool.{true}

@@ -1,3 +1,4 @@
+-- The tests of a body in their order give what bodyWordsOk says.
 use mathlib.Core.Bool.{and-true}
 use mathlib.Core.Path.{_∙_, refl, sym}
 use borrow.Author.Tests.{eq-eqb, le-leb, lt-leb, ne-eqb}
@@ -15,19 +16,27 @@ fits-requires c κs = search needs
 
 returns-2 : tie.Need-returns-2
 unfolding every
-returns-2 c = sym (simp (le-leb _ 1 (c .before .before .before .before .if1 .left), sym (c .before .before .before .fits2 .ensures) ∙ c .before .before .if2 .taken, eq-eqb _ _ (c .before .if3 .taken), eq-eqb _ _ (c .if4 .taken), and-true))
+returns-2 c =
+    let if1 = c .before .before .before .before .if1 .left in
+    sym (simp (le-leb _ 1 if1, sym (c .before .before .before .fits2 .ensures) ∙ c .before .before .if2 .taken, eq-eqb _ _ (c .before .if3 .taken), eq-eqb _ _ (c .if4 .taken), and-true))
 
 returns-3 : tie.Need-returns-3
 unfolding every
-returns-3 c = sym (simp (le-leb _ 1 (c .before .before .before .before .if1 .left), sym (c .before .before .before .fits2 .ensures) ∙ c .before .before .if2 .taken, eq-eqb _ _ (c .before .if3 .taken), ne-eqb _ _ (c .if4 .left)))
+returns-3 c =
+    let if1 = c .before .before .before .before .if1 .left in
+    sym (simp (le-leb _ 1 if1, sym (c .before .before .before .fits2 .ensures) ∙ c .before .before .if2 .taken, eq-eqb _ _ (c .before .if3 .taken), ne-eqb _ _ (c .if4 .left)))
 
 returns-4 : tie.Need-returns-4
 unfolding every
-returns-4 c = sym (simp (le-leb _ 1 (c .before .before .before .before .if1 .left), sym (c .before .before .before .fits2 .ensures) ∙ c .before .before .if2 .taken, ne-eqb _ _ (c .before .if3 .left), eq-eqb _ _ (c .if5 .taken)))
+returns-4 c =
+    let if1 = c .before .before .before .before .if1 .left in
+    sym (simp (le-leb _ 1 if1, sym (c .before .before .before .fits2 .ensures) ∙ c .before .before .if2 .taken, ne-eqb _ _ (c .before .if3 .left), eq-eqb _ _ (c .if5 .taken)))
 
 returns-5 : tie.Need-returns-5
 unfolding every
-returns-5 c = sym (simp (le-leb _ 1 (c .before .before .before .before .if1 .left), sym (c .before .before .before .fits2 .ensures) ∙ c .before .before .if2 .taken, ne-eqb _ _ (c .before .if3 .left), ne-eqb _ _ (c .if5 .left), and-true))
+returns-5 c =
+    let if1 = c .before .before .before .before .if1 .left in
+    sym (simp (le-leb _ 1 if1, sym (c .before .before .before .fits2 .ensures) ∙ c .before .before .if2 .taken, ne-eqb _ _ (c .before .if3 .left), ne-eqb _ _ (c .if5 .left), and-true))
 
 returns-6 : tie.Need-returns-6
 unfolding every

@@ -32,7 +32,8 @@ returns c =
     let p = m .before .before .before in
     let image = now (p .args .image) in
     classical-is image _ _ _ (m .before .argument-at .ensures .in-image _ (p .pre .0)) (m .word .ensures)
-    _ _ _ (p .pre .0 .classical-registers-is) (r .before .before .if1 .taken) (r .before .word2 .ensures) (c .word3 .ensures ∙ ap (word image) (r .classical-register-at .ensures .in-image _ (p .pre .0)))
+    _ _ _ (p .pre .0 .classical-registers-is) (r .before .before .if1 .taken) (r .before .word2 .ensures)
+    (c .word3 .ensures ∙ ap (word image) (r .classical-register-at .ensures .in-image _ (p .pre .0)))
 
 returns-2 : tie.Need-returns-2
 returns-2 c =

@@ -1,3 +1,4 @@
+-- An expression is well formed if the tables say so, and none past the last is.
 use native.Mathlib.Omega.{arith}
 use denote.Ref.{now}
 use borrow.Author.Needs.{needs}
@@ -24,27 +25,27 @@ shared-slice-read-result : tie.Need-shared-slice-read-result
 shared-slice-read-result c = search needs
 
 returns : tie.Need-returns
-returns c =
+returns c image tables =
     let s = c .before .before .before .before .before .before .before in
-    judged-ok (now (s .args .image)) (s .args .v) (s .args .e) (s .args .l .expressions) (now (s .args .levels)) (now (s .args .variables)) (s .pre .1) (s .pre .2)
+    judged-ok image (s .args .v) (s .args .e) (s .args .l .expressions) (now (s .args .levels)) (now (s .args .variables)) (tables .judged) (s .pre .1)
     (c .before .before .before .before .before .if1 .taken) (c .before .before .before .if2 .taken) (c .before .if3 .taken)
 
 returns-2 : tie.Need-returns-2
-returns-2 c =
+returns-2 c image tables =
     let s = c .before .before .before .before .before .before in
-    judged-bad (now (s .args .image)) (s .args .v) (s .args .e) (s .args .l .expressions) (now (s .args .levels)) (now (s .args .variables)) (s .pre .1) (s .pre .2)
+    judged-bad image (s .args .v) (s .args .e) (s .args .l .expressions) (now (s .args .levels)) (now (s .args .variables)) (tables .judged) (s .pre .1)
     (c .before .before .before .before .if1 .taken) (λ p q. omega arith)
 
 returns-3 : tie.Need-returns-3
-returns-3 c =
+returns-3 c image tables =
     let s = c .before .before .before .before in
-    judged-bad (now (s .args .image)) (s .args .v) (s .args .e) (s .args .l .expressions) (now (s .args .levels)) (now (s .args .variables)) (s .pre .1) (s .pre .2)
+    judged-bad image (s .args .v) (s .args .e) (s .args .l .expressions) (now (s .args .levels)) (now (s .args .variables)) (tables .judged) (s .pre .1)
     (c .before .before .if1 .taken) (λ p q. omega arith)
 
 returns-4 : tie.Need-returns-4
-returns-4 c =
+returns-4 c image tables =
     let s = c .before .before in
-    past-none (now (s .args .image)) (s .args .v) 32 (s .args .e) (omega arith)
+    past-none image (s .args .v) 32 (s .args .e) (omega (arith, tables .laid .expressions-is, c .if1 .left))
 
 pub expression-ok-spec : {M : Type 1} → statement M
 expression-ok-spec =

@@ -1,3 +1,4 @@
+-- The first gate entry that is not well formed is the first bad one.
 use Prim.Native.Nat.{_-_, _≤_}
 use mathlib.Core.Path.{_≡_, _∙_, ap, sym}
 use Rattle.model.specs.Lists.{range}
@@ -36,7 +37,9 @@ loop-again c =
     (omega arith, l .inv .1 ∙ bad-next _ _ (l .g) (gates (now (a .args .image))) (omega (arith, c .before .before .loop-test .taken, a .pre .gates-is)) (gate-fine (now (a .args .image)) (l .g) (sym (c .before .gate-ok .ensures) ∙ c .if1 .taken)))
 
 gate-at-requires : tie.Need-gate-at-requires Inv-loop μ-loop
-gate-at-requires c κs = (c .before .before .before .before .before .pre .limits, omega (arith, c .before .before .before .before .before .pre .whole, c .before .before .before .before .before .pre .short, c .before .before .loop-test .taken))
+gate-at-requires c κs =
+    let pre = c .before .before .before .before .before .pre in
+    (pre .limits, omega (arith, pre .whole, pre .short, c .before .before .loop-test .taken))
 
 returns : tie.Need-returns Inv-loop μ-loop
 returns c =

@@ -1,3 +1,4 @@
+-- The first register of size 0, or past the limit in all, is the first bad one.
 use borrow.Author.Needs.{needs}
 use Prim.Native.Nat.{ℕ, _+_, _-_, _≤_}
 use mathlib.Core.Path.{_≡_, _∙_, ap, refl, sym}
@@ -38,7 +39,8 @@ add-t9 c = record { fits = omega arith }
 returns : tie.Need-returns Inv-loop μ-loop
 returns c =
     let l = c .before .before .before .loop in
-    sym (l .inv .3 ∙ bad-here _ _ (l .i) _ 2 (c .before .before .loop-test .taken) (register-zero (λ (i : ℕ). word (now (c .before .before .before .before .before .args .image)) (c .before .before .before .before .before .args .at + i)) (l .i) (l .total) (l .inv .2) (sym (c .before .word .ensures) ∙ c .if1 .taken)) (λ e. omega arith))
+    sym
+    (l .inv .3 ∙ bad-here _ _ (l .i) _ 2 (c .before .before .loop-test .taken) (register-zero (λ (i : ℕ). word (now (c .before .before .before .before .before .args .image)) (c .before .before .before .before .before .args .at + i)) (l .i) (l .total) (l .inv .2) (sym (c .before .word .ensures) ∙ c .if1 .taken)) (λ e. omega arith))
 
 sub-if2 : tie.Need-sub-if2 Inv-loop μ-loop
 sub-if2 c = search needs
@@ -49,7 +51,8 @@ add-t10 c = record { fits = omega arith }
 returns-2 : tie.Need-returns-2 Inv-loop μ-loop
 returns-2 c =
     let l = c .before .before .before .before .loop in
-    sym (l .inv .3 ∙ bad-here _ _ (l .i) _ 2 (c .before .before .before .loop-test .taken) (register-over (λ (i : ℕ). word (now (c .before .before .before .before .before .before .args .image)) (c .before .before .before .before .before .before .args .at + i)) (l .i) (l .total) (l .inv .2) (omega (arith, c .if2 .taken, c .before .before .word .ensures))) (λ e. omega arith))
+    sym
+    (l .inv .3 ∙ bad-here _ _ (l .i) _ 2 (c .before .before .before .loop-test .taken) (register-over (λ (i : ℕ). word (now (c .before .before .before .before .before .before .args .image)) (c .before .before .before .before .before .before .args .at + i)) (l .i) (l .total) (l .inv .2) (omega (arith, c .if2 .taken, c .before .before .word .ensures))) (λ e. omega arith))
 
 add-total : tie.Need-add-total Inv-loop μ-loop
 add-total c = record { fits = omega arith }

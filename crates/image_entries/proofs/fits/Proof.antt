@@ -1,3 +1,4 @@
+-- The test that does not wrap is the one of the sum.
 use Rattle.image_entries.proofs.UnusedLaws.{fits-is, fits-not}
 use Rattle.image_entries.proofs.fits.Statement.{statement}
 use Rattle.image_entries.proofs.fits.Tie as tie

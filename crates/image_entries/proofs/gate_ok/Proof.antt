@@ -1,3 +1,4 @@
+-- The five words of a gate entry are judged as gateOk says.
 use mathlib.Core.Path.{_≡_, _∙_, ap, refl, subst, sym}
 use Prim.Native.Nat.{ℕ, _+_, _≤_, _<_}
 use Rattle.model.specs.Lists.{every}
@@ -17,7 +18,10 @@ word-requires c κs = search needs
 
 returns : tie.Need-returns
 unfolding gateOk every
-returns c = sym (rw (lt-leb _ 16 (subst (λ (z : ℕ). 16 < z) (c .before .word .ensures ∙ ap (word (now (c .before .before .before .before .args .image))) (c .before .before .gate-at .ensures .in-image _ (c .before .before .before .before .pre .0))) (c .if1 .taken))) refl)
+returns c =
+    let args = c .before .before .before .before .args in
+    let pre = c .before .before .before .before .pre in
+    sym (rw (lt-leb _ 16 (subst (λ (z : ℕ). 16 < z) (c .before .word .ensures ∙ ap (word (now (args .image))) (c .before .before .gate-at .ensures .in-image _ (pre .0))) (c .if1 .taken))) refl)
 
 add-word : tie.Need-add-word
 add-word c = search needs
@@ -29,7 +33,8 @@ returns-2 : tie.Need-returns-2
 unfolding gateOk every
 returns-2 c =
     let at = c .before .before .before .before .gate-at .ensures .in-image _ (c .before .before .before .before .before .before .pre .0) in
-    sym (rw (le-leb _ 16 (subst (λ (z : ℕ). z ≤ 16) (c .before .before .before .word .ensures ∙ ap (word (now (c .before .before .before .before .before .before .args .image))) at) (c .before .before .if1 .left)), lt-leb _ 16 (subst (λ (z : ℕ). 16 < z) (c .before .word2 .ensures ∙ ap (λ (z : ℕ). word (now (c .before .before .before .before .before .before .args .image)) (z + 1)) at) (c .if2 .taken))) refl)
+    sym
+    (rw (le-leb _ 16 (subst (λ (z : ℕ). z ≤ 16) (c .before .before .before .word .ensures ∙ ap (word (now (c .before .before .before .before .before .before .args .image))) at) (c .before .before .if1 .left)), lt-leb _ 16 (subst (λ (z : ℕ). 16 < z) (c .before .word2 .ensures ∙ ap (λ (z : ℕ). word (now (c .before .before .before .before .before .before .args .image)) (z + 1)) at) (c .if2 .taken))) refl)
 
 add-word-2 : tie.Need-add-word-2
 add-word-2 c = search needs

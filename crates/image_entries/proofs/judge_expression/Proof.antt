@@ -1,3 +1,4 @@
+-- An entry is judged by its kind, from its words or from the judgements of its operands.
 use native.Mathlib.Omega.{arith}
 use denote.Ref.{now}
 use borrow.Author.Needs.{needs}

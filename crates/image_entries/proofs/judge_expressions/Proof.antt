@@ -1,3 +1,4 @@
+-- Each expression is judged once, after its operands.
 use Prim.Native.Nat.{_≤_, _-_}
 use native.Mathlib.Omega.{arith}
 use mathlib.Core.Path.{_≡_, refl, ap, _∙_}
@@ -25,13 +26,13 @@ store-requires : tie.Need-store-requires Inv-loop μ-loop
 store-requires c κs =
     let l = c .before .before .before .before .before in
     let s = l .before .before .before .before in
-    omega (arith, l .loop .inv .1, s .pre .1)
+    omega (arith, l .loop .inv .1, s .pre .1 .levels-fit)
 
 store-requires-2 : tie.Need-store-requires-2 Inv-loop μ-loop
 store-requires-2 c κs =
     let l = c .before .before .before .before .before .before .before .before .before in
     let s = l .before .before .before .before in
-    omega (arith, l .loop .inv .2, s .pre .2)
+    omega (arith, l .loop .inv .2, s .pre .1 .variable-counts-fit)
 
 add-e : tie.Need-add-e Inv-loop μ-loop
 add-e c = search needs
@@ -51,7 +52,7 @@ loop-again c =
       ap length (p .store .ensures) ∙ length-set (l .loop .levels) (l .loop .e) (j .result .level) ∙ l .loop .inv .1,
       ap length (q .store2 .ensures) ∙ length-set (l .loop .variables) (l .loop .e) (j .result .variables) ∙ l .loop .inv .2,
       rw (p .store .ensures, q .store2 .ensures)
-          (judged-next (now (s .args .image)) (l .loop .e) _ _ (l .loop .levels) (l .loop .variables) (omega (arith, more, l .loop .inv .1, s .pre .1)) (omega (arith, more, l .loop .inv .2, s .pre .2)) (l .loop .inv .3) (j .ensures)),
+          (judged-next (now (s .args .image)) (l .loop .e) _ _ (l .loop .levels) (l .loop .variables) (omega (arith, more, l .loop .inv .1, s .pre .1 .levels-fit)) (omega (arith, more, l .loop .inv .2, s .pre .1 .variable-counts-fit)) (l .loop .inv .3) (j .ensures)),
     )
 
 same-length : tie.Need-same-length Inv-loop μ-loop

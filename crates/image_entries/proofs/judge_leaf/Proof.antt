@@ -1,3 +1,4 @@
+-- An entry without operands has one level and needs as many variables as its word says.
 use native.Mathlib.Omega.{arith}
 use mathlib.Core.Path.{sym, _∙_}
 use borrow.Author.Needs.{needs}

@@ -1,3 +1,4 @@
+-- An operation has one level more than its deeper operand and needs the variables of both.
 use borrow.Author.Needs.{needs}
 use Rattle.image_entries.proofs.JudgementLaws.{over-left, over-right, over-deep, over-joined}
 use Rattle.image_entries.proofs.judge_operation.Statement.{statement}

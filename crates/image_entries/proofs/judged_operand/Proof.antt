@@ -1,3 +1,4 @@
+-- The judgement of an operand stands in the tables if its number is smaller.
 use mathlib.Core.Path.{refl}
 use borrow.Author.Tests.{lt-ltb, le-ltb}
 use borrow.Author.Needs.{needs}
@@ -17,7 +18,9 @@ shared-slice-read-t13 : tie.Need-shared-slice-read-t13
 shared-slice-read-t13 c = search needs
 
 returns : tie.Need-returns
-returns c = (rw (lt-ltb _ _ (c .before .before .if1 .taken)) refl, rw (lt-ltb _ _ (c .before .before .if1 .taken)) refl)
+returns c =
+    let if1 = c .before .before .if1 .taken in
+    (rw (lt-ltb _ _ if1) refl, rw (lt-ltb _ _ if1) refl)
 
 returns-2 : tie.Need-returns-2
 returns-2 c = (rw (le-ltb _ _ (c .if1 .left)) refl, rw (le-ltb _ _ (c .if1 .left)) refl)

@@ -1,3 +1,4 @@
+-- The word of a leaf is judged by its kind as leafFits says.
 use native.Mathlib.Omega.{arith}
 use mathlib.Core.Path.{refl}
 use borrow.Author.Needs.{needs}

@@ -1,3 +1,4 @@
+-- All parameters are well formed if each one up to the last is.
 use Prim.Native.Nat.{_≤_, _+_, _-_}
 use native.Mathlib.Omega.{arith}
 use mathlib.Core.Bool.{true}
@@ -43,7 +44,7 @@ loop-again c =
     let l = x .before .before .before .before in
     let s = l .before .before .before .before in
     let a = s .args in
-    let judged = parameter-judged (now (a .image)) (a .v) (a .p + l .loop .i) _ _ _ (x .before .before .parameter-at .ensures .in-image _ (s .pre .0)) (x .before .word .ensures) (x .expression-ok .ensures) in
+    let judged = parameter-judged (now (a .image)) (a .v) (a .p + l .loop .i) _ _ _ (x .before .before .parameter-at .ensures .in-image _ (s .pre .0 .laid)) (x .before .word .ensures) (x .expression-ok .ensures _ (s .pre .0)) in
     (search needs, all-next (parameterOk (now (a .image)) (a .v)) (a .p) (l .loop .i) (l .loop .inv .1) (judged ∙ c .if1 .taken))
 
 returns : tie.Need-returns Inv-loop μ-loop
@@ -52,7 +53,7 @@ returns c =
     let l = x .before .before .before .before in
     let s = l .before .before .before .before in
     let a = s .args in
-    let judged = parameter-judged (now (a .image)) (a .v) (a .p + l .loop .i) _ _ _ (x .before .before .parameter-at .ensures .in-image _ (s .pre .0)) (x .before .word .ensures) (x .expression-ok .ensures) in
+    let judged = parameter-judged (now (a .image)) (a .v) (a .p + l .loop .i) _ _ _ (x .before .before .parameter-at .ensures .in-image _ (s .pre .0 .laid)) (x .before .word .ensures) (x .expression-ok .ensures _ (s .pre .0)) in
     all-fails (parameterOk (now (a .image)) (a .v)) (a .p) (l .loop .i) (a .n) (x .before .before .before .loop-test .taken) (judged ∙ c .if1 .left)
 
 returns-2 : tie.Need-returns-2 Inv-loop μ-loop

@@ -1,3 +1,4 @@
+-- Sizes match if each one is 1 or the largest.
 use Prim.Native.Nat.{_≤_, _-_}
 use mathlib.Core.Path.{_≡_, sym, ap, _∙_}
 use mathlib.Core.Bool.{true}

@@ -1,3 +1,4 @@
+-- Two sizes match if they are equal or one is 1.
 use Rattle.image_entries.proofs.MatchingLaws.{two-same, two-left, two-right, two-not}
 use Rattle.image_entries.proofs.two_match.Statement.{statement}
 use Rattle.image_entries.proofs.two_match.Tie as tie

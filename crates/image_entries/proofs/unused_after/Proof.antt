@@ -1,3 +1,4 @@
+-- The words of a statement after its first ones stand at its place.
 use Prim.Native.Nat.{ℕ, _-_}
 use mathlib.Core.Path.{ap, _∙_}
 use denote.Ref.{now}

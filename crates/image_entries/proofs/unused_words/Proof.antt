@@ -1,3 +1,4 @@
+-- The words from one on are 0 if each of them is.
 use Prim.Native.Nat.{_≤_, _-_}
 use mathlib.Core.Path.{_≡_, sym, _∙_}
 use mathlib.Core.Bool.{true}

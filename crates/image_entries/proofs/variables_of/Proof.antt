@@ -1,3 +1,4 @@
+-- A body has its gate's parameters for variables, and main has none.
 use denote.Ref.{now}
 use Rattle.image_entries.proofs.ArgumentOkLaws.{variables-main, variables-gate}
 use borrow.Author.Needs.{needs}
@@ -17,7 +18,10 @@ word-requires : tie.Need-word-requires
 word-requires c κs = search needs
 
 returns-2 : tie.Need-returns-2
-returns-2 c = let a = c .before .before .before .before .args in variables-gate (now (a .image)) (a .scope) _ _ (c .before .before .if1 .left) (c .before .gate-at .ensures .in-image _ (c .before .before .before .before .pre .0)) (c .word .ensures)
+returns-2 c =
+    let args = c .before .before .before .before .args in
+    let pre = c .before .before .before .before .pre in
+    variables-gate (now (args .image)) (args .scope) _ _ (c .before .before .if1 .left) (c .before .gate-at .ensures .in-image _ (pre .0)) (c .word .ensures)
 
 pub variables-of-spec : {M : Type 1} → statement M
 variables-of-spec =

@@ -1,3 +1,4 @@
+-- `all_in_range` says whether all four numbers are below the limit.
 use borrow.Author.Tests.{lt-ltb, le-ltb}
 use Rattle.rational.proofs.all_in_range.Statement.{statement}
 use Rattle.rational.proofs.all_in_range.Tie as tie

@@ -1,8 +1,9 @@
+-- `capped_pow` gives the power capped at the limit: after i turns of its loop it holds the capped i-th power.
 use borrow.Author.Needs.{needs}
 use mathlib.Core.Path.{_≡_, refl, _∙_}
 use Prim.Native.Nat.{_-_, _^_, _≤_, min}
 use native.Mathlib.Omega.{arith}
-use Rattle.rational.proofs.Capped.{power-zero, power-small, power-next, power-full}
+use Rattle.rational.proofs.CappedLaws.{power-zero, power-small, power-next, power-full}
 use Rattle.rational.proofs.capped_pow.Statement.{statement}
 use Rattle.rational.proofs.capped_pow.Tie as tie
 

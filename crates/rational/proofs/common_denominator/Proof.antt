@@ -1,3 +1,4 @@
+-- `common_denominator` gives the common denominator capped at the limit, and never divides by 0.
 use mathlib.Core.Path.{_∙_}
 use Rattle.rational.proofs.GcdLaws.{gcd-pos}
 use borrow.Author.Needs.{needs}

@@ -1,9 +1,10 @@
+-- `floor_root` gives `root`: the root stays between the two ends of an interval that its loop halves.
 use borrow.Author.Needs.{needs}
 use mathlib.Core.Path.{_≡_, subst}
 use Prim.Native.Nat.{ℕ, _+_, _-_, _^_, _≤_, _<_}
 use native.Mathlib.Omega.{arith}
 use Rattle.rational.proofs.RootLaws.{root-unique, root-is, root-below, zero-power}
-use Rattle.rational.proofs.Capped.{power-within, power-beyond}
+use Rattle.rational.proofs.CappedLaws.{power-within, power-beyond}
 use Rattle.rational.proofs.floor_root.Statement.{statement}
 use Rattle.rational.proofs.floor_root.Tie as tie
 

@@ -1,4 +1,4 @@
--- `frac::gcd_of` meets its contract: each turn keeps the gcd of the pair, and the second number falls. Assumes nothing.
+-- `gcd` gives the greatest common divisor: each turn of its loop keeps that of the pair, and the second number falls.
 use mathlib.Core.Path.{_≡_, refl, sym, _∙_}
 use native.Mathlib.Nat.{mod-lt}
 use native.Mathlib.Omega.{arith}

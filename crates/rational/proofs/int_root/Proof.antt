@@ -1,3 +1,4 @@
+-- `int_root` gives `wholeRoot`: the whole part of the root is the root exactly if its power is the number.
 use mathlib.Core.Path.{_≡_, sym, ap, _∙_}
 use Prim.Native.Nat.{ℕ, _^_, _<_, min}
 use native.Mathlib.Omega.{arith}
@@ -9,7 +10,7 @@ use borrow.Author.Needs.{needs}
 use Rattle.rational.proofs.int_root.Statement.{statement}
 use Rattle.rational.proofs.int_root.Tie as tie
 
--- the limited power of the root is n exactly if the power is
+-- The capped power of the root is n exactly if the power is.
 held : (k n r p : ℕ) → n < 2 ^ 63 → r ≡ root k n → p ≡ min (r ^ k) (2 ^ 63) → p ≡ n → root k n ^ k ≡ n
 held k n r p h e f g = rw (← e) (omega arith)
 
@@ -25,9 +26,10 @@ capped-pow-requires c κs = search needs
 returns : tie.Need-returns
 unfolding wholeRoot
 returns c =
+    let floor-root = c .before .before .floor-root .ensures in
     let a = c .before .before .before in
-    let e : root (a .args .k) (a .args .n) ^ a .args .k ≡ a .args .n = held _ _ _ _ (a .pre .1) (c .before .before .floor-root .ensures) (c .before .capped-pow .ensures) (c .if1 .taken) in
-    ap Whole (c .before .before .floor-root .ensures) ∙ sym (rw (eq-eqb _ _ e))
+    let e : root (a .args .k) (a .args .n) ^ a .args .k ≡ a .args .n = held _ _ _ _ (a .pre .1) floor-root (c .before .capped-pow .ensures) (c .if1 .taken) in
+    ap Whole floor-root ∙ sym (rw (eq-eqb _ _ e))
 
 returns-2 : tie.Need-returns-2
 unfolding wholeRoot

@@ -1,3 +1,4 @@
+-- `lowest_terms` gives `reduced`, and never divides by 0.
 use Rattle.rational.proofs.GcdLaws.{gcd-pos}
 use borrow.Author.Needs.{needs}
 use Rattle.rational.proofs.lowest_terms.Statement.{statement}
@@ -9,14 +10,14 @@ gcd-requires c κs = search needs
 div-k : tie.Need-div-k
 div-k c = rw (c .gcd .ensures) (gcd-pos _ _ (c .before .pre))
 
-sign-of-requires : tie.Need-sign-of-requires
-sign-of-requires c κs = search needs
+sign-unless-zero-requires : tie.Need-sign-unless-zero-requires
+sign-unless-zero-requires c κs = search needs
 
 div-t7 : tie.Need-div-t7
 div-t7 c = rw (c .before .gcd .ensures) (gcd-pos _ _ (c .before .before .pre))
 
 returns : tie.Need-returns
-returns c = rw (c .sign-of .ensures, c .before .gcd .ensures)
+returns c = rw (c .sign-unless-zero .ensures, c .before .gcd .ensures)
 
 pub lowest-terms-spec : {M : Type 1} → statement M
-lowest-terms-spec = tie.close (tie.spec gcd-requires div-k sign-of-requires div-t7 returns)
+lowest-terms-spec = tie.close (tie.spec gcd-requires div-k sign-unless-zero-requires div-t7 returns)

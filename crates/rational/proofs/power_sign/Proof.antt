@@ -1,3 +1,4 @@
+-- `power_sign` keeps a sign exactly for an odd exponent.
 use borrow.Author.Needs.{needs}
 use Rattle.rational.proofs.power_sign.Statement.{statement}
 use Rattle.rational.proofs.power_sign.Tie as tie

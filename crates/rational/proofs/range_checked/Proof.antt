@@ -1,3 +1,4 @@
+-- `range_checked` gives a fraction exactly if both its parts are below the limit.
 use borrow.Author.Tests.{lt-ltb, le-ltb}
 use Rattle.rational.proofs.range_checked.Statement.{statement}
 use Rattle.rational.proofs.range_checked.Tie as tie

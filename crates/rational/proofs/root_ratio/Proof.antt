@@ -1,3 +1,4 @@
+-- `root_ratio` gives the ratio of two whole roots, and nothing where one of them is absent.
 use mathlib.Core.Path.{sym}
 use borrow.Author.Needs.{needs}
 use Rattle.rational.proofs.root_ratio.Statement.{statement}

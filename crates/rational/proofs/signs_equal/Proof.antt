@@ -1,3 +1,4 @@
+-- `signs_equal` says whether two signs are the same.
 use mathlib.Core.Path.{_≡_, refl}
 use mathlib.Core.Bool.{Bool, true, false, Bool·beq}
 use borrow.Author.Needs.{needs}

@@ -1,3 +1,4 @@
+-- `sum_magnitude` gives the magnitude of a sum capped at the limit, and no sum of its own wraps.
 use native.Mathlib.Omega.{arith}
 use borrow.Author.Needs.{needs}
 use Rattle.rational.proofs.sum_magnitude.Statement.{statement}

@@ -1,3 +1,4 @@
+-- `sum_sign` gives the sign of the larger of two numbers.
 use borrow.Author.Tests.{lt-ltb, le-ltb}
 use Rattle.rational.proofs.sum_sign.Statement.{statement}
 use Rattle.rational.proofs.sum_sign.Tie as tie

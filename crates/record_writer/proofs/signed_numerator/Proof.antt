@@ -1,7 +1,7 @@
 -- A negative numerator taken from 2^64 fits a word, since it is not 0.
 use native.Mathlib.Omega.{arith}
 use borrow.Author.Needs.{needs}
-use Rattle.rational.proofs.Soundness.{nonzero}
+use Rattle.rational.proofs.LowestTermsLaws.{nonzero}
 use Rattle.record_writer.proofs.AngleWordsLaws.{complement}
 use Rattle.record_writer.proofs.signed_numerator.Statement.{statement}
 use Rattle.record_writer.proofs.signed_numerator.Tie as tie

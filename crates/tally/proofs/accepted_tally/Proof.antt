@@ -1,3 +1,4 @@
+-- The capped figures are the tally if all are below the limit, and else one is too large.
 use denote.Ref.{now}
 use borrow.Author.Needs.{needs}
 use Rattle.tally.proofs.FiguresLaws.{tally-figures, tally-large}
@@ -20,13 +21,15 @@ returns : tie.Need-returns
 returns c =
     let g = c .before .before in
     let s = g .before .before .before .before .before in
-    tally-figures (now (s .args .image)) (s .args .depth) _ _ _ (s .pre .accepted) _ (s .pre .laid .gates-is) (g .before .before .before .opened-levels .ensures) (g .nine-figures .ensures) (c .before .largest-figure .ensures) (c .if1 .taken)
+    tally-figures (now (s .args .image)) (s .args .depth) _ _ _ (s .pre .accepted) _ (s .pre .laid .gates-is)
+    (g .before .before .before .opened-levels .ensures) (g .nine-figures .ensures) (c .before .largest-figure .ensures) (c .if1 .taken)
 
 returns-2 : tie.Need-returns-2
 returns-2 c =
     let g = c .before .before in
     let s = g .before .before .before .before .before in
-    tally-large (now (s .args .image)) (s .args .depth) _ _ _ (s .pre .accepted) _ (s .pre .laid .gates-is) (g .before .before .before .opened-levels .ensures) (g .nine-figures .ensures) (c .before .largest-figure .ensures) (c .if1 .left)
+    tally-large (now (s .args .image)) (s .args .depth) _ _ _ (s .pre .accepted) _ (s .pre .laid .gates-is) (g .before .before .before .opened-levels .ensures)
+    (g .nine-figures .ensures) (c .before .largest-figure .ensures) (c .if1 .left)
 
 pub accepted-tally-spec : {M : Type 1} → statement M
 accepted-tally-spec =

@@ -1,3 +1,4 @@
+-- A barrier is one record of its capped words.
 use Prim.Native.Nat.{ℕ, _*_}
 use mathlib.Core.Path.{ap, _∙_}
 use borrow.Author.Needs.{needs}

@@ -1,3 +1,4 @@
+-- The words of a barrier are added up argument by argument.
 use Prim.Native.Nat.{_+_, _≤_, _-_}
 use native.Mathlib.Omega.{arith}
 use mathlib.Core.List.{map}

@@ -1,3 +1,4 @@
+-- The statements of a scope are added up in their order.
 use Prim.Native.Nat.{_+_, _≤_, _-_}
 use native.Mathlib.Omega.{arith}
 use mathlib.Core.List.{map}
@@ -23,8 +24,8 @@ abbrev μ-loop : tie.MeasureT-loop
 
 statements-of-requires : tie.Need-statements-of-requires Inv-loop μ-loop
 statements-of-requires c κs =
-    let ready = c .before .pre .0 in
-    (ready .laid, record { each = accepts _ (ready .accepted) .gateEntry }, c .before .pre .2)
+    let ready = c .before .pre .0 .ready in
+    (ready .laid, record { each = accepts _ (ready .accepted) .gateEntry }, c .before .pre .1)
 
 loop-holds : tie.Need-loop-holds Inv-loop μ-loop
 loop-holds c = (omega arith, sum-start _ 0 _ (omega arith))
@@ -32,7 +33,7 @@ loop-holds c = (omega arith, sum-start _ 0 _ (omega arith))
 add-statement-figure : tie.Need-add-statement-figure Inv-loop μ-loop
 add-statement-figure c =
     let s = c .before .before in
-    let laid = s .before .before .pre .0 .laid in
+    let laid = s .before .before .pre .0 .ready .laid in
     let few = statements-few _ _ laid in
     omega (arith, s .statements-of .ensures .listed, laid .statements-is)
 
@@ -41,10 +42,10 @@ statement-figure-requires c κs =
     let s = c .before .before in
     let a = s .before .before .args in
     let pre = s .before .before .pre in
-    let laid = pre .0 .laid in
+    let laid = pre .0 .ready .laid in
     let few = statements-few _ _ laid in
-    let within : a .scope ≤ gates (now (a .image)) = omega (arith, laid .gates-is, pre .2) in
-    (pre .0, pre .1, body-facts (now (a .image)) (pre .0 .accepted) (a .scope) _ _ _ within (s .statements-of .ensures .statements-are) (c .loop-test .taken), omega (arith, s .statements-of .ensures .listed, laid .statements-is), pre .3)
+    let within : a .scope ≤ gates (now (a .image)) = omega (arith, laid .gates-is, pre .1) in
+    (pre .0, body-facts (now (a .image)) (pre .0 .ready .accepted) (a .scope) _ _ _ within (s .statements-of .ensures .statements-are) (c .loop-test .taken), omega (arith, s .statements-of .ensures .listed, laid .statements-is))
 
 capped-sum-requires : tie.Need-capped-sum-requires Inv-loop μ-loop
 capped-sum-requires c κs = search needs
@@ -69,7 +70,8 @@ returns c =
     let l = c .before in
     let s = l .before in
     let a = s .before .before .args in
-    body-is (now (a .image)) (a .scope) _ _ (a .j) (a .n) _ (s .statements-of .ensures .statements-are) (sum-done (statementTally (now (a .image)) (weightOf (a .j)) (entryOf (a .j)) (openingFor (now (a .image)) (a .j) (a .n)) (a .scope)) 0 (s .statements-of .result .first) _ _ _ (l .loop .inv .0) (c .loop-test .left) (l .loop .inv .1))
+    body-is (now (a .image)) (a .scope) _ _ (a .j) (a .n) _ (s .statements-of .ensures .statements-are)
+    (sum-done (statementTally (now (a .image)) (weightOf (a .j)) (entryOf (a .j)) (openingFor (now (a .image)) (a .j) (a .n)) (a .scope)) 0 (s .statements-of .result .first) _ _ _ (l .loop .inv .0) (c .loop-test .left) (l .loop .inv .1))
 
 pub body-figure-spec : {M : Type 1} → statement M
 body-figure-spec =

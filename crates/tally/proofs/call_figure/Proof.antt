@@ -1,3 +1,4 @@
+-- A call is played once for each round of its arguments.
 use Prim.Native.Nat.{ℕ, _*_}
 use native.Mathlib.Omega.{arith}
 use mathlib.Core.Path.{_≡_, ap, _∙_}
@@ -24,8 +25,8 @@ rounds-of-requires c κs =
     let g = c .before in
     let a = g .before .before .args in
     let pre = g .before .before .pre in
-    let e : c .word .result ≡ gateArguments (now (a .image)) (a .g) = rw (← g .gate-at .ensures .in-image _ (g .before .before .pre .0 .laid)) (c .word .ensures) in
-    (pre .0 .laid, omega (arith, pre .3))
+    let e : c .word .result ≡ gateArguments (now (a .image)) (a .g) = rw (← g .gate-at .ensures .in-image _ (g .before .before .pre .0 .ready .laid)) (c .word .ensures) in
+    (pre .0 .ready .laid, omega (arith, pre .1))
 
 gate-figure-requires : tie.Need-gate-figure-requires
 gate-figure-requires c κs = search needs
@@ -35,7 +36,7 @@ returns c =
     let w = c .before .before in
     let g = w .before in
     let a = g .before .before .args in
-    let e : w .word .result ≡ gateArguments (now (a .image)) (a .g) = rw (← g .gate-at .ensures .in-image _ (g .before .before .pre .0 .laid)) (w .word .ensures) in
+    let e : w .word .result ≡ gateArguments (now (a .image)) (a .g) = rw (← g .gate-at .ensures .in-image _ (g .before .before .pre .0 .ready .laid)) (w .word .ensures) in
     let k : c .before .rounds-of .result ≡ rounds (now (a .image)) (a .scope) (range (a .a) (gateArguments (now (a .image)) (a .g))) = c .before .rounds-of .ensures ∙ ap (λ (m : ℕ). rounds (now (a .image)) (a .scope) (range (a .a) m)) e in
     c .gate-figure .ensures ∙ ap (λ (m : ℕ). capped (m * gateTally (now (a .image)) (weightOf (a .j)) (entryOf (a .j)) (openingFor (now (a .image)) (a .j) (a .n)) (a .g))) k
 

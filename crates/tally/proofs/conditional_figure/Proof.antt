@@ -1,3 +1,4 @@
+-- An if adds its two records to those of the statement that it holds.
 use native.Mathlib.Omega.{arith}
 use borrow.Author.Needs.{needs}
 use Rattle.model.specs.Tally.{conditionalTally}

@@ -1,3 +1,4 @@
+-- The rows are made anew from the last gate down, each of rows that are not yet deeper.
 use Prim.Native.Nat.{_≤_}
 use native.Mathlib.Omega.{arith}
 use denote.Ref.{now}

@@ -1,3 +1,4 @@
+-- Only the eighth figure counts body entries.
 use Rattle.tally.proofs.CappedLaws.{entry-one, entry-none}
 use Rattle.tally.proofs.entry_weight.Statement.{statement}
 use Rattle.tally.proofs.entry_weight.Tie as tie

@@ -1,3 +1,4 @@
+-- The nine figures of a body fill its row and change no other.
 use Prim.Native.Nat.{_-_, _≤_, _<_}
 use native.Mathlib.Omega.{arith}
 use denote.Ref.{now}
@@ -25,7 +26,7 @@ body-figure-requires c κs =
     let l = c .before .before in
     let a = l .before .before .args in
     let pre = l .before .before .pre in
-    (pre .0, begun-below (now (a .image)) (a .n) (a .g) (l .loop .j) (now (a .table)) (l .loop .table) (pre .1) (l .loop .inv .1), search needs, search needs)
+    (record { ready = pre .0; rows = begun-below (now (a .image)) (a .n) (a .g) (l .loop .j) (now (a .table)) (l .loop .table) (pre .1) (l .loop .inv .1); figure = search needs }, search needs)
 
 mul-store : tie.Need-mul-store Inv-loop μ-loop
 mul-store c = search needs

@@ -1,3 +1,4 @@
+-- A call is an opaque record, a record of a gate that is not opened, or its body's row.
 use Prim.Native.Nat.{ℕ, _*_, _<_}
 use native.Mathlib.Omega.{arith}
 use mathlib.Core.Path.{ap, _∙_}
@@ -31,33 +32,33 @@ mul-record-figure : tie.Need-mul-record-figure
 mul-record-figure c =
     let g = c .before .before .before .before in
     let a = g .before .before .args in
-    let ready = g .before .before .pre .0 in
+    let ready = g .before .before .pre .ready in
     let laid = ready .laid in
     let h : a .g < gates (now (a .image)) = omega arith in
-    let p = few-parameters _ (ready .accepted) (a .g) (g .gate-at .result) h (g .gate-at .ensures .in-image _ (g .before .before .pre .0 .laid)) _ (c .before .before .before .word .ensures) in
-    let q = few-arguments _ (ready .accepted) (a .g) (g .gate-at .result) h (g .gate-at .ensures .in-image _ (g .before .before .pre .0 .laid)) _ (c .before .before .word2 .ensures) in
+    let p = few-parameters _ (ready .accepted) (a .g) (g .gate-at .result) h (g .gate-at .ensures .in-image _ (g .before .before .pre .ready .laid)) _ (c .before .before .before .word .ensures) in
+    let q = few-arguments _ (ready .accepted) (a .g) (g .gate-at .result) h (g .gate-at .ensures .in-image _ (g .before .before .pre .ready .laid)) _ (c .before .before .word2 .ensures) in
     omega arith
 
 add-record-figure : tie.Need-add-record-figure
 add-record-figure c =
     let g = c .before .before .before .before in
     let a = g .before .before .args in
-    let ready = g .before .before .pre .0 in
+    let ready = g .before .before .pre .ready in
     let laid = ready .laid in
     let h : a .g < gates (now (a .image)) = omega arith in
-    let p = few-parameters _ (ready .accepted) (a .g) (g .gate-at .result) h (g .gate-at .ensures .in-image _ (g .before .before .pre .0 .laid)) _ (c .before .before .before .word .ensures) in
-    let q = few-arguments _ (ready .accepted) (a .g) (g .gate-at .result) h (g .gate-at .ensures .in-image _ (g .before .before .pre .0 .laid)) _ (c .before .before .word2 .ensures) in
+    let p = few-parameters _ (ready .accepted) (a .g) (g .gate-at .result) h (g .gate-at .ensures .in-image _ (g .before .before .pre .ready .laid)) _ (c .before .before .before .word .ensures) in
+    let q = few-arguments _ (ready .accepted) (a .g) (g .gate-at .result) h (g .gate-at .ensures .in-image _ (g .before .before .pre .ready .laid)) _ (c .before .before .word2 .ensures) in
     omega arith
 
 add-record-figure-2 : tie.Need-add-record-figure-2
 add-record-figure-2 c =
     let g = c .before .before .before .before in
     let a = g .before .before .args in
-    let ready = g .before .before .pre .0 in
+    let ready = g .before .before .pre .ready in
     let laid = ready .laid in
     let h : a .g < gates (now (a .image)) = omega arith in
-    let p = few-parameters _ (ready .accepted) (a .g) (g .gate-at .result) h (g .gate-at .ensures .in-image _ (g .before .before .pre .0 .laid)) _ (c .before .before .before .word .ensures) in
-    let q = few-arguments _ (ready .accepted) (a .g) (g .gate-at .result) h (g .gate-at .ensures .in-image _ (g .before .before .pre .0 .laid)) _ (c .before .before .word2 .ensures) in
+    let p = few-parameters _ (ready .accepted) (a .g) (g .gate-at .result) h (g .gate-at .ensures .in-image _ (g .before .before .pre .ready .laid)) _ (c .before .before .before .word .ensures) in
+    let q = few-arguments _ (ready .accepted) (a .g) (g .gate-at .result) h (g .gate-at .ensures .in-image _ (g .before .before .pre .ready .laid)) _ (c .before .before .word2 .ensures) in
     omega arith
 
 record-figure-requires : tie.Need-record-figure-requires
@@ -68,17 +69,18 @@ returns c =
     let w = c .before .before in
     let g = w .before .before .before in
     let a = g .before .before .args in
-    gate-opaque (now (a .image)) (a .j) (a .g) (g .gate-at .result) (a .rounds) (g .gate-at .ensures .in-image _ (g .before .before .pre .0 .laid)) (a .n) _ _ _ _ (w .before .before .word .ensures) (w .before .word2 .ensures) (w .word3 .ensures) (c .before .if1 .taken) (c .record-figure .ensures)
+    gate-opaque (now (a .image)) (a .j) (a .g) (g .gate-at .result) (a .rounds) (g .gate-at .ensures .in-image _ (g .before .before .pre .ready .laid)) (a .n) _
+    _ _ _ (w .before .before .word .ensures) (w .before .word2 .ensures) (w .word3 .ensures) (c .before .if1 .taken) (c .record-figure .ensures)
 
 add-record-figure-3 : tie.Need-add-record-figure-3
 add-record-figure-3 c =
     let g = c .before .before .before .before .before in
     let a = g .before .before .args in
-    let ready = g .before .before .pre .0 in
+    let ready = g .before .before .pre .ready in
     let laid = ready .laid in
     let h : a .g < gates (now (a .image)) = omega arith in
-    let p = few-parameters _ (ready .accepted) (a .g) (g .gate-at .result) h (g .gate-at .ensures .in-image _ (g .before .before .pre .0 .laid)) _ (c .before .before .before .before .word .ensures) in
-    let q = few-arguments _ (ready .accepted) (a .g) (g .gate-at .result) h (g .gate-at .ensures .in-image _ (g .before .before .pre .0 .laid)) _ (c .before .before .before .word2 .ensures) in
+    let p = few-parameters _ (ready .accepted) (a .g) (g .gate-at .result) h (g .gate-at .ensures .in-image _ (g .before .before .pre .ready .laid)) _ (c .before .before .before .before .word .ensures) in
+    let q = few-arguments _ (ready .accepted) (a .g) (g .gate-at .result) h (g .gate-at .ensures .in-image _ (g .before .before .pre .ready .laid)) _ (c .before .before .before .word2 .ensures) in
     omega arith
 
 record-figure-requires-2 : tie.Need-record-figure-requires-2
@@ -89,7 +91,8 @@ returns-2 c =
     let w = c .before .before .before in
     let g = w .before .before .before in
     let a = g .before .before .args in
-    gate-cut (now (a .image)) (a .j) (a .g) (g .gate-at .result) (a .rounds) (g .gate-at .ensures .in-image _ (g .before .before .pre .0 .laid)) (a .n) _ _ _ (w .before .word2 .ensures) (w .word3 .ensures) (c .before .before .if1 .left) (c .before .if2 .taken) (c .record-figure2 .ensures)
+    gate-cut (now (a .image)) (a .j) (a .g) (g .gate-at .result) (a .rounds) (g .gate-at .ensures .in-image _ (g .before .before .pre .ready .laid)) (a .n) _ _
+    _ (w .before .word2 .ensures) (w .word3 .ensures) (c .before .before .if1 .left) (c .before .if2 .taken) (c .record-figure2 .ensures)
 
 mul-i : tie.Need-mul-i
 mul-i c = search needs
@@ -122,7 +125,8 @@ returns-3 c =
     let g = w .before .before .before in
     let a = g .before .before .args in
     let pre = g .before .before .pre in
-    gate-opened (now (a .image)) (a .j) (a .g) (g .gate-at .result) (a .rounds) (g .gate-at .ensures .in-image _ (g .before .before .pre .0 .laid)) (a .n) _ _ _ _ _ (pre .1) (pre .3) (w .word3 .ensures) (i .before .if1 .left) (i .if2 .left)
+    gate-opened (now (a .image)) (a .j) (a .g) (g .gate-at .result) (a .rounds) (g .gate-at .ensures .in-image _ (g .before .before .pre .ready .laid)) (a .n) _
+    _ _ _ _ (pre .rows) (pre .figure) (w .word3 .ensures) (i .before .if1 .left) (i .if2 .left)
     (c .before .before .before .capped-product .ensures ∙ ap (λ (k : ℕ). capped (a .rounds * k)) (c .before .before .before .before .entry-weight .ensures)) (c .before .capped-product2 .ensures) (c .capped-sum .ensures)
 
 pub gate-figure-spec : {M : Type 1} → statement M

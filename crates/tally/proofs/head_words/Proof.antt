@@ -37,7 +37,8 @@ record Sums (q k w e : ℕ) : Type 0 where
   pub few-qubits : w ≤ 4096
   pub few-bits : e ≤ 4096
 
-sums : (c : tie.After-size-in-all2) → (let image = now (c .before .before .before .before .before .args .image) in Sums (c .before .before .size-in-all .result) (c .size-in-all2 .result) (qubits image) (bits image))
+sums : (c : tie.After-size-in-all2)
+    → (let image = now (c .before .before .before .before .before .args .image) in Sums (c .before .before .size-in-all .result) (c .size-in-all2 .result) (qubits image) (bits image))
 sums c =
     let q = c .before .before in
     let s = q .before .before .before in

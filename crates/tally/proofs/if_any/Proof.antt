@@ -1,3 +1,4 @@
+-- The head is left out where main is empty.
 use mathlib.Core.Path.{refl}
 use borrow.Author.Tests.{eq-eqb, ne-eqb}
 use Rattle.tally.proofs.if_any.Statement.{statement}

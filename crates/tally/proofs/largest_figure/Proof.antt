@@ -1,3 +1,4 @@
+-- The largest of the nine is found two at a time.
 use Prim.Native.Nat.{max}
 use native.Mathlib.Omega.{arith}
 use mathlib.Core.Path.{_≡_, refl}

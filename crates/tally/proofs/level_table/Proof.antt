@@ -1,3 +1,4 @@
+-- The table is deepened as many times as bodies are opened.
 use Prim.Native.Nat.{_-_, _≤_}
 use native.Mathlib.Numerals.{add-one}
 use native.Mathlib.Omega.{arith}

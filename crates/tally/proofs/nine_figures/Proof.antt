@@ -1,3 +1,4 @@
+-- The nine figures are those of the nine weights, capped.
 use Prim.Native.Nat.{_+_}
 use denote.Ref.{now}
 use borrow.Author.Needs.{needs}
@@ -35,7 +36,10 @@ total-figure-requires-9 c κs = search needs
 returns : tie.Need-returns
 returns c =
     let a = c .before .before .before .before .before .before .before .before .before .before .args in
-    nine-capped (now (a .image)) (a .n + 1) _ _ _ _ _ _ _ _ _ (c .before .before .before .before .before .before .before .before .total-figure .ensures) (c .before .before .before .before .before .before .before .total-figure2 .ensures) (c .before .before .before .before .before .before .total-figure3 .ensures) (c .before .before .before .before .before .total-figure4 .ensures) (c .before .before .before .before .total-figure5 .ensures) (c .before .before .before .total-figure6 .ensures) (c .before .before .total-figure7 .ensures) (c .before .total-figure8 .ensures) (c .total-figure9 .ensures)
+    nine-capped (now (a .image)) (a .n + 1) _ _ _ _ _ _ _ _ _ (c .before .before .before .before .before .before .before .before .total-figure .ensures)
+    (c .before .before .before .before .before .before .before .total-figure2 .ensures) (c .before .before .before .before .before .before .total-figure3 .ensures)
+    (c .before .before .before .before .before .total-figure4 .ensures) (c .before .before .before .before .total-figure5 .ensures)
+    (c .before .before .before .total-figure6 .ensures) (c .before .before .total-figure7 .ensures) (c .before .total-figure8 .ensures) (c .total-figure9 .ensures)
 
 pub nine-figures-spec : {M : Type 1} → statement M
 nine-figures-spec =

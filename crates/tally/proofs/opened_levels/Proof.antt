@@ -1,3 +1,4 @@
+-- As many levels as there are gates open all bodies.
 use native.Mathlib.Omega.{arith}
 use borrow.Author.Needs.{needs}
 use Rattle.tally.proofs.opened_levels.Statement.{statement}

@@ -1,3 +1,4 @@
+-- Both ways to fill the table give the same.
 use native.Mathlib.Omega.{arith}
 use mathlib.Core.Path.{_≡_}
 use borrow.Author.Needs.{needs}

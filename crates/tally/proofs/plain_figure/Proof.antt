@@ -1,3 +1,4 @@
+-- What a statement that is no if adds follows from its kind.
 use Prim.Native.Nat.{ℕ, _*_}
 use native.Mathlib.Omega.{arith}
 use mathlib.Core.Path.{_≡_, refl, ap, subst, _∙_}
@@ -51,20 +52,21 @@ module _ (w : tie.After-word5) where
       Image.statement (now (w .before .before .before .before .before .before .before .args .image)) (w .before .before .before .before .before .before .before .args .s)
       ≡ Image.statementOf (w .before .before .before .before .word .result) (w .before .before .before .word2 .result) (w .before .before .word3 .result) (w .before .word4 .result) (w .word5 .result)
   stands =
-      words-are _ _ (w .before .before .before .before .before .statement-at .result) _ _ _ _ _ (w .before .before .before .before .before .statement-at .ensures .in-image _ (w .before .before .before .before .before .before .before .pre .0 .laid))
+      words-are _ _ (w .before .before .before .before .before .statement-at .result) _ _ _ _ _ (w .before .before .before .before .before .statement-at .ensures .in-image _ (w .before .before .before .before .before .before .before .pre .0 .ready .laid))
       (w .before .before .before .before .word .ensures) (w .before .before .before .word2 .ensures) (w .before .before .word3 .ensures) (w .before .word4 .ensures) (w .word5 .ensures)
 
-  known-as : {x : Image.Statement} → Image.statementOf (w .before .before .before .before .word .result) (w .before .before .before .word2 .result) (w .before .before .word3 .result) (w .before .word4 .result) (w .word5 .result) ≡ x
+  known-as : {x : Image.Statement}
+      → Image.statementOf (w .before .before .before .before .word .result) (w .before .before .before .word2 .result) (w .before .before .word3 .result) (w .before .word4 .result) (w .word5 .result) ≡ x
       → PlainFacts (now (w .before .before .before .before .before .before .before .args .image)) (w .before .before .before .before .before .before .before .args .scope) x
   known-as e =
       let s = w .before .before .before .before .before .before .before in
-      subst (PlainFacts (now (s .args .image)) (s .args .scope)) (stands ∙ e) (s .pre .2)
+      subst (PlainFacts (now (s .args .image)) (s .args .scope)) (stands ∙ e) (s .pre .1)
 
 rounds-of-one-requires : tie.Need-rounds-of-one-requires
 rounds-of-one-requires c κs =
     let w = c .before in
     let pre = w .before .before .before .before .before .before .before .pre in
-    let laid = pre .0 .laid in
+    let laid = pre .0 .ready .laid in
     let few = arguments-few _ _ laid in
     let f = known-as w (u-is _ _ _ _ _ (c .match .keys1)) in
     (laid, omega (arith, few, f .3))
@@ -76,7 +78,7 @@ rounds-of-two-requires : tie.Need-rounds-of-two-requires
 rounds-of-two-requires c κs =
     let w = c .before in
     let pre = w .before .before .before .before .before .before .before .pre in
-    let laid = pre .0 .laid in
+    let laid = pre .0 .ready .laid in
     let few = arguments-few _ _ laid in
     let f = known-as w (cx-is _ _ _ _ _ (c .match .keys2)) in
     (laid, omega (arith, few, f .0), omega (arith, few, f .1))
@@ -88,16 +90,23 @@ call-figure-requires : tie.Need-call-figure-requires
 call-figure-requires c κs =
     let w = c .before in
     let pre = w .before .before .before .before .before .before .before .pre in
-    let laid = pre .0 .laid in
+    let laid = pre .0 .ready .laid in
     let few = arguments-few _ _ laid in
-    let f = known-as w (gate-is _ _ _ _ _ (c .match .keys3)) in
-    (pre .0, tabled-fewer _ _ _ _ _ (called-below _ _ _ (f .0) (f .3)) (pre .1), omega (arith, laid .gates-is, f .0), omega (arith, few, f .2), pre .4)
+    let f = known-as w (gate-is _ _ _ _ _ (c .match .keys3)) in (
+      record {
+        ready = pre .0 .ready;
+        rows = tabled-fewer _ _ _ _ _ (called-below _ _ _ (f .0) (f .3)) (pre .0 .rows);
+        gate = omega (arith, laid .gates-is, f .0);
+        figure = pre .0 .figure;
+      },
+      omega (arith, few, f .2),
+    )
 
 barrier-figure-requires : tie.Need-barrier-figure-requires
 barrier-figure-requires c κs =
     let w = c .before in
     let pre = w .before .before .before .before .before .before .before .pre in
-    let laid = pre .0 .laid in
+    let laid = pre .0 .ready .laid in
     let few = arguments-few _ _ laid in
     let f = known-as w (barrier-is _ _ _ _ _ (c .match .keys4)) in
     (laid, omega (arith, few, f .0))
@@ -106,7 +115,7 @@ rounds-of-measure-requires : tie.Need-rounds-of-measure-requires
 rounds-of-measure-requires c κs =
     let w = c .before in
     let pre = w .before .before .before .before .before .before .before .pre in
-    let laid = pre .0 .laid in
+    let laid = pre .0 .ready .laid in
     let few = arguments-few _ _ laid in
     let f = known-as w (measure-is _ _ _ _ _ (c .match .keys5)) in
     (laid, omega (arith, few, f .1), omega (arith, few, f .2))
@@ -118,7 +127,7 @@ rounds-of-one-requires-2 : tie.Need-rounds-of-one-requires-2
 rounds-of-one-requires-2 c κs =
     let w = c .before in
     let pre = w .before .before .before .before .before .before .before .pre in
-    let laid = pre .0 .laid in
+    let laid = pre .0 .ready .laid in
     let few = arguments-few _ _ laid in
     let f = known-as w (reset-is _ _ _ _ _ (c .match .keys6)) in
     (laid, omega (arith, few, f .1))

@@ -1,3 +1,4 @@
+-- A record is counted once for each round.
 use Prim.Native.Nat.{ℕ, _*_}
 use mathlib.Core.Path.{ap, _∙_}
 use borrow.Author.Needs.{needs}

@@ -1,3 +1,4 @@
+-- The rounds of a measurement are the larger of its two sizes.
 use native.Mathlib.Omega.{arith}
 use borrow.Author.Needs.{needs}
 use Rattle.model.specs.Lists.{largest}

@@ -1,3 +1,4 @@
+-- The rounds of one argument are its size.
 use native.Mathlib.Omega.{arith}
 use borrow.Author.Needs.{needs}
 use Rattle.model.specs.Image.{rounds}

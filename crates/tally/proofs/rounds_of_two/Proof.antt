@@ -1,3 +1,4 @@
+-- The rounds of two arguments are the larger of their sizes.
 use native.Mathlib.Omega.{arith}
 use borrow.Author.Needs.{needs}
 use Rattle.model.specs.Image.{rounds}

@@ -21,7 +21,9 @@ returns : tie.Need-returns
 returns c = search needs
 
 returns-2 : tie.Need-returns-2
-returns-2 c = let r = c .before .before .before in tally-refused (now (r .before .before .args .image)) _ _ _ (c .before .refused .given .1) (r .accepted-layout .ensures)
+returns-2 c =
+    let r = c .before .before .before in
+    tally-refused (now (r .before .before .args .image)) _ _ _ (c .before .refused .given .1) (r .accepted-layout .ensures)
 
 pub tally-spec : {M : Type 1} → statement M
 tally-spec =

@@ -1,3 +1,4 @@
+-- The whole is the head and main's statements.
 use denote.Ref.{now}
 use borrow.Author.Needs.{needs}
 use Rattle.tally.proofs.BodyTallyLaws.{total-is}
@@ -25,7 +26,8 @@ returns c =
     let w = b .before in
     let h = w .before in
     let a = h .before .before .args in
-    total-is (now (a .image)) (a .j) (a .n) _ _ _ _ _ _ (h .before .before .pre .0 .laid .main-statements-is) (h .head-words .ensures) (w .weight .ensures) (b .body-figure .ensures) (c .before .if-any .ensures) (c .capped-sum .ensures)
+    total-is (now (a .image)) (a .j) (a .n) _ _ _ _ _ _ (h .before .before .pre .ready .laid .main-statements-is) (h .head-words .ensures) (w .weight .ensures)
+    (b .body-figure .ensures) (c .before .if-any .ensures) (c .capped-sum .ensures)
 
 pub total-figure-spec : {M : Type 1} → statement M
 total-figure-spec =

@@ -1,3 +1,4 @@
+-- A figure counts the records of its kind or adds up words.
 use borrow.Author.Needs.{needs}
 use Rattle.tally.proofs.CappedLaws.{weight-one, weight-other, weight-words, weight-none}
 use Rattle.tally.proofs.weight.Statement.{statement}

@@ -1,3 +1,4 @@
+-- Each row is made of the rows before it, which are whole.
 use Prim.Native.Nat.{_-_, _≤_}
 use native.Mathlib.Omega.{arith}
 use denote.Ref.{now}

@@ -10,8 +10,8 @@ enum-known-kind c = search needs
 enum-known-kind-2 : tie.Need-enum-known-kind-2
 enum-known-kind-2 c = search needs
 
-bits-of-requires : tie.Need-bits-of-requires
-bits-of-requires c κs = search needs
+f32-to-bits-requires : tie.Need-f32-to-bits-requires
+f32-to-bits-requires c κs = search needs
 
 cast-t12 : tie.Need-cast-t12
 cast-t12 c = search needs
@@ -46,7 +46,7 @@ returns c = record { each = λ t. rw (c .before .kind .given .1) refl }
 
 returns-2 : tie.Need-returns-2
 unfolding answerNumbers
-returns-2 c = record { each = λ t. rw (c .before .before .kind2 .given .1, c .bits-of .ensures) refl }
+returns-2 c = record { each = λ t. rw (c .before .before .kind2 .given .1, c .f32-to-bits .ensures) refl }
 
 returns-3 : tie.Need-returns-3
 unfolding answerNumbers
@@ -78,7 +78,7 @@ of-kind-spec =
     (tie.spec
     enum-known-kind
     enum-known-kind-2
-    bits-of-requires
+    f32-to-bits-requires
     cast-t12
     enum-known-kind-3
     enum-known-kind-4

@@ -1,3 +1,4 @@
+-- `common_ratio` gives the ratio that both parts have in common, one division of floats where they have none, and overflow where one ratio is absent.
 use mathlib.Core.Path.{_∙_, sym}
 use borrow.Author.Needs.{needs}
 use Rattle.value.proofs.common_ratio.Statement.{statement}
@@ -28,13 +29,19 @@ rational-value-requires : tie.Need-rational-value-requires
 rational-value-requires c κs = search needs
 
 returns-3 : tie.Need-returns-3
-returns-3 c = c .rational-value .ensures ∙ sym (rw (c .before .before .before .before .before .before .before .p .given .1, c .before .before .before .before .q .given .1, sym (c .before .before .equals .ensures) ∙ c .before .if1 .taken))
+returns-3 c =
+    let p = c .before .before .before .before .before .before .before .p in
+    let q = c .before .before .before .before .q in
+    c .rational-value .ensures ∙ sym (rw (p .given .1, q .given .1, sym (c .before .before .equals .ensures) ∙ c .before .if1 .taken))
 
 approximate-div-requires : tie.Need-approximate-div-requires
 approximate-div-requires c κs = search needs
 
 returns-4 : tie.Need-returns-4
-returns-4 c = c .approximate-div .ensures .is ∙ sym (rw (c .before .before .before .before .before .before .before .p .given .1, c .before .before .before .before .q .given .1, sym (c .before .before .equals .ensures) ∙ c .before .if1 .left))
+returns-4 c =
+    let p = c .before .before .before .before .before .before .before .p in
+    let q = c .before .before .before .before .q in
+    c .approximate-div .ensures .is ∙ sym (rw (p .given .1, q .given .1, sym (c .before .before .equals .ensures) ∙ c .before .if1 .left))
 
 pub common-ratio-spec : {M : Type 1} → statement M
 common-ratio-spec =

@@ -1,3 +1,4 @@
+-- `extract_root` gives `extractRoot`: no root is taken of 1 or with index 1, and none is there for a large index.
 use mathlib.Core.Path.{_∙_, sym}
 use borrow.Author.Tests.{eq-eqb, le-ltb, lt-ltb, ne-eqb}
 use Rattle.value.specs.Value.{extractRoot}
@@ -21,7 +22,9 @@ rat-root-requires c κs = search needs
 
 returns-3 : tie.Need-returns-3
 unfolding extractRoot
-returns-3 c = record { is = c .rat-root .ensures .is ∙ sym (simp (ne-eqb _ _ (c .before .before .before .before .if1 .left), sym (c .before .before .before .is-ratio .ensures) ∙ c .before .before .if2 .left, lt-ltb _ _ (c .before .if3 .taken))); sound = c .rat-root .ensures .sound }
+returns-3 c =
+    let if1 = c .before .before .before .before .if1 .left in
+    record { is = c .rat-root .ensures .is ∙ sym (simp (ne-eqb _ _ if1, sym (c .before .before .before .is-ratio .ensures) ∙ c .before .before .if2 .left, lt-ltb _ _ (c .before .if3 .taken))); sound = c .rat-root .ensures .sound }
 
 returns-4 : tie.Need-returns-4
 unfolding extractRoot

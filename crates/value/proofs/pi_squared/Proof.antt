@@ -1,4 +1,5 @@
-use Rattle.value.proofs.Soundness.{pi-squared-lowest}
+-- `pi_squared` gives the fraction for pi², which is in lowest terms.
+use Rattle.value.proofs.SoundLaws.{pi-squared-lowest}
 use mathlib.Core.Path.{refl}
 use Rattle.value.proofs.pi_squared.Statement.{statement}
 use Rattle.value.proofs.pi_squared.Tie as tie

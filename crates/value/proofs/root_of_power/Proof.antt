@@ -1,3 +1,4 @@
+-- `root_of_power` gives the root of a power, inverted for a negative exponent: a power that is absent is an overflow, a root that is absent a function of floats.
 use mathlib.Core.Path.{_∙_, sym}
 use borrow.Author.Needs.{needs}
 use Rattle.value.proofs.root_of_power.Statement.{statement}
@@ -13,7 +14,9 @@ returns : tie.Need-returns
 returns c = search needs
 
 extract-root-requires : tie.Need-extract-root-requires
-extract-root-requires c κs = (rw (c .before .p .given .1) at (c .before .before .before .pre .0), c .before .before .before .pre .1)
+extract-root-requires c κs =
+    let pre = c .before .before .before .pre in
+    (rw (c .before .p .given .1) at (pre .0), pre .1)
 
 enum-known-root : tie.Need-enum-known-root
 enum-known-root c = search needs
@@ -24,11 +27,14 @@ enum-told-2 c = search needs
 returns-2 : tie.Need-returns-2
 returns-2 c = sym (rw (c .before .before .before .before .p .given .1) (rw (sym (c .before .before .extract-root .ensures .is) ∙ c .enum-told2 .given .1)))
 
-power-value-requires : tie.Need-power-value-requires
-power-value-requires c κs = rw (c .before .root .given .1) at (c .before .before .before .extract-root .ensures .sound)
+inverted-if-negative-requires : tie.Need-inverted-if-negative-requires
+inverted-if-negative-requires c κs = rw (c .before .root .given .1) at (c .before .before .before .extract-root .ensures .sound)
 
 returns-3 : tie.Need-returns-3
-returns-3 c = c .power-value .ensures ∙ sym (rw (c .before .before .before .before .before .before .p .given .1) (rw (sym (c .before .before .before .before .extract-root .ensures .is) ∙ c .before .before .root .given .1)))
+returns-3 c =
+    let p = c .before .before .before .before .before .before .p in
+    let extract-root = c .before .before .before .before .extract-root .ensures in
+    c .inverted-if-negative .ensures ∙ sym (rw (p .given .1) (rw (sym (extract-root .is) ∙ c .before .before .root .given .1)))
 
 pub root-of-power-spec : {M : Type 1} → statement M
 root-of-power-spec =
@@ -41,5 +47,5 @@ root-of-power-spec =
     enum-known-root
     enum-told-2
     returns-2
-    power-value-requires
+    inverted-if-negative-requires
     returns-3)

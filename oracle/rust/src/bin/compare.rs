@@ -143,13 +143,13 @@ impl Comparison {
         }
     }
 
-    /// The reader at each position of a run's output, the end and one past it.
+    /// The record reader at each position of a run's output, the end and one past it.
     fn read(&mut self, image: &[u64], depth: u64, room: usize, output: &[u64]) {
         for at in 0..output.len() + 2 {
             let length = output.get(at..).map_or(0, record_length) as u64;
             let expected = if length > 0 || at == output.len() { [0, length] } else { [17, 0] };
             if unit::next(output, at) != expected {
-                return self.differ(image, depth, room, &format!("the reader at {at}: {expected:?} is right"));
+                return self.differ(image, depth, room, &format!("the record reader at {at}: {expected:?} is right"));
             }
         }
     }

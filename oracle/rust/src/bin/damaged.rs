@@ -1,5 +1,5 @@
 //! damaged SEED COUNT: prints the unit's check of damaged images, number and place and the image a line, for
-//! checked.py.
+//! oracle.tests.damaged_images.
 use oracle::{generate, unit};
 
 fn main() {

@@ -177,8 +177,8 @@ impl GateWriter for &mut Sheet<'_> {
         self.put(&[1, a, b, c, d, e, f, g, h, i, j, k, l, reg as u64])
     }
 
-    fn write_cx(&mut self, copy: usize, xor: usize) -> Result<(), Infallible> {
-        self.put(&[2, copy as u64, xor as u64])
+    fn write_cx(&mut self, control: usize, target: usize) -> Result<(), Infallible> {
+        self.put(&[2, control as u64, target as u64])
     }
 
     fn write_opaque(&mut self, _: &Symbol, params: &[Value], args: &[usize]) -> Result<(), Infallible> {
@@ -295,7 +295,7 @@ fn compare(name: &str, images: &[Vec<u64>], rounds: usize) {
     );
 }
 
-/// The sheet does not tell a gate's number; everything else is compared.
+/// The sheet has no gate's number; everything else is compared.
 fn with_gate_numbers(unit: &[u64], mut published: Vec<u64>) -> Vec<u64> {
     let mut at = 0;
     while at < published.len() {

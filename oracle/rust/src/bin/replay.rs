@@ -1,4 +1,5 @@
-//! Reads runs and their outcomes, and compares the published linearizer with them.
+//! Reads runs and their outcomes, which oracle.tests.reference_runs prints, and compares the published linearizer with
+//! them.
 //!
 //! A line: depth, output words lent; number, place, second, records; how many output words, these; how many
 //! trace words, these; the image. `replay list` prints each as the listing program would instead: a line there

@@ -92,7 +92,7 @@ impl Generator {
         Some(arguments)
     }
 
-    /// Puts a run of arguments down and tells its first; an empty run starts anywhere.
+    /// Puts a run of arguments down and gives its first; an empty run starts anywhere.
     fn placed(&mut self, arguments: &[Argument]) -> u64 {
         let count = self.parts.arguments.len() as u64;
         if arguments.is_empty() {

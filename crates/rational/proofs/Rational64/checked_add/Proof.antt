@@ -1,8 +1,9 @@
+-- `Rational64::checked_add` gives `fractionSum`: its steps are the definition's, each capped at the limit before the next.
 use native.Mathlib.Omega.{arith}
 use mathlib.Core.Path.{sym, ap, _∙_}
-use Rattle.rational.specs.declared.Checked.the-variants.{Some}
+use Rattle.rational.specs.declared.OptionRational64.the-variants.{Some}
 use Rattle.rational.proofs.SumLaws.{common-pos, sum-is}
-use Rattle.rational.proofs.Soundness.{checks, sum-sound}
+use Rattle.rational.proofs.LowestTermsLaws.{checks-to, sum-sound}
 use borrow.Author.Needs.{needs}
 use Rattle.rational.proofs.Rational64.checked_add.Statement.{statement}
 use Rattle.rational.proofs.Rational64.checked_add.Tie as tie
@@ -36,21 +37,35 @@ all-in-range-requires c κs = search needs
 
 lowest-terms-requires : tie.Need-lowest-terms-requires
 lowest-terms-requires c κs =
+    let common-denominator = c .before .before .before .before .before .before .before .before .before .common-denominator .ensures in
     let a = c .before .before .before .before .before .before .before .before .before .before in
-    rw (c .before .before .before .before .before .before .before .before .before .common-denominator .ensures) (omega (arith, common-pos _ _ (a .pre .0 .positive) (a .pre .1 .positive)))
+    rw common-denominator (omega (arith, common-pos _ _ (a .pre .0 .positive) (a .pre .1 .positive)))
 
 returns : tie.Need-returns
 returns c =
+    let common-denominator = c .before .before .before .before .before .before .before .before .before .before .common-denominator in
+    let capped-mul = c .before .before .before .before .before .before .before .before .capped-mul in
+    let capped-mul2 = c .before .before .before .before .before .before .capped-mul2 in
+    let signs-differ = c .before .before .before .before .before .signs-differ in
+    let sum-magnitude = c .before .before .before .before .sum-magnitude in
+    let sum-sign = c .before .before .before .sum-sign in
+    let all-in-range = c .before .before .all-in-range in
     let a = c .before .before .before .before .before .before .before .before .before .before .before in
-    checks (ap Some (c .lowest-terms .ensures) ∙ sym (rw (c .before .if1 .taken)) ∙ sum-is (a .args .self) (a .args .y) (c .before .before .before .before .before .before .before .before .before .before .common-denominator .result) (c .before .before .before .before .before .before .before .before .capped-mul .result) (c .before .before .before .before .before .before .capped-mul2 .result) (c .before .before .before .before .sum-magnitude .result) (c .before .before .before .before .before .signs-differ .result) (c .before .before .before .sum-sign .result) (c .before .before .all-in-range .result)
-    (c .before .before .before .before .before .before .before .before .before .before .common-denominator .ensures) (c .before .before .before .before .before .before .before .before .capped-mul .ensures) (c .before .before .before .before .before .before .capped-mul2 .ensures) (c .before .before .before .before .before .signs-differ .ensures) (c .before .before .before .before .sum-magnitude .ensures) (c .before .before .before .sum-sign .ensures) (c .before .before .all-in-range .ensures))
+    checks-to (ap Some (c .lowest-terms .ensures) ∙ sym (rw (c .before .if1 .taken)) ∙ sum-is (a .args .self) (a .args .y) (common-denominator .result) (capped-mul .result) (capped-mul2 .result) (sum-magnitude .result) (signs-differ .result) (sum-sign .result) (all-in-range .result)
+    (common-denominator .ensures) (capped-mul .ensures) (capped-mul2 .ensures) (signs-differ .ensures) (sum-magnitude .ensures) (sum-sign .ensures) (all-in-range .ensures))
     (sum-sound (a .args .self) (a .args .y) (a .pre .0) (a .pre .1))
 
 returns-2 : tie.Need-returns-2
 returns-2 c =
+    let common-denominator = c .before .before .before .before .before .before .before .before .before .common-denominator in
+    let capped-mul = c .before .before .before .before .before .before .before .capped-mul in
+    let capped-mul2 = c .before .before .before .before .before .capped-mul2 in
+    let signs-differ = c .before .before .before .before .signs-differ in
+    let sum-magnitude = c .before .before .before .sum-magnitude in
+    let sum-sign = c .before .before .sum-sign in
     let a = c .before .before .before .before .before .before .before .before .before .before in
-    checks (sym (rw (c .if1 .left)) ∙ sum-is (a .args .self) (a .args .y) (c .before .before .before .before .before .before .before .before .before .common-denominator .result) (c .before .before .before .before .before .before .before .capped-mul .result) (c .before .before .before .before .before .capped-mul2 .result) (c .before .before .before .sum-magnitude .result) (c .before .before .before .before .signs-differ .result) (c .before .before .sum-sign .result) (c .before .all-in-range .result)
-    (c .before .before .before .before .before .before .before .before .before .common-denominator .ensures) (c .before .before .before .before .before .before .before .capped-mul .ensures) (c .before .before .before .before .before .capped-mul2 .ensures) (c .before .before .before .before .signs-differ .ensures) (c .before .before .before .sum-magnitude .ensures) (c .before .before .sum-sign .ensures) (c .before .all-in-range .ensures))
+    checks-to (sym (rw (c .if1 .left)) ∙ sum-is (a .args .self) (a .args .y) (common-denominator .result) (capped-mul .result) (capped-mul2 .result) (sum-magnitude .result) (signs-differ .result) (sum-sign .result) (c .before .all-in-range .result)
+    (common-denominator .ensures) (capped-mul .ensures) (capped-mul2 .ensures) (signs-differ .ensures) (sum-magnitude .ensures) (sum-sign .ensures) (c .before .all-in-range .ensures))
     (sum-sound (a .args .self) (a .args .y) (a .pre .0) (a .pre .1))
 
 pub checked-add-spec : {M : Type 1} → statement M

@@ -1,3 +1,4 @@
+-- `Rational64::checked_div` gives `quotient`: it is the product with the reciprocal.
 use mathlib.Core.Path.{_∙_}
 use Rattle.rational.specs.Rational.{product, quotient}
 use borrow.Author.Needs.{needs}

@@ -1,3 +1,4 @@
+-- `Rational64::checked_sub` gives `difference`: it is the sum with the opposite.
 use mathlib.Core.Path.{_∙_}
 use Rattle.rational.specs.Rational.{difference}
 use borrow.Author.Needs.{needs}

@@ -1,5 +1,6 @@
+-- `Rational64::recip` gives the reciprocal of a fraction that is not 0, in lowest terms.
 use mathlib.Core.Path.{refl}
-use Rattle.rational.proofs.Soundness.{reciprocal-lowest}
+use Rattle.rational.proofs.LowestTermsLaws.{reciprocal-lowest}
 use Rattle.rational.proofs.Rational64.recip.Statement.{statement}
 use Rattle.rational.proofs.Rational64.recip.Tie as tie
 

@@ -1,3 +1,4 @@
+-- `Value::approximate_div` gives `approximateQuotient`: one division of two f32, made a fraction.
 use mathlib.Core.Path.{_∙_}
 use Rattle.value.specs.Value.{approximateQuotient}
 use borrow.Author.Needs.{needs}

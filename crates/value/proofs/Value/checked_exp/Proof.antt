@@ -1,3 +1,4 @@
+-- `Value::checked_exp` gives `exponential`: it is always a function of floats.
 use Rattle.value.specs.Value.{exponential}
 use mathlib.Core.Path.{refl}
 use Rattle.value.proofs.Value.checked_exp.Statement.{statement}

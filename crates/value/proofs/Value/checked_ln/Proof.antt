@@ -1,3 +1,4 @@
+-- `Value::checked_ln` gives `logarithm`: it is always a function of floats.
 use Rattle.value.specs.Value.{logarithm}
 use mathlib.Core.Path.{refl}
 use Rattle.value.proofs.Value.checked_ln.Statement.{statement}

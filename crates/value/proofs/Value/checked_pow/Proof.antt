@@ -1,6 +1,7 @@
+-- `Value::checked_pow` gives `valuePower`: the root of a power where both angles are rational.
 use mathlib.Core.Path.{_∙_, sym}
 use borrow.Author.Tests.{eq-eqb, ne-eqb}
-use Rattle.value.proofs.Soundness.{evaluates, power-sound-value}
+use Rattle.value.proofs.SoundLaws.{evaluates-to, power-sound-value}
 use Rattle.value.specs.Value.{valuePower}
 use borrow.Author.Needs.{needs}
 use Rattle.value.proofs.Value.checked_pow.Statement.{statement}
@@ -15,8 +16,9 @@ root-of-power-requires c κs = search needs
 returns : tie.Need-returns
 unfolding valuePower
 returns c =
+    let if1 = c .before .before .before .before .if1 .taken in
     let a = c .before .before .before .before .before .before .before .before .before .before in
-    evaluates (c .root-of-power .ensures ∙ rw (c .before .checked-pow .ensures .is) (sym (simp (eq-eqb _ _ (c .before .before .before .before .if1 .taken), eq-eqb _ _ (c .before .before .if2 .taken))))) (power-sound-value (a .args .self) (a .args .y) (a .pre .0) (a .pre .1))
+    evaluates-to (c .root-of-power .ensures ∙ rw (c .before .checked-pow .ensures .is) (sym (simp (eq-eqb _ _ if1, eq-eqb _ _ (c .before .before .if2 .taken))))) (power-sound-value (a .args .self) (a .args .y) (a .pre .0) (a .pre .1))
 
 returns-2 : tie.Need-returns-2
 unfolding valuePower

@@ -1,6 +1,7 @@
+-- `Value::checked_sqrt` gives `squareRoot`: the rational root of a rational angle.
 use mathlib.Core.Path.{_∙_, sym}
 use borrow.Author.Tests.{eq-eqb, ne-eqb}
-use Rattle.value.proofs.Soundness.{evaluates, square-root-sound}
+use Rattle.value.proofs.SoundLaws.{evaluates-to, square-root-sound}
 use Rattle.value.specs.Value.{squareRoot}
 use borrow.Author.Needs.{needs}
 use Rattle.value.proofs.Value.checked_sqrt.Statement.{statement}
@@ -9,18 +10,18 @@ use Rattle.value.proofs.Value.checked_sqrt.Tie as tie
 rat-root-requires : tie.Need-rat-root-requires
 rat-root-requires c κs = search needs
 
-root-value-requires : tie.Need-root-value-requires
-root-value-requires c κs = search needs
+rational-or-function-of-floats-requires : tie.Need-rational-or-function-of-floats-requires
+rational-or-function-of-floats-requires c κs = search needs
 
 returns : tie.Need-returns
 unfolding squareRoot
 returns c =
     let a = c .before .before .before .before .before .before in
-    evaluates (c .root-value .ensures ∙ rw (c .before .rat-root .ensures .is) (sym (simp (eq-eqb _ _ (c .before .before .if1 .taken))))) (square-root-sound (a .args .self) (a .pre))
+    evaluates-to (c .rational-or-function-of-floats .ensures ∙ rw (c .before .rat-root .ensures .is) (sym (simp (eq-eqb _ _ (c .before .before .if1 .taken))))) (square-root-sound (a .args .self) (a .pre))
 
 returns-2 : tie.Need-returns-2
 unfolding squareRoot
 returns-2 c = record { is = sym (simp (ne-eqb _ _ (c .if1 .left))); sound = tt }
 
 pub checked-sqrt-spec : {M : Type 1} → statement M
-checked-sqrt-spec = tie.close (tie.spec rat-root-requires root-value-requires returns returns-2)
+checked-sqrt-spec = tie.close (tie.spec rat-root-requires rational-or-function-of-floats-requires returns returns-2)

@@ -1,6 +1,7 @@
+-- `Value::from_float` gives `fromFloat`: the exact value of an f32 as a rational angle.
 use lib.Dec.{T}
 use mathlib.Core.Path.{_∙_, subst, sym}
-use Rattle.value.proofs.Soundness.{evaluates, from-float-sound}
+use Rattle.value.proofs.SoundLaws.{evaluates-to, from-float-sound}
 use Rattle.value.specs.Value.{fromFloat}
 use borrow.Author.Needs.{needs}
 use Rattle.value.proofs.Value.from_float.Statement.{statement}
@@ -25,8 +26,10 @@ rational-value-requires c κs = search needs
 returns-2 : tie.Need-returns-2
 unfolding fromFloat
 returns-2 c =
-    evaluates (c .rational-value .ensures ∙ sym (rw (sym (c .before .before .before .before .approximate-float .ensures .is) ∙ c .before .before .exact .given .1)))
-    (from-float-sound _ (subst T (sym (c .before .before .before .before .before .good .0 .1)) tt))
+    let good = c .before .before .before .before .before .good in
+    let approximate-float = c .before .before .before .before .approximate-float .ensures in
+    evaluates-to (c .rational-value .ensures ∙ sym (rw (sym (approximate-float .is) ∙ c .before .before .exact .given .1)))
+    (from-float-sound _ (subst T (sym (good .0 .1)) tt))
 
 pub from-float-spec : {M : Type 1} → statement M
 from-float-spec =

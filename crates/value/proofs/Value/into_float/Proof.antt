@@ -1,3 +1,4 @@
+-- `Value::into_float` gives `intoFloat`: the f32 of both parts, put together.
 use Rattle.value.specs.Value.{intoFloat}
 use lib.Ieee.{nanBits}
 use borrow.Author.Needs.{needs}
