@@ -166,9 +166,9 @@ module _ {image : List ℕ} {l : Layout} {qubit-starts : List ℕ} {scope : ℕ}
             same-argument (ap (λ (n : ℕ). getD qubits n 0) read ∙ body-first image (s .accepted) qubits a scope h k) (body-size image (s .accepted) qubits a scope h),
           )
 
-      pub quantum-is : scope ≡ 0 → registerArgument image 9 at ≡ resolved a
+      pub quantum-argument-is : scope ≡ 0 → registerArgument image 9 at ≡ resolved a
       unfolding firstQubit
-      quantum-is h =
+      quantum-argument-is h =
           ap (registerArgument image 9) ea
           ∙ same-argument (main-first image (s .accepted) qubits a scope (take (scopeQubits image scope) qubits) h) (main-size image (s .accepted) qubits a scope h)
 
@@ -181,7 +181,7 @@ module _ {image : List ℕ} {l : Layout} {qubit-starts : List ℕ} {scope : ℕ}
             starts = s .starts;
             few = few-quantum (s .accepted);
             listed = subst (λ (n : ℕ). word image n < quantumRegisters image) (sym ea) (m .0);
-            below = subst (λ (x : Argument). x .first < 4096) (sym (quantum-is h)) (first-below a k);
+            below = subst (λ (x : Argument). x .first < 4096) (sym (quantum-argument-is h)) (first-below a k);
             near = (omega arith, low);
           }
 
@@ -206,9 +206,9 @@ module _ {image : List ℕ} {l : Layout} {bit-starts : List ℕ} (s : BitContext
     unfolding classicalArgumentOk
     register-listed = (ltb→lt _ _ (test 0 _ k), leb→le _ _ (test 1 _ k))
 
-    pub classical-is : {c : ℕ} → c ≡ 9 + quantumRegisters image → registerArgument image c at ≡ classicalArgument image a
+    pub classical-argument-is : {c : ℕ} → c ≡ 9 + quantumRegisters image → registerArgument image c at ≡ classicalArgument image a
     unfolding firstBit classicalArgumentSize
-    classical-is e = ap₂ (registerArgument image) e ea
+    classical-argument-is e = ap₂ (registerArgument image) e ea
 
     bit-size : 1 ≤ classicalArgumentSize image a
     unfolding classicalArgumentSize
@@ -226,7 +226,7 @@ module _ {image : List ℕ} {l : Layout} {bit-starts : List ℕ} (s : BitContext
           starts = subst (λ (n : ℕ). RegisterStarts (λ i. word image (n + i)) (classicalRegisters image) bit-starts) (sym e) (s .starts);
           few = few-classical (s .accepted);
           listed = subst (λ (n : ℕ). word image n < classicalRegisters image) (sym ea) (register-listed .0);
-          below = subst (λ (x : Argument). x .first < 4096) (sym (classical-is e)) bit-first;
+          below = subst (λ (x : Argument). x .first < 4096) (sym (classical-argument-is e)) bit-first;
           near = (omega (arith, few-quantum (s .accepted)), low-bits);
         }
 

@@ -115,7 +115,7 @@ module _ (r : ℕ → ℕ) where
         }
 
     -- the record at hand
-    pub record Next (a b : ℕ) (out′ : List ℕ) : Type 0 where
+    pub record RecordAtHand (a b : ℕ) (out′ : List ℕ) : Type 0 where
       pub it : Record
       pub plain : Plain it
       pub there : take (length (encode it)) (drop a out′) ≡ encode it
@@ -126,7 +126,7 @@ module _ (r : ℕ → ℕ) where
       all-words : words ≡ length (flatMap encode (c .before)) + length (flatMap encode (c .rest))
       all-words = sym (length-take-le words (drop from out) (simp length-drop (omega arith))) ∙ ap length (c .stands) ∙ length-append (flatMap encode (c .before)) (flatMap encode (c .rest))
 
-      step : (x : Record) (rest : List Record) → c .rest ≡ x ∷ rest → All Plain (x ∷ rest) → Next a b out′
+      step : (x : Record) (rest : List Record) → c .rest ≡ x ∷ rest → All Plain (x ∷ rest) → RecordAtHand a b out′
       unfolding flatMap
       step x rest e (cons p k) =
           let lb = length (flatMap encode (c .before)) in
@@ -160,11 +160,11 @@ module _ (r : ℕ → ℕ) where
                 };
           }
 
-      pub copying-next : a < from + words → Next a b out′
+      pub copying-next : a < from + words → RecordAtHand a b out′
       unfolding flatMap
       copying-next h = go (c .rest) refl (c .plain-rest)
         where
-          go : (l : List Record) → c .rest ≡ l → All Plain l → Next a b out′
+          go : (l : List Record) → c .rest ≡ l → All Plain l → RecordAtHand a b out′
           go [] e k = absurd (omega (arith, all-words, ap (λ l. length (flatMap encode l)) e, c .read))
           go (x ∷ rest) e k = step x rest e k
 
@@ -186,20 +186,20 @@ module _ (r : ℕ → ℕ) where
         long-at : copiedLength out′ a ≡ length (encode (copying-next h .it))
         long-at = let x = copying-next h in sized out′ a (x .it) (x .there) (x .plain) .whole
 
-        pub next-inside : a + copiedLength out′ a ≤ from + words
-        next-inside = omega (arith, long-at, copying-next h .inside)
+        pub copy-inside : a + copiedLength out′ a ≤ from + words
+        copy-inside = omega (arith, long-at, copying-next h .inside)
 
-        pub next-before : a + copiedLength out′ a ≤ b
-        next-before = omega (arith, next-inside, c .written)
+        pub copy-before : a + copiedLength out′ a ≤ b
+        copy-before = omega (arith, copy-inside, c .written)
 
-        pub next-fits : length out′ ≡ length out → b + copiedLength out′ a ≤ length out′
-        next-fits e = omega (arith, next-inside, c .written, c .read)
+        pub copy-fits : length out′ ≡ length out → b + copiedLength out′ a ≤ length out′
+        copy-fits e = omega (arith, copy-inside, c .written, c .read)
 
-        pub next-some : 1 ≤ copiedLength out′ a
-        next-some = omega (arith, some-words out′ a)
+        pub copy-some : 1 ≤ copiedLength out′ a
+        copy-some = omega (arith, some-words out′ a)
 
-        pub next-later : (n : ℕ) (out″ : List ℕ) → n ≡ copiedLength out′ a → out″ ≡ sets out′ b (renamedWords r out′ a) → CopiedSoFar r out from words to (a + n) (b + n) out″
-        next-later n out″ e d =
+        pub copy-later : (n : ℕ) (out″ : List ℕ) → n ≡ copiedLength out′ a → out″ ≡ sets out′ b (renamedWords r out′ a) → CopiedSoFar r out from words to (a + n) (b + n) out″
+        copy-later n out″ e d =
             let x = copying-next h in
             let k = x .later out″ (d ∙ ap (sets out′ b) (renamed-there out′ a r (x .it) (x .there) (x .plain))) in
             rw (e, long-at) k

@@ -14,24 +14,24 @@ use Rattle.record_reader.specs.Answer.{nextRecordOf, nextWordsOf}
 use Rattle.model.specs.RecordReader.{next, end, wrong, recordLength, nextAt}
 use Rattle.model.proofs.ListLaws.{four-up}
 
-pub short : (n available : ℕ) → available < n → 0 ≡ cond (leb n available) n 0
-short n available h = sym (rw (lt-leb n available h) refl)
+pub too-long : (n available : ℕ) → available < n → 0 ≡ cond (leb n available) n 0
+too-long n available h = sym (rw (lt-leb n available h) refl)
 
-pub whole : (n available : ℕ) → n ≤ available → n ≡ cond (leb n available) n 0
-whole n available h = sym (rw (le-leb n available h) refl)
+pub within-available : (n available : ℕ) → n ≤ available → n ≡ cond (leb n available) n 0
+within-available n available h = sym (rw (le-leb n available h) refl)
 
 -- ---- the length by the kind
 module _ (ws : List ℕ) where
-  abbrev pub lengths : List ℕ
-  lengths = (3 + 2 * (getD ws 1 0 + getD ws 2 0)) ∷ 14 ∷ 3 ∷ (4 + 4 * getD ws 2 0 + getD ws 3 0) ∷ (2 + getD ws 1 0) ∷ 3 ∷ 2 ∷ 4 ∷ 1 ∷ []
+  abbrev pub lengths-by-kind : List ℕ
+  lengths-by-kind = (3 + 2 * (getD ws 1 0 + getD ws 2 0)) ∷ 14 ∷ 3 ∷ (4 + 4 * getD ws 2 0 + getD ws 3 0) ∷ (2 + getD ws 1 0) ∷ 3 ∷ 2 ∷ 4 ∷ 1 ∷ []
 
-  pub of-kind : (k kind available n r : ℕ) → kind ≡ getD ws 0 0 → kind ≡ k → getD lengths k 0 ≡ n → r ≡ cond (leb n available) n 0 → r ≡ cond (leb (recordLength ws) available) (recordLength ws) 0
+  pub of-kind : (k kind available n r : ℕ) → kind ≡ getD ws 0 0 → kind ≡ k → getD lengths-by-kind k 0 ≡ n → r ≡ cond (leb n available) n 0 → r ≡ cond (leb (recordLength ws) available) (recordLength ws) 0
   unfolding recordLength
   of-kind k kind available n r e d f h = let z : recordLength ws ≡ n = rw (sym e ∙ d) f in h ∙ sym (rw z refl)
 
   pub of-none : (kind available : ℕ) → kind ≡ getD ws 0 0 → 9 ≤ kind → 0 ≡ cond (leb (recordLength ws) available) (recordLength ws) 0
   unfolding recordLength
-  of-none kind available e h = let z : recordLength ws ≡ 0 = rw (sym e) (List·getD-eq-default lengths 0 h) in sym (rw z (either (leb 0 available)))
+  of-none kind available e h = let z : recordLength ws ≡ 0 = rw (sym e) (List·getD-eq-default lengths-by-kind 0 h) in sym (rw z (either (leb 0 available)))
     where
       either : (b : Bool) → _≡_ {A = ℕ} (cond b 0 0) 0
       either true = refl

@@ -20,16 +20,16 @@ use Rattle.record_writer.specs.declared.Linearized.{Linearized}
 use Rattle.record_writer.specs.declared.Linearized.the-variants as linearized
 
 -- a record is written
-pub written : (x : Record) (n : ℕ) {out out′ : List ℕ} {at to : Position} → to ≡ afterRecord at n → n ≡ length (encode x) → at .words + n ≤ length out → out′ ≡ sets out (at .words) (encode x)
+pub record-written : (x : Record) (n : ℕ) {out out′ : List ℕ} {at to : Position} → to ≡ afterRecord at n → n ≡ length (encode x) → at .words + n ≤ length out → out′ ≡ sets out (at .words) (encode x)
     → WroteSteps (write [] x ∷ []) out at (linearized.Done to) out′
-written x n {at = at} d e h o =
+record-written x n {at = at} d e h o =
     record { plays = plays-write [] x (omega arith) o (ap (λ p. p .words) d ∙ ap (λ (m : ℕ). at .words + m) e) (ap (λ p. p .records) d); level = ap (λ p. p .trace) d }
 
 -- a record is too long for the words left
-pub full-up : (x : Record) {out : List ℕ} {at : Position} → InOutput out at → length out < at .words + length (encode x)
+pub record-refused : (x : Record) {out : List ℕ} {at : Position} → InOutput out at → length out < at .words + length (encode x)
     → WroteSteps (write [] x ∷ []) out at (outputFullAt at) out
 unfolding play
-full-up x {out} {at} k h =
+record-refused x {out} {at} k h =
     record {
       plays = plays-stop (write [] x ∷ []) {p = stateAt out at} {a = full []} (k .inside) (rw (lt-leb (length (encode x)) (length out - at .words) (omega arith)) refl);
       level = refl;
@@ -37,10 +37,10 @@ full-up x {out} {at} k h =
 
 -- words are appended, whatever record they are, or there is no room for them
 pub appended : {ws out out′ : List ℕ} {at to : Position} (n : ℕ) → to ≡ afterRecord at n → n ≡ length ws → at .words + n ≤ length out → out′ ≡ sets out (at .words) ws → AppendedWords ws out at (linearized.Done to) out′
-appended n p e h o = record { wrote = λ x d. written x n p (e ∙ ap length (sym d)) h (o ∙ rw (sym d) refl) }
+appended n p e h o = record { wrote = λ x d. record-written x n p (e ∙ ap length (sym d)) h (o ∙ rw (sym d) refl) }
 
 pub not-appended : {ws out : List ℕ} {at : Position} → InOutput out at → length out < at .words + length ws → AppendedWords ws out at (outputFullAt at) out
-not-appended k h = record { wrote = λ x e. full-up x k (omega (arith, ap length e)) }
+not-appended k h = record { wrote = λ x e. record-refused x k (omega (arith, ap length e)) }
 
 -- where steps were played to their end, the position is still in the output
 pub wrote-open : {ss : List Step} {out out′ : List ℕ} {at p : Position} → InOutput out at → WroteSteps ss out at (linearized.Done p) out′ → InOutput out′ p

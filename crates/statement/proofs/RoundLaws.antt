@@ -17,7 +17,7 @@ use Rattle.record_writer.specs.declared.LinearizeError.{LinearizeError}
 use Rattle.record_writer.specs.declared.Linearized.{Linearized}
 use Rattle.record_writer.specs.declared.Linearized.the-variants as linearized
 use Rattle.record_writer.specs.Promise.{outputFullAt, InOutput, WroteSteps, refusalAnswer, stateAt}
-use Rattle.record_writer.proofs.WroteStepsLaws.{full-up}
+use Rattle.record_writer.proofs.WroteStepsLaws.{record-refused}
 use Rattle.argument.specs.Frames.{scopeFrame}
 use Rattle.statement.specs.Statements.{apartCX, overlapAtCX}
 
@@ -57,4 +57,4 @@ module _ (image : List ℕ) (a b : ℕ) {out : List ℕ} {p q : ℕ} {at : Posit
 
   pub cx-full : {p′ q′ : ℕ} → p′ ≡ p → q′ ≡ q → ¬ (p′ ≡ q′) → InOutput out at → length out < at .words + 3 → WroteSteps (apartCX image a b p q) out at (outputFullAt at) out
   unfolding encode kindOf fields
-  cx-full {p′} {q′} e f n o h = cx-apart e f n (full-up (Record.CX p′ q′) o h)
+  cx-full {p′} {q′} e f n o h = cx-apart e f n (record-refused (Record.CX p′ q′) o h)

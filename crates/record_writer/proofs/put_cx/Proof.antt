@@ -7,7 +7,7 @@ use denote.Ref.{now}
 use borrow.Author.Needs.{needs}
 use Rattle.model.specs.Records.{Record, encode, kind, fields}
 use Rattle.record_writer.proofs.WriteLaws.{three-put}
-use Rattle.record_writer.proofs.WroteStepsLaws.{written}
+use Rattle.record_writer.proofs.WroteStepsLaws.{record-written}
 use Rattle.record_writer.proofs.put_cx.Statement.{statement}
 use Rattle.record_writer.proofs.put_cx.Tie as tie
 
@@ -50,7 +50,7 @@ returns : tie.Need-returns
 unfolding encode kind fields
 returns c =
     let a = c .before .before .args in
-    written (Record.CX (a .control) (a .target)) 3 (c .after-record .ensures) refl (c .before .before .pre .1) (three-put (now (a .out)) (a .at .words) 2 (a .control) (a .target))
+    record-written (Record.CX (a .control) (a .target)) 3 (c .after-record .ensures) refl (c .before .before .pre .1) (three-put (now (a .out)) (a .at .words) 2 (a .control) (a .target))
 
 pub put-cx-spec : {M : Type 1} → statement M
 put-cx-spec =
