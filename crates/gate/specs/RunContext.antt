@@ -9,12 +9,21 @@ use Rattle.expression.specs.Angles.{anglesIn}
 use Rattle.expression.specs.KeptValues.{AngleContext}
 use Rattle.argument.specs.Frames.{ScopeContext, BitContext}
 
+-- as many calls nest at most as an image has gates
+abbrev pub mostNested : ℕ
+mostNested = 128
+
 -- the calls that may nest in a scope: each goes to a gate of smaller number
 abbrev pub nested : ℕ → ℕ
-nested zero = 128
+nested zero = mostNested
 nested (suc g) = g
 
--- where a statement is run that opens no gate: the tables tell where the registers start, the frame has its qubits and its angles, the values kept are those of constants, and the position lies in the output
+-- the words of a trace that has room for every call: two for each
+abbrev pub traceWords : ℕ
+traceWords = 2 * mostNested
+
+-- where a statement is run that opens no gate: the tables tell where the registers start, the frame has its qubits and angles,
+-- the values kept are those of constants, and the position lies in the output
 pub record StatementContext (image : List ℕ) (l : Layout) (qubit-starts bit-starts kept-values : List ℕ) (scope : ℕ) (angles qubits out : List ℕ) (at : Position) : Type 0 where
   pub in-scope : ScopeContext image l qubit-starts scope qubits
   pub with-bits : BitContext image l bit-starts
@@ -24,5 +33,5 @@ pub record StatementContext (image : List ℕ) (l : Layout) (qubit-starts bit-st
 -- where any statement is run: the trace has room for every call that may nest, too
 pub record RunContext (image : List ℕ) (l : Layout) (qubit-starts bit-starts kept-values : List ℕ) (scope : ℕ) (angles qubits out trace : List ℕ) (at : Position) : Type 0 where
   pub context : StatementContext image l qubit-starts bit-starts kept-values scope angles qubits out at
-  pub trace-length : 256 ≤ length trace
-  pub trace-room : at .trace + 2 * nested scope ≤ 256
+  pub trace-length : traceWords ≤ length trace
+  pub trace-room : at .trace + 2 * nested scope ≤ traceWords

@@ -10,13 +10,22 @@ use Rattle.image.specs.Layout.{LayoutOf}
 use Rattle.image.specs.RegisterStarts.{RegisterStarts}
 use Rattle.record_writer.specs.declared.Position.{Position}
 use Rattle.record_writer.specs.Promise.{InOutput}
+use Rattle.gate.specs.RunContext.{traceWords}
+
+-- the most expressions of a program that has few
+abbrev pub fewExpressions : ℕ
+fewExpressions = 128
+
+-- the most quantum, and the most classical, registers of a program that has few
+abbrev pub fewRegisters : ℕ
+fewRegisters = 64
 
 -- an accepted image with its layout, a trace of full length, and a position in the output at which no call is on the stack
 pub record StartContext (image : List ℕ) (l : Layout) (out trace : List ℕ) (at : Position) : Type 0 where
   pub laid : LayoutOf image l
   pub accepted : Accepted image
   pub in-output : InOutput out at
-  pub trace-length : 256 ≤ length trace
+  pub trace-length : traceWords ≤ length trace
   pub no-calls : at .trace ≡ 0
 
 -- where the main statements are run: the tables tell where the registers start, too

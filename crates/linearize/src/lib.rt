@@ -13,7 +13,7 @@ ghost use Rattle.expression.specs.KeptValues.{ConstantsKept};
 ghost use Rattle.gate.specs.RunContext.{RunContext};
 ghost use Rattle.gate.specs.PlainStatement.{PlainStatement};
 ghost use Rattle.gate.specs.RanSteps.{RanSteps};
-ghost use Rattle.linearize.specs.MainContext.{StartContext, MainContext};
+ghost use Rattle.linearize.specs.MainContext.{fewExpressions, fewRegisters, StartContext, MainContext};
 ghost use Rattle.linearize.specs.MainStatement.{MainStatement, IsConditional, mainStatementSteps, innerSteps, mainSteps};
 ghost use Rattle.linearize.specs.Linearizes.{refusedWith, Linearizes};
 
@@ -254,7 +254,7 @@ fn visit_few_expressions(
     trace: &mut [u64],
     at: Position,
 ) -> Linearized
-    requires { ⌜ MainContext (now image) l (now «qubit_starts») (now «bit_starts») (now out) (now trace) at × (l .expressions ≤ 128) ⌝ }
+    requires { ⌜ MainContext (now image) l (now «qubit_starts») (now «bit_starts») (now out) (now trace) at × (l .expressions ≤ fewExpressions) ⌝ }
     ensures { λ r. ⌜
         RanSteps (mainSteps (now (image .entry)) «levels_left»)
         (now (out .entry)) at (now (trace .entry)) r (now (out .exit)) (now (trace .exit))
@@ -362,7 +362,7 @@ fn visit_few_registers(
     trace: &mut [u64],
     at: Position,
 ) -> Linearized
-    requires { ⌜ StartContext (now image) l (now out) (now trace) at × (l .«quantum_registers» ≤ 64) × (l .«classical_registers» ≤ 64) ⌝ }
+    requires { ⌜ StartContext (now image) l (now out) (now trace) at × (l .«quantum_registers» ≤ fewRegisters) × (l .«classical_registers» ≤ fewRegisters) ⌝ }
     ensures { λ r. ⌜
         RanSteps (mainSteps (now (image .entry)) «levels_left»)
         (now (out .entry)) at (now (trace .entry)) r (now (out .exit)) (now (trace .exit))
