@@ -26,19 +26,12 @@ fn records_room() -> [u8; 524289]
     [0; 524289]
 }
 
-// Room for the lines of 65,536 words of records.
-fn lines_room() -> [u8; 1441792]
-    ensures { λ r. ⌜ 1441792 ≡ length r ⌝ }
-{
-    [0; 1441792]
-}
-
 // Reads an image, and writes the answer of the check.
 fn answer_check() {
     let mut input = image_room();
     let n = io::read_full(STDIN_FILENO, &mut input);
     standard_input::read_rest();
-    let mut text = answer_text::text_room();
+    let mut text = answer_text::line_room();
     let end = answer_text::check_answer(&input[..n], &mut text);
     io::write_all(STDOUT_FILENO, &text[..end]);
 }
@@ -48,7 +41,7 @@ fn answer_tally() {
     let mut input = image_room();
     let n = io::read_full(STDIN_FILENO, &mut input);
     standard_input::read_rest();
-    let mut text = answer_text::text_room();
+    let mut text = answer_text::line_room();
     let end = answer_text::tally_answer(&input[..n], &mut text);
     io::write_all(STDOUT_FILENO, &text[..end]);
 }
@@ -58,7 +51,7 @@ fn answer_records() {
     let mut input = records_room();
     let n = io::read_full(STDIN_FILENO, &mut input);
     standard_input::read_rest();
-    let mut text = lines_room();
+    let mut text = record_text::lines_room();
     let end = record_text::read_back(&input[..n], &mut text);
     io::write_all(STDOUT_FILENO, &text[..end]);
 }

@@ -9,7 +9,7 @@ ghost use Rattle.text.specs.NumberLine.{numbersLine};
 ghost use Rattle.answer_text.specs.Answers.{checkLine, tallyLine, checkAnswer, tallyAnswer};
 
 // Room for the line of an answer.
-pub fn text_room() -> [u8; 256]
+pub fn line_room() -> [u8; 256]
     ensures { λ r. ⌜ 256 ≡ length r ⌝ }
 {
     [0; 256]

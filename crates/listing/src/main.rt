@@ -11,18 +11,11 @@ fn input_room() -> [u8; 65552]
     [0; 65552]
 }
 
-// Room for the longest listing.
-fn text_room() -> [u8; 262144]
-    ensures { λ r. ⌜ 262144 ≡ length r ⌝ }
-{
-    [0; 262144]
-}
-
 fn main() {
     let mut input = input_room();
     let n = io::read_full(STDIN_FILENO, &mut input);
     standard_input::read_rest();
-    let mut text = text_room();
+    let mut text = listing_text::listing_room();
     let end = listing_text::listing_text(&input[..n], &mut text);
     io::write_all(STDOUT_FILENO, &text[..end]);
 }

@@ -1,6 +1,7 @@
 // A run as text: a line for each record, then how it ended.
 use record_writer::Linearized;
 use unit::Numbers;
+ghost use mathlib.Core.Path.{_≡_};
 ghost use mathlib.Core.List.{[], _∷_, flatMap};
 ghost use Prim.Native.Nat.{_+_, _*_, _≤_};
 ghost use lib.ListN.{length, take};
@@ -147,6 +148,13 @@ fn put_listing(text: &mut [u8], input: &[u8]) -> usize
         return put_malformed_listing(text);
     }
     put_input_run(text, input)
+}
+
+// Room for the longest listing.
+pub fn listing_room() -> [u8; 262144]
+    ensures { λ r. ⌜ 262144 ≡ length r ⌝ }
+{
+    [0; 262144]
 }
 
 // Puts the listing of an input in front of a text, and answers its length.

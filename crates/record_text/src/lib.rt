@@ -82,6 +82,13 @@ fn put_read_back(text: &mut [u8], input: &[u8]) -> usize
     put_last(text, front.end, input.len(), front.words, front.records)
 }
 
+// Room for the lines of as many words as are looked at.
+pub fn lines_room() -> [u8; 1441792]
+    ensures { λ r. ⌜ 1441792 ≡ length r ⌝ }
+{
+    [0; 1441792]
+}
+
 // Puts the records of some input in front of a text, and the last line, and answers the length.
 pub fn read_back(input: &[u8], text: &mut [u8; 1441792]) -> usize
     ensures { λ r. ⌜ InFront (readBack (now (input .entry))) (now (text .entry)) r (now (text .exit)) ⌝ }

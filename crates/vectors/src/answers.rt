@@ -5,16 +5,8 @@ use crate::line;
 use crate::line::Words;
 use crate::report;
 use crate::report::Replayed;
-ghost use mathlib.Core.Path.{_≡_};
 ghost use Prim.Native.Nat.{_≤_};
 ghost use lib.ListN.{length};
-
-// Room for the lines of records that are read back.
-fn lines_room() -> [u8; 1441792]
-    ensures { λ r. ⌜ 1441792 ≡ length r ⌝ }
-{
-    [0; 1441792]
-}
 
 // Whether a byte of an answer is this.
 fn is_byte(byte: u8, expected: u64) -> bool {
@@ -38,21 +30,21 @@ fn has_bytes(answer: &[u8], expected: &[u64]) -> bool {
 
 // Whether the check answers this.
 fn check_answer_agrees(input: &[u8], expected: &[u64]) -> bool {
-    let mut text = answer_text::text_room();
+    let mut text = answer_text::line_room();
     let n = answer_text::check_answer(input, &mut text);
     has_bytes(&text[..n], expected)
 }
 
 // Whether the tally answers this.
 fn tally_answer_agrees(input: &[u8], expected: &[u64]) -> bool {
-    let mut text = answer_text::text_room();
+    let mut text = answer_text::line_room();
     let n = answer_text::tally_answer(input, &mut text);
     has_bytes(&text[..n], expected)
 }
 
 // Whether reading records back answers this.
 fn records_answer_agrees(input: &[u8], expected: &[u64]) -> bool {
-    let mut text = lines_room();
+    let mut text = record_text::lines_room();
     let n = record_text::read_back(input, &mut text);
     has_bytes(&text[..n], expected)
 }
@@ -81,7 +73,7 @@ fn words_agree(operation: u64, words: &[u64], m: u64, expected: &[u64]) -> bool
 }
 
 // Whether the answer of a line is as it says: its words are those of the input, and then the bytes of the answer.
-fn line_agrees(words: &[u64], leading: &[u64; 3]) -> bool
+fn answer_agrees(words: &[u64], leading: &[u64; 3]) -> bool
     requires { ⌜ length (now words) ≤ 8200 ⌝ }
 {
     if leading[2] > words.len() as u64 {
@@ -101,5 +93,5 @@ pub fn replay_line(text: &[u8], words: &mut [u64]) -> Replayed {
     if n > line::WORDS_ROOM {
         return Replayed::Malformed;
     }
-    report::agreement(line_agrees(&words[..n], &leading))
+    report::agreement(answer_agrees(&words[..n], &leading))
 }

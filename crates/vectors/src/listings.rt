@@ -5,20 +5,12 @@ use crate::line;
 use crate::line::Words;
 use crate::report;
 use crate::report::Replayed;
-ghost use mathlib.Core.Path.{_≡_};
-ghost use Prim.Native.Nat.{_+_, _*_, _≤_};
+ghost use Prim.Native.Nat.{_≤_};
 ghost use lib.ListN.{length};
-
-// Room for a listing.
-fn text_room() -> [u8; 262144]
-    ensures { λ r. ⌜ 262144 ≡ length r ⌝ }
-{
-    [0; 262144]
-}
 
 // Whether the listing of an input has this length and this sum.
 fn lists(input: &[u8], length: u64, sum: u64) -> bool {
-    let mut text = text_room();
+    let mut text = listing_text::listing_room();
     let n = listing_text::listing_text(input, &mut text);
     if n as u64 != length {
         return false;

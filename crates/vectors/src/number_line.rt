@@ -26,15 +26,15 @@ enum Field {
 }
 
 // A number that was read, with its sign.
-fn signed(negative: bool, read: Decimal) -> Field {
+fn with_sign(negative: bool, read: Decimal) -> Field {
     match read {
         Decimal::Number(n, end) => Field::Number(negative, n, end),
         Decimal::Malformed => Field::Malformed,
     }
 }
 
-// Numbers are counted from 0.
-fn is_numerator(k: usize) -> bool {
+// Whether the k-th number is a numerator, which may have a sign. Numbers are counted from 0.
+fn may_have_a_sign(k: usize) -> bool {
     match k {
         1 | 3 | 5 | 7 | 10 | 12 => true,
         _ => false,
@@ -45,12 +45,12 @@ fn is_numerator(k: usize) -> bool {
 fn signed_number(text: &[u8], at: usize, k: usize) -> Field {
     if at < text.len() {
         if text[at] == b'-' {
-            if is_numerator(k) {
-                return signed(true, line::digits(text, at + 1));
+            if may_have_a_sign(k) {
+                return with_sign(true, line::digits(text, at + 1));
             }
         }
     }
-    signed(false, line::digits(text, at))
+    with_sign(false, line::digits(text, at))
 }
 
 // The byte after the k-th number.

@@ -17,8 +17,8 @@ read-full-requires c κs = search needs
 read-rest-requires : tie.Need-read-rest-requires
 read-rest-requires c κs = search needs
 
-text-room-requires : tie.Need-text-room-requires
-text-room-requires c κs = search needs
+line-room-requires : tie.Need-line-room-requires
+line-room-requires c κs = search needs
 
 array-share-prefix-input : tie.Need-array-share-prefix-input
 array-share-prefix-input c = search needs
@@ -49,7 +49,7 @@ answer-tally-spec =
     slice-aggregate-read-full
     read-full-requires
     read-rest-requires
-    text-room-requires
+    line-room-requires
     array-share-prefix-input
     slice-aggregate-tally-answer
     tally-answer-requires

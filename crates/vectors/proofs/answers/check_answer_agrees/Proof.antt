@@ -5,8 +5,8 @@ use borrow.Author.Needs.{needs}
 use Rattle.vectors.proofs.answers.check_answer_agrees.Statement.{statement}
 use Rattle.vectors.proofs.answers.check_answer_agrees.Tie as tie
 
-text-room-requires : tie.Need-text-room-requires
-text-room-requires c κs = search needs
+line-room-requires : tie.Need-line-room-requires
+line-room-requires c κs = search needs
 
 check-answer-requires : tie.Need-check-answer-requires
 check-answer-requires c κs = search needs
@@ -27,7 +27,7 @@ pub check-answer-agrees-spec : {M : Type 1} → statement M
 check-answer-agrees-spec =
     tie.close
     (tie.spec
-    text-room-requires
+    line-room-requires
     check-answer-requires
     array-share-prefix-text
     slice-aggregate-has-bytes

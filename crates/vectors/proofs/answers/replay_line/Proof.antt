@@ -31,16 +31,16 @@ same-length-2 c = search needs
 returns-2 : tie.Need-returns-2
 returns-2 c = search needs
 
-slice-reshare-prefix-line-agrees : tie.Need-slice-reshare-prefix-line-agrees
-slice-reshare-prefix-line-agrees c = rw (c .before .before .read .given .1) at (c .before .before .before .before .before .before .before .read-line .ensures)
+slice-reshare-prefix-answer-agrees : tie.Need-slice-reshare-prefix-answer-agrees
+slice-reshare-prefix-answer-agrees c = rw (c .before .before .read .given .1) at (c .before .before .before .before .before .before .before .read-line .ensures)
 
-slice-aggregate-line-agrees : tie.Need-slice-aggregate-line-agrees
-slice-aggregate-line-agrees c =
+slice-aggregate-answer-agrees : tie.Need-slice-aggregate-answer-agrees
+slice-aggregate-answer-agrees c =
     let read-line = c .before .before .before .before .before .before .before .before .read-line .ensures in
     sym (length-take-le _ _ (rw (c .before .before .before .read .given .1) at read-line))
 
-line-agrees-requires : tie.Need-line-agrees-requires
-line-agrees-requires c κs = simp length-take (omega (arith, c .before .before .if1 .left))
+answer-agrees-requires : tie.Need-answer-agrees-requires
+answer-agrees-requires c κs = simp length-take (omega (arith, c .before .before .if1 .left))
 
 agreement-requires : tie.Need-agreement-requires
 agreement-requires c κs = search needs
@@ -63,9 +63,9 @@ replay-line-spec =
     returns
     same-length-2
     returns-2
-    slice-reshare-prefix-line-agrees
-    slice-aggregate-line-agrees
-    line-agrees-requires
+    slice-reshare-prefix-answer-agrees
+    slice-aggregate-answer-agrees
+    answer-agrees-requires
     agreement-requires
     same-length-3
     returns-3)

@@ -5,8 +5,8 @@ use borrow.Author.Needs.{needs}
 use Rattle.vectors.proofs.answers.tally_answer_agrees.Statement.{statement}
 use Rattle.vectors.proofs.answers.tally_answer_agrees.Tie as tie
 
-text-room-requires : tie.Need-text-room-requires
-text-room-requires c κs = search needs
+line-room-requires : tie.Need-line-room-requires
+line-room-requires c κs = search needs
 
 tally-answer-requires : tie.Need-tally-answer-requires
 tally-answer-requires c κs = search needs
@@ -27,7 +27,7 @@ pub tally-answer-agrees-spec : {M : Type 1} → statement M
 tally-answer-agrees-spec =
     tie.close
     (tie.spec
-    text-room-requires
+    line-room-requires
     tally-answer-requires
     array-share-prefix-text
     slice-aggregate-has-bytes

@@ -5,8 +5,8 @@ use borrow.Author.Needs.{needs}
 use Rattle.vectors.proofs.listings.lists.Statement.{statement}
 use Rattle.vectors.proofs.listings.lists.Tie as tie
 
-text-room-requires : tie.Need-text-room-requires
-text-room-requires c κs = search needs
+listing-room-requires : tie.Need-listing-room-requires
+listing-room-requires c κs = search needs
 
 listing-text-requires : tie.Need-listing-text-requires
 listing-text-requires c κs = search needs
@@ -30,7 +30,7 @@ pub lists-spec : {M : Type 1} → statement M
 lists-spec =
     tie.close
     (tie.spec
-    text-room-requires
+    listing-room-requires
     listing-text-requires
     returns
     array-share-prefix-text

@@ -2,8 +2,8 @@
 use native.Mathlib.Omega.{arith}
 use lib.ListN.{length-take}
 use borrow.Author.Needs.{needs}
-use Rattle.vectors.proofs.answers.line_agrees.Statement.{statement}
-use Rattle.vectors.proofs.answers.line_agrees.Tie as tie
+use Rattle.vectors.proofs.answers.answer_agrees.Statement.{statement}
+use Rattle.vectors.proofs.answers.answer_agrees.Tie as tie
 
 element-copy-out-if1 : tie.Need-element-copy-out-if1
 element-copy-out-if1 c = search needs
@@ -41,8 +41,8 @@ words-agree-requires c κs = simp length-take (omega arith)
 returns-2 : tie.Need-returns-2
 returns-2 c = search needs
 
-pub line-agrees-spec : {M : Type 1} → statement M
-line-agrees-spec =
+pub answer-agrees-spec : {M : Type 1} → statement M
+answer-agrees-spec =
     tie.close
     (tie.spec
     element-copy-out-if1
