@@ -1,7 +1,9 @@
 // Answers as a line of numbers: the check of an image, and its tally.
+use image::refusal;
 ghost use mathlib.Core.Path.{_≡_};
 ghost use Prim.Native.Nat.{_≤_};
 ghost use lib.ListN.{length};
+ghost use Rattle.model.specs.Refusals as number;
 ghost use Rattle.model.specs.Tally.{refused};
 ghost use Rattle.unit_words.specs.AnswerWords.{tallyWords};
 ghost use Rattle.text.specs.Put.{Put, InFront};
@@ -36,7 +38,7 @@ fn put_check_answer(text: &mut [u8], input: &[u8]) -> usize
     ensures { λ r. ⌜ Put (checkAnswer (now (input .entry))) (now (text .entry)) 0 r (now (text .exit)) ⌝ }
 {
     if input.len() % text::WORD_BYTES != 0 {
-        return text::put_number_line(text, &[1, 0]);
+        return text::put_number_line(text, &[refusal::CONTENTS, 0]);
     }
     put_check(text, input)
 }
@@ -67,9 +69,9 @@ fn put_tally(text: &mut [u8], input: &[u8]) -> usize
 // Puts the line of an input that ends within a word or has no depth.
 fn put_malformed_tally(text: &mut [u8]) -> usize
     requires { ⌜ 256 ≤ length (now text) ⌝ }
-    ensures { λ r. ⌜ Put (numbersLine (tallyWords (refused 1 0))) (now (text .entry)) 0 r (now (text .exit)) ⌝ }
+    ensures { λ r. ⌜ Put (numbersLine (tallyWords (refused number.contents 0))) (now (text .entry)) 0 r (now (text .exit)) ⌝ }
 {
-    text::put_number_line(text, &[1, 0, 0, 0, 0, 0, 0, 0, 0, 0, 0])
+    text::put_number_line(text, &[refusal::CONTENTS, 0, 0, 0, 0, 0, 0, 0, 0, 0, 0])
 }
 
 // Puts the answer of the tally to some input.

@@ -32,7 +32,7 @@ pub const OUTPUT_FULL: u64 = 14;
 
 pub const SHORT_TRACE: u64 = 15;
 
-// Tally: a figure that has no 32 bits.
+// Tally: a figure that passes 4,294,967,295.
 pub const FIGURE_TOO_LARGE: u64 = 16;
 
 // Reading records back: words that begin no whole record.

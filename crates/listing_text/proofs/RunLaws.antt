@@ -61,7 +61,7 @@ refused-closing (kind.NumericalOverflow p) t n e = refl
 refused-closing (kind.OverlappingRegs p q) t n e = refl
 refused-closing (kind.FunctionOfFloats p) t n e = refl
 refused-closing kind.OutputFull t n e = refl
-refused-closing (kind.Rejected c) t n e = rw (sym e) refl
+refused-closing (kind.Flawed c) t n e = rw (sym e) refl
 refused-closing kind.ShortTrace t n e = rw (sym e) refl
 
 end-closing : (r : Linearized) (t : List ℕ) → t ≡ traceOf (runAnswerOf r t) → endText r t ≡ closing (runAnswerOf r t) (positionOf r .records)

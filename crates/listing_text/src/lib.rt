@@ -1,10 +1,12 @@
 // A run as text: a line for each record, then how it ended.
+use image::refusal;
 use record_writer::Linearized;
 use unit::Numbers;
 ghost use mathlib.Core.Path.{_≡_};
 ghost use mathlib.Core.List.{[], _∷_, flatMap};
 ghost use Prim.Native.Nat.{_+_, _*_, _≤_};
 ghost use lib.ListN.{length, take};
+ghost use Rattle.model.specs.Refusals as number;
 ghost use Rattle.model.specs.Listing.{ascii, decimal, line, fromText, refusedText, runText, listing};
 ghost use Rattle.model.specs.Run.{runs, numbers};
 ghost use Rattle.model.specs.RecordReader.{recordsIn};
@@ -122,13 +124,13 @@ fn put_input_run(text: &mut [u8], input: &[u8]) -> usize
 // Puts the line of an input that ends within a word or has no depth.
 fn put_malformed_listing(text: &mut [u8]) -> usize
     requires { ⌜ 262144 ≤ length (now text) ⌝ }
-    ensures { λ r. ⌜ Put (refusedText (numbers 1 0 0)) (now (text .entry)) 0 r (now (text .exit)) ⌝ }
+    ensures { λ r. ⌜ Put (refusedText (numbers number.contents 0 0)) (now (text .entry)) 0 r (now (text .exit)) ⌝ }
 {
     put_refused(
         text,
         0,
         Numbers {
-            number: 1,
+            number: refusal::CONTENTS,
             place: 0,
             second: 0,
         },

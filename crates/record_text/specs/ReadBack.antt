@@ -4,6 +4,7 @@ use mathlib.Core.Bool.{_&&_, cond}
 use mathlib.Core.List.{List, [], _∷_, _++_, map, flatMap}
 use lib.ListN.{length}
 use lib.Dec.{eqb, ltb}
+use Rattle.model.specs.Refusals as refusal
 use Rattle.model.specs.Lists.{sum}
 use Rattle.model.specs.RecordReader.{recordsIn}
 use Rattle.model.specs.Listing.{ascii, decimal, line, wordsOf}
@@ -16,7 +17,7 @@ use Rattle.text.specs.RecordLine.{recordLine}
 unfoldable pub lastLine : ℕ → ℕ → ℕ → List ℕ
 lastLine n p r =
     cond (ltb 524288 n && ltb 0 r) (line (ascii "more" ∷ decimal p ∷ decimal r ∷ []))
-    (cond (eqb (8 * p) n) (line (ascii "end" ∷ decimal r ∷ [])) (line (ascii "refused" ∷ decimal 17 ∷ decimal p ∷ [])))
+    (cond (eqb (8 * p) n) (line (ascii "end" ∷ decimal r ∷ [])) (line (ascii "refused" ∷ decimal refusal.noRecord ∷ decimal p ∷ [])))
 
 -- Records, each as its line in the listing, and the last line: they end where their words do.
 unfoldable pub recordsText : ℕ → List (List ℕ) → List ℕ

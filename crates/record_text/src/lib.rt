@@ -1,4 +1,5 @@
 // Records read back, each as its line in the listing, and a last line.
+use image::refusal;
 ghost use mathlib.Core.Path.{_≡_};
 ghost use Prim.Native.Nat.{_+_, _*_, _≤_};
 ghost use mathlib.Core.Bool.{_&&_};
@@ -12,9 +13,6 @@ ghost use Rattle.record_text.specs.ReadFront.{ReadFront};
 const WORDS_READ: usize = 65536;
 
 const BYTES_READ: usize = 524288;
-
-// The number of the refusal where the words begin no whole record.
-const NO_RECORD: u64 = 17;
 
 // Where the lines of some records end, where their words end, and how many records they are.
 struct Front {
@@ -67,7 +65,7 @@ fn put_last(text: &mut [u8], at: usize, bytes: usize, words: usize, records: usi
     if text::WORD_BYTES * words == bytes {
         return text::put_named_line(text, at, b"end", &[records as u64]);
     }
-    text::put_named_line(text, at, b"refused", &[NO_RECORD, words as u64])
+    text::put_named_line(text, at, b"refused", &[refusal::NO_RECORD, words as u64])
 }
 
 // Puts the records of some input, and the last line.

@@ -1,5 +1,6 @@
 // The operations of the sequence unit: check, tally, run, next record.
 use image::CheckAnswer;
+use image::refusal;
 use record_reader::NextRecord;
 use record_writer::LinearizeErrorKind;
 use record_writer::Linearized;
@@ -64,42 +65,42 @@ fn refusal_numbers(kind: LinearizeErrorKind) -> Numbers
 {
     match kind {
         LinearizeErrorKind::DivideByZero(place) => Numbers {
-            number: 9,
+            number: refusal::DIVIDE_BY_ZERO,
             place,
             second: 0,
         },
         LinearizeErrorKind::ApproximateFail(place, x) => Numbers {
-            number: 10,
+            number: refusal::APPROXIMATE_FAIL,
             place,
             second: float::f32_to_bits(x) as u64,
         },
         LinearizeErrorKind::NumericalOverflow(place) => Numbers {
-            number: 11,
+            number: refusal::NUMERICAL_OVERFLOW,
             place,
             second: 0,
         },
         LinearizeErrorKind::OverlappingRegs(place, second) => Numbers {
-            number: 12,
+            number: refusal::OVERLAPPING_REGS,
             place,
             second,
         },
         LinearizeErrorKind::FunctionOfFloats(place) => Numbers {
-            number: 13,
+            number: refusal::FUNCTION_OF_FLOATS,
             place,
             second: 0,
         },
         LinearizeErrorKind::OutputFull => Numbers {
-            number: 14,
+            number: refusal::OUTPUT_FULL,
             place: 0,
             second: 0,
         },
-        LinearizeErrorKind::Rejected(c) => Numbers {
-            number: image::number_of(c),
-            place: image::place_of(c),
+        LinearizeErrorKind::Flawed(c) => Numbers {
+            number: image::refusal_number(c),
+            place: image::refusal_place(c),
             second: 0,
         },
         LinearizeErrorKind::ShortTrace => Numbers {
-            number: 15,
+            number: refusal::SHORT_TRACE,
             place: 0,
             second: 0,
         },

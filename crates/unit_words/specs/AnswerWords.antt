@@ -2,6 +2,7 @@
 use Prim.Native.Nat.{ℕ}
 use mathlib.Core.Path.{_≡_}
 use mathlib.Core.List.{List, [], _∷_}
+use Rattle.model.specs.Refusals as refusal
 use Rattle.model.specs.Check.{Flaw, fine, bad}
 use Rattle.model.specs.Tally.{TallyAnswer, tallied, refused}
 use Rattle.model.specs.Run.{answerNumbers, Outcome, linearize}
@@ -22,7 +23,7 @@ tallyWords (refused n p) = n ∷ p ∷ 0 ∷ 0 ∷ 0 ∷ 0 ∷ 0 ∷ 0 ∷ 0 ∷
 abbrev pub nextWords : NextRecord → List ℕ
 nextWords (answer.Record n) = 0 ∷ n ∷ []
 nextWords answer.End = 0 ∷ 0 ∷ []
-nextWords answer.Wrong = 17 ∷ 0 ∷ []
+nextWords answer.NoRecord = refusal.noRecord ∷ 0 ∷ []
 
 -- a run's number, place and second place, and how many records, output words and trace words it has written
 abbrev pub runWords : Outcome → List ℕ

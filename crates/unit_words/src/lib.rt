@@ -1,4 +1,5 @@
 // The operations of the sequence unit for callers in other languages, with answers as words.
+use image::refusal;
 use record_reader::NextRecord;
 use tally::Tallied;
 ghost use mathlib.Core.Path.{_≡_};
@@ -37,8 +38,8 @@ fn tally_words(t: Tallied) -> [u64; 11]
             f.words,
         ],
         Tallied::Refused(c) => [
-            image::number_of(c),
-            image::place_of(c),
+            image::refusal_number(c),
+            image::refusal_place(c),
             0,
             0,
             0,
@@ -49,7 +50,7 @@ fn tally_words(t: Tallied) -> [u64; 11]
             0,
             0,
         ],
-        Tallied::TooLarge => [16, 0, 0, 0, 0, 0, 0, 0, 0, 0, 0],
+        Tallied::TooLarge => [refusal::FIGURE_TOO_LARGE, 0, 0, 0, 0, 0, 0, 0, 0, 0, 0],
     }
 }
 
@@ -92,7 +93,7 @@ fn next_words(found: NextRecord) -> [u64; 2]
     match found {
         NextRecord::Record(length) => [0, length as u64],
         NextRecord::End => [0, 0],
-        NextRecord::Wrong => [17, 0],
+        NextRecord::NoRecord => [refusal::NO_RECORD, 0],
     }
 }
 

@@ -108,7 +108,7 @@ fn is_end(words: &[u64], at: usize) -> bool {
     match next {
         NextRecord::End => true,
         NextRecord::Record(_) => false,
-        NextRecord::Wrong => false,
+        NextRecord::NoRecord => false,
     }
 }
 
@@ -118,7 +118,7 @@ fn is_record(words: &[u64], at: usize, n: usize) -> bool {
     match next {
         NextRecord::Record(m) => m == n,
         NextRecord::End => false,
-        NextRecord::Wrong => false,
+        NextRecord::NoRecord => false,
     }
 }
 

@@ -32,11 +32,11 @@ enum-told c = search needs
 enum-known-kind-6 : tie.Need-enum-known-kind-6
 enum-known-kind-6 c = search needs
 
-number-of-requires : tie.Need-number-of-requires
-number-of-requires c κs = search needs
+refusal-number-requires : tie.Need-refusal-number-requires
+refusal-number-requires c κs = search needs
 
-place-of-requires : tie.Need-place-of-requires
-place-of-requires c κs = search needs
+refusal-place-requires : tie.Need-refusal-place-requires
+refusal-place-requires c κs = search needs
 
 enum-told-2 : tie.Need-enum-told-2
 enum-told-2 c = search needs
@@ -67,7 +67,7 @@ returns-6 c = record { each = λ t. rw (c .enum-told .given .1) refl }
 
 returns-7 : tie.Need-returns-7
 unfolding answerNumbers
-returns-7 c = record { each = λ t. rw (c .before .before .before .kind6 .given .1, c .before .number-of .ensures, c .place-of .ensures) refl }
+returns-7 c = record { each = λ t. rw (c .before .before .before .kind6 .given .1, c .before .refusal-number .ensures, c .refusal-place .ensures) refl }
 
 returns-8 : tie.Need-returns-8
 unfolding answerNumbers
@@ -86,8 +86,8 @@ refusal-numbers-spec =
     enum-known-kind-5
     enum-told
     enum-known-kind-6
-    number-of-requires
-    place-of-requires
+    refusal-number-requires
+    refusal-place-requires
     enum-told-2
     returns
     returns-2
