@@ -1,11 +1,8 @@
 -- What is wrong with a statement by its kind.
-use Prim.Native.Nat.{ℕ, zero, suc, _≤_, _<_}
-use native.Mathlib.Omega.{arith}
-use mathlib.Core.Path.{_≡_, refl, sym, _∙_}
-use mathlib.Core.Bool.{Bool, true, false, not, _&&_}
+use Prim.Native.Nat.{ℕ, zero, suc}
+use mathlib.Core.Path.{_≡_, refl, _∙_}
+use mathlib.Core.Bool.{Bool, true, false}
 use mathlib.Core.List.{List}
-use lib.Dec.{ltb, eqb}
-use borrow.Author.Tests.{lt-ltb, le-ltb, ne-eqb}
 use Rattle.model.specs.Image.{Statement, statementOf, statement}
 use Rattle.model.specs.Check.{plainFlaw, inConditional, conditionalOk, conditionalFlaw, flaw}
 use Rattle.image.proofs.KindLaws.{if-is}
@@ -53,31 +50,37 @@ module _ (image : List ℕ) where
   pub allowed-is : (t : ℕ) {r : Bool} {x : Statement} → statement image t ≡ x → r ≡ inConditional image x → r ≡ inConditional image (statement image t)
   allowed-is t e h = rw e h
 
-  kinds : (k a b c d : ℕ) → inConditional image (statementOf k a b c d) ≡ (ltb 0 k && (ltb k 7 && not (eqb k 4)))
+  pub allowed-1 : (k a b c d : ℕ) → k ≡ 1 → true ≡ inConditional image (statementOf k a b c d)
   unfolding inConditional statementOf
-  kinds zero a b c d = refl
-  kinds (suc zero) a b c d = refl
-  kinds (suc (suc zero)) a b c d = refl
-  kinds (suc (suc (suc zero))) a b c d = refl
-  kinds (suc (suc (suc (suc zero)))) a b c d = refl
-  kinds (suc (suc (suc (suc (suc zero))))) a b c d = refl
-  kinds (suc (suc (suc (suc (suc (suc zero)))))) a b c d = refl
-  kinds (suc (suc (suc (suc (suc (suc (suc zero))))))) a b c d = refl
-  kinds (suc (suc (suc (suc (suc (suc (suc (suc k)))))))) a b c d =
-      let n = suc (suc (suc (suc (suc (suc (suc (suc k))))))) in
-      sym (rw (lt-ltb 0 n (omega arith), le-ltb n 7 (omega arith)) refl)
+  allowed-1 k a b c d e = rw e refl
 
-  pub allowed-kinds : (k a b c d : ℕ) → 1 ≤ k → k < 7 → ¬ (k ≡ 4) → true ≡ inConditional image (statementOf k a b c d)
-  allowed-kinds k a b c d h j n = sym (kinds k a b c d ∙ rw (lt-ltb 0 k h, lt-ltb k 7 j, ne-eqb k 4 n) refl)
+  pub allowed-2 : (k a b c d : ℕ) → k ≡ 2 → true ≡ inConditional image (statementOf k a b c d)
+  unfolding inConditional statementOf
+  allowed-2 k a b c d e = rw e refl
 
-  pub allowed-none : (k a b c d : ℕ) → k < 1 → false ≡ inConditional image (statementOf k a b c d)
-  allowed-none k a b c d h = sym (kinds k a b c d ∙ rw (le-ltb 0 k (omega arith)) refl)
+  pub allowed-3 : (k a b c d : ℕ) → k ≡ 3 → true ≡ inConditional image (statementOf k a b c d)
+  unfolding inConditional statementOf
+  allowed-3 k a b c d e = rw e refl
 
-  pub allowed-barrier : (k a b c d : ℕ) → k ≡ 4 → false ≡ inConditional image (statementOf k a b c d)
-  allowed-barrier k a b c d e = sym (kinds k a b c d ∙ rw e refl)
+  pub allowed-5 : (k a b c d : ℕ) → k ≡ 5 → true ≡ inConditional image (statementOf k a b c d)
+  unfolding inConditional statementOf
+  allowed-5 k a b c d e = rw e refl
 
-  pub allowed-not : (k a b c d : ℕ) → 7 ≤ k → false ≡ inConditional image (statementOf k a b c d)
-  allowed-not k a b c d h = sym (kinds k a b c d ∙ rw (lt-ltb 0 k (omega arith), le-ltb k 7 h) refl)
+  pub allowed-6 : (k a b c d : ℕ) → k ≡ 6 → true ≡ inConditional image (statementOf k a b c d)
+  unfolding inConditional statementOf
+  allowed-6 k a b c d e = rw e refl
+
+  pub allowed-rest : (k a b c d : ℕ) → ¬ (k ≡ 1) → ¬ (k ≡ 2) → ¬ (k ≡ 3) → ¬ (k ≡ 5) → ¬ (k ≡ 6) → false ≡ inConditional image (statementOf k a b c d)
+  unfolding inConditional statementOf
+  allowed-rest zero a b c d n1 n2 n3 n5 n6 = refl
+  allowed-rest (suc zero) a b c d n1 n2 n3 n5 n6 = absurd (n1 refl)
+  allowed-rest (suc (suc zero)) a b c d n1 n2 n3 n5 n6 = absurd (n2 refl)
+  allowed-rest (suc (suc (suc zero))) a b c d n1 n2 n3 n5 n6 = absurd (n3 refl)
+  allowed-rest (suc (suc (suc (suc zero)))) a b c d n1 n2 n3 n5 n6 = refl
+  allowed-rest (suc (suc (suc (suc (suc zero))))) a b c d n1 n2 n3 n5 n6 = absurd (n5 refl)
+  allowed-rest (suc (suc (suc (suc (suc (suc zero)))))) a b c d n1 n2 n3 n5 n6 = absurd (n6 refl)
+  allowed-rest (suc (suc (suc (suc (suc (suc (suc zero))))))) a b c d n1 n2 n3 n5 n6 = refl
+  allowed-rest (suc (suc (suc (suc (suc (suc (suc (suc k)))))))) a b c d n1 n2 n3 n5 n6 = refl
 
   -- an if by its own test
   pub if-wrong : (scope s r v t : ℕ) → conditionalOk image scope s r t ≡ false → 4 ≡ conditionalFlaw image scope s r v t

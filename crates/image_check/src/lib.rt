@@ -299,7 +299,11 @@ fn in_conditional(image: &[u64], l: Layout, t: u64) -> bool
 {
     let kind = image::word(image, l.statement_at(t));
     match kind {
-        1 | 2 | 3 | 5 | 6 => true,
+        1 => true,
+        2 => true,
+        3 => true,
+        5 => true,
+        6 => true,
         _ => false,
     }
 }

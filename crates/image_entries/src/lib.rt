@@ -2,12 +2,12 @@
 use image::Layout;
 use image::refusal;
 ghost use mathlib.Core.Path.{_≡_};
-ghost use mathlib.Core.Bool.{false, cond, _&&_, _||_};
+ghost use mathlib.Core.Bool.{false, cond, _&&_};
 ghost use mathlib.Core.List.{List, [], _∷_, map};
 ghost use lib.Dec.{ltb, leb, eqb};
 ghost use lib.ListN.{length, getD};
 ghost use Prim.Native.Nat.{ℕ, _+_, _-_, _<_, _≤_, suc};
-ghost use Rattle.model.specs.Lists.{range, every, all};
+ghost use Rattle.model.specs.Lists.{range, all};
 ghost use Rattle.model.specs.Image.{word, parameter, variables, argumentSize};
 ghost use Rattle.model.specs.Check.{firstBad, gateOk, expressionOk, argumentOk, classicalArgumentOk, unused, matching, gateEntries};
 ghost use Rattle.image.specs.Limits.{mostLevels, mostParameters, mostWords, statementWords};

@@ -1,11 +1,10 @@
 -- Whether an if may hold a statement follows from its kind.
 use Prim.Native.Nat.{_+_}
-use native.Mathlib.Omega.{arith}
 use mathlib.Core.Path.{_≡_, refl}
 use denote.Ref.{now}
 use Rattle.model.specs.Image.{word, statement as statementAs, statementOf}
 use Rattle.image.proofs.KindLaws.{words-are}
-use Rattle.image_check.proofs.FlawLaws.{allowed-is, allowed-kinds, allowed-none, allowed-barrier, allowed-not}
+use Rattle.image_check.proofs.FlawLaws.{allowed-is, allowed-1, allowed-2, allowed-3, allowed-5, allowed-6, allowed-rest}
 use borrow.Author.Needs.{needs}
 use Rattle.image_check.proofs.in_conditional.Statement.{statement}
 use Rattle.image_check.proofs.in_conditional.Tie as tie
@@ -24,32 +23,45 @@ word-requires c κs = search needs
 
 returns : tie.Need-returns
 returns c =
-    let args = c .before .before .before .before .before .args in
-    allowed-is (now (args .image)) (args .t) (statement-is (c .before .before)) (allowed-kinds _ _ _ _ _ _ (c .before .if1 .left) (omega arith) (omega arith))
+    let s = c .before .before .before .before in
+    allowed-is (now (s .args .image)) (s .args .t) (statement-is (c .before)) (allowed-1 _ _ _ _ _ _ (c .match .keys1))
 
 returns-2 : tie.Need-returns-2
 returns-2 c =
-    let args = c .before .before .before .before .before .before .before .args in
-    let before = c .before .before .before .before in
-    allowed-is (now (args .image)) (args .t) (statement-is before) (allowed-kinds _ _ _ _ _ _ (c .before .before .before .if1 .left) (c .if4 .taken) (omega arith))
+    let s = c .before .before .before .before in
+    allowed-is (now (s .args .image)) (s .args .t) (statement-is (c .before)) (allowed-2 _ _ _ _ _ _ (c .match .keys2))
 
 returns-3 : tie.Need-returns-3
 returns-3 c =
-    let args = c .before .before .before .before .args in
-    allowed-is (now (args .image)) (args .t) (statement-is (c .before)) (allowed-none _ _ _ _ _ _ (c .if1 .taken))
+    let s = c .before .before .before .before in
+    allowed-is (now (s .args .image)) (s .args .t) (statement-is (c .before)) (allowed-3 _ _ _ _ _ _ (c .match .keys3))
 
 returns-4 : tie.Need-returns-4
 returns-4 c =
-    let args = c .before .before .before .before .before .before .args in
-    allowed-is (now (args .image)) (args .t) (statement-is (c .before .before .before)) (allowed-barrier _ _ _ _ _ _ (omega arith))
+    let s = c .before .before .before .before in
+    allowed-is (now (s .args .image)) (s .args .t) (statement-is (c .before)) (allowed-5 _ _ _ _ _ _ (c .match .keys4))
 
 returns-5 : tie.Need-returns-5
 returns-5 c =
-    let args = c .before .before .before .before .before .before .before .args in
-    let before = c .before .before .before .before in
-    allowed-is (now (args .image)) (args .t) (statement-is before) (allowed-not _ _ _ _ _ _ (c .if4 .left))
+    let s = c .before .before .before .before in
+    allowed-is (now (s .args .image)) (s .args .t) (statement-is (c .before)) (allowed-6 _ _ _ _ _ _ (c .match .keys5))
+
+returns-6 : tie.Need-returns-6
+returns-6 c =
+    let s = c .before .before .before .before in
+    let r = c .match .rest in
+    allowed-is (now (s .args .image)) (s .args .t) (statement-is (c .before))
+    (allowed-rest _ _ _ _ _ _ (r .0 .0 .0 .0 .1) (r .0 .0 .0 .1) (r .0 .0 .1) (r .0 .1) (r .1))
 
 pub in-conditional-spec : {M : Type 1} → statement M
 in-conditional-spec =
     tie.close
-    (tie.spec statement-at-requires word-requires returns returns-2 returns-3 returns-4 returns-5)
+    (tie.spec
+    statement-at-requires
+    word-requires
+    returns
+    returns-2
+    returns-3
+    returns-4
+    returns-5
+    returns-6)
