@@ -51,7 +51,7 @@ slice-aggregate-put-number-line c =
     let p = c .before .before in
     let q = p .before .before .before in
     let u = q .before .before in
-    tally-eleven (take (u .before .before .words-at-most .result) (u .read-words .last .0)) (q .word-at .result) (p .cowhirame-tally .ensures)
+    tally-eleven (take (u .before .before .words-at-most .result) (u .read-words .last .0)) _ (p .cowhirame-tally .ensures)
 
 put-number-line-requires : tie.Need-put-number-line-requires
 put-number-line-requires c κs =

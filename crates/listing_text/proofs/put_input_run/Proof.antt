@@ -1,14 +1,19 @@
 -- The image behind the depth is read, capped where it is too long, and its run is put.
 use native.Mathlib.Omega.{arith}
-use Prim.Native.Nat.{_-_, _/_}
+use Prim.Native.Nat.{ℕ}
+use mathlib.Core.Path.{_≡_}
 use borrow.Author.Needs.{needs}
 use denote.Ref.{now}
 use Rattle.text.proofs.PutLaws.{put-length}
-use Rattle.text.proofs.WordsOfLaws.{at-most-fits, at-most-inside, read-inside, read-length}
+use Rattle.text.proofs.WordsOfLaws.{read-inside, read-length}
 use Rattle.listing_text.proofs.InputTextLaws.{input-put}
-use lib.ListN.{length, drop, replicate}
+use lib.ListN.{length, drop, replicate, length-replicate}
 use Rattle.listing_text.proofs.put_input_run.Statement.{statement}
 use Rattle.listing_text.proofs.put_input_run.Tie as tie
+
+-- the room for the words of an image
+room : length (replicate {A = ℕ} 8193 0) ≡ 8193
+room = length-replicate {A = ℕ} 8193 0
 
 sub-words-at-most : tie.Need-sub-words-at-most
 sub-words-at-most c = search needs
@@ -23,22 +28,21 @@ read-words-requires : tie.Need-read-words-requires
 read-words-requires c κs =
     let p = c .before in
     let q = p .before .before .before in
-    let m = length (now (q .args .input)) / 8 - 1 in
-    (at-most-fits m 8193 (p .words-at-most .ensures), at-most-inside m 8193 (p .words-at-most .ensures) (now (q .args .input)) 8 (omega (arith, q .pre .1)))
+    (omega (arith, p .words-at-most .ensures, room), omega (arith, p .words-at-most .ensures, q .pre .1))
 
 array-share-prefix-image : tie.Need-array-share-prefix-image
 array-share-prefix-image c =
     let p = c .before .before in
     let q = p .before .before in
     let u = q .before .before .before in
-    read-inside (replicate 8193 0) (drop 8 (now (u .args .input))) (at-most-fits (length (now (u .args .input)) / 8 - 1) 8193 (q .words-at-most .ensures)) (p .read-words .ensures)
+    read-inside (replicate 8193 0) (drop 8 (now (u .args .input))) (omega (arith, q .words-at-most .ensures, room)) (p .read-words .ensures)
 
 slice-aggregate-put-run : tie.Need-slice-aggregate-put-run
 slice-aggregate-put-run c =
     let p = c .before .before .before in
     let q = p .before .before in
     let u = q .before .before .before in
-    read-length (replicate 8193 0) (drop 8 (now (u .args .input))) (at-most-fits (length (now (u .args .input)) / 8 - 1) 8193 (q .words-at-most .ensures)) (p .read-words .ensures)
+    read-length (replicate 8193 0) (drop 8 (now (u .args .input))) (omega (arith, q .words-at-most .ensures, room)) (p .read-words .ensures)
 
 word-at-requires : tie.Need-word-at-requires
 word-at-requires c κs = search needs
