@@ -190,48 +190,6 @@ pub fn read_contents(image: &[u64]) -> Contents
     Contents::AddUp(l)
 }
 
-// ---- places, for callers that still hand in the image
-
-// The place of a gate entry.
-pub fn gate_at(image: &[u64], l: Layout, g: u64) -> u64
-    requires { ⌜ LayoutOf (now image) l × (g ≤ mostWords) ⌝ }
-    ensures { λ r. ⌜ r ≡ gateAt (now (image .entry)) g ⌝ }
-{
-    l.gate_at(g)
-}
-
-// The place of a statement.
-pub fn statement_at(image: &[u64], l: Layout, s: u64) -> u64
-    requires { ⌜ LayoutOf (now image) l × (s ≤ mostWords) ⌝ }
-    ensures { λ r. ⌜ r ≡ statementAt (now (image .entry)) s ⌝ }
-{
-    l.statement_at(s)
-}
-
-// The place of an argument.
-pub fn argument_at(image: &[u64], l: Layout, a: u64) -> u64
-    requires { ⌜ LayoutOf (now image) l × (a ≤ mostWords) ⌝ }
-    ensures { λ r. ⌜ r ≡ argumentAt (now (image .entry)) a ⌝ }
-{
-    l.argument_at(a)
-}
-
-// The place of a parameter.
-pub fn parameter_at(image: &[u64], l: Layout, p: u64) -> u64
-    requires { ⌜ LayoutOf (now image) l × (p ≤ mostWords) ⌝ }
-    ensures { λ r. ⌜ r ≡ parameterAt (now (image .entry)) p ⌝ }
-{
-    l.parameter_at(p)
-}
-
-// The place of an expression.
-pub fn expression_at(image: &[u64], l: Layout, e: u64) -> u64
-    requires { ⌜ LayoutOf (now image) l × (e ≤ mostWords) ⌝ }
-    ensures { λ r. ⌜ r ≡ expressionAt (now (image .entry)) e ⌝ }
-{
-    l.expression_at(e)
-}
-
 // ---- tables
 
 // Stores a word of a table.
