@@ -41,9 +41,10 @@ put-records-requires : tie.Need-put-records-requires
 put-records-requires c κs =
     let p = c .before .before in
     let q = p .before .before .before in
-    let u = q .before .before .before .before .before in
-    (prefix-recorded (q .run .ensures) out-length trace-length (p .position-of .ensures),
-    lines-room (q .run .ensures) out-length trace-length (p .position-of .ensures) _ (u .pre))
+    let u = q .before .before .before .before .before in (
+      prefix-recorded (q .run .ensures) out-length trace-length (p .position-of .ensures),
+      lines-room (q .run .ensures) out-length trace-length (p .position-of .ensures) _ (u .pre),
+    )
 
 slice-aggregate-put-end : tie.Need-slice-aggregate-put-end
 slice-aggregate-put-end c = search needs
@@ -53,10 +54,11 @@ put-end-requires c κs =
     let p = c .before .before .before .before in
     let q = p .before .before .before in
     let u = q .before .before .before in
-    let v = u .before .before .before .before .before in
-    (trace-inside (u .run .ensures) out-length trace-length (q .position-of .ensures),
-    trace-short (u .run .ensures) out-length trace-length (q .position-of .ensures),
-    end-room (u .run .ensures) out-length trace-length (q .position-of .ensures) (p .put-records .ensures) (v .pre))
+    let v = u .before .before .before .before .before in (
+      trace-inside (u .run .ensures) out-length trace-length (q .position-of .ensures),
+      trace-short (u .run .ensures) out-length trace-length (q .position-of .ensures),
+      end-room (u .run .ensures) out-length trace-length (q .position-of .ensures) (p .put-records .ensures) (v .pre),
+    )
 
 returns : tie.Need-returns
 returns c =
