@@ -1,4 +1,4 @@
--- Sizes of arguments: that of one, and the largest.
+-- The size of an argument follows from its two words, and the rounds are the largest of some sizes.
 use Prim.Native.Nat.{ℕ, zero, suc, _+_, _≤_, max}
 use native.Mathlib.Omega.{arith}
 use native.Mathlib.Nat.{add-zero}
@@ -9,7 +9,7 @@ use Rattle.model.specs.Lists.{range, largest}
 use Rattle.model.specs.Image.{word, quantumRegisters, quantumRegisterAt, classicalRegisterAt, argumentAt, argumentSize, classicalArgumentSize}
 use Rattle.model.proofs.Ranges.{largest-next}
 
--- ---- the size of one
+-- ---- the size of one argument
 module _ (image : List ℕ) where
   pub size-one : (scope a : ℕ) → ¬ (scope ≡ 0) → 1 ≡ argumentSize image scope a
   unfolding argumentSize

@@ -1,4 +1,4 @@
--- What a statement is by its kind, and an expression entry by its words.
+-- What a statement is follows from its kind, and what an expression entry is from its words.
 use Prim.Native.Nat.{ℕ, _+_}
 use mathlib.Core.Path.{_≡_, refl, sym, subst, _∙_}
 use mathlib.Core.List.{List}
@@ -58,7 +58,7 @@ module _ (image : List ℕ) where
         subst (PlainFacts image scope) (sym stands)
         (no-if image scope kind (word image (at + 1)) (word image (at + 2)) (word image (at + 3)) (word image (at + 4)) h (subst (Facts image scope) stands f))
 
--- an entry by its three words
+-- an expression entry by its three words
 pub entry-is : (image : List ℕ) (e at kind a b : ℕ) → at ≡ expressionAt image e → kind ≡ word image at → a ≡ word image (at + 1) → b ≡ word image (at + 2) → expression image e ≡ expressionOf kind a b
 unfolding expression
 entry-is image e at kind a b at-is kind-is a-is b-is = rw (kind-is, a-is, b-is, at-is) refl

@@ -1,4 +1,4 @@
--- The table of first qubits or bits, one register after another.
+-- The table of where registers start grows by one register after another.
 use Prim.Native.Nat.{ℕ, _+_, _≤_, _<_, zero-le}
 use native.Mathlib.Omega.{arith}
 use mathlib.Core.Path.{_≡_, ap, _∙_}
@@ -27,6 +27,6 @@ module _ (size : ℕ → ℕ) where
   pub total-within : (i n total : ℕ) → i < n → total ≡ sum (map size (range 0 i)) → sum (map size (range 0 n)) ≤ 4096 → total + size i ≤ 4096
   total-within i n total h t m = omega (arith, sum-below size 0 n i h, ap size (zero-add i))
 
-  -- the total with one register more
+  -- the total of the sizes, with one register more
   pub total-next : (i total : ℕ) → total ≡ sum (map size (range 0 i)) → sum (map size (range 0 (i + 1))) ≡ total + size i
   total-next i total e = sum-next size 0 i ∙ omega (arith, ap size (zero-add i))

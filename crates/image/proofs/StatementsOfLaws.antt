@@ -1,4 +1,4 @@
--- The statements of a scope.
+-- The statements of main are the first ones, and those of a body stand in its gate entry.
 use Prim.Native.Nat.{ℕ, zero, suc, _+_, _-_, _≤_}
 use native.Mathlib.Omega.{arith}
 use mathlib.Core.Path.{_≡_, refl, sym, ap, _∙_}

@@ -7,6 +7,6 @@ use Rattle.model.specs.Lists.{range, sum}
 
 -- the first qubit or bit of each of n registers of some sizes, as firstQubit and firstBit say
 pub record RegisterStarts (size : ℕ → ℕ) (n : ℕ) (table : List ℕ) : Type 0 where
-  -- the table has a word for each
+  -- the table has a word for each register
   pub fits : n ≤ length table
   pub each : (r : ℕ) → r < n → getD table r 0 ≡ sum (map size (range 0 r))

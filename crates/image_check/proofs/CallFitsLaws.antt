@@ -1,4 +1,4 @@
--- A call whose numbers and runs are in range.
+-- What is known of a call whose numbers and runs are in range.
 use Prim.Native.Nat.{ℕ, _+_, _≤_}
 use native.Mathlib.Omega.{arith}
 use mathlib.Core.Path.{_≡_, sym, ap, subst, _∙_}

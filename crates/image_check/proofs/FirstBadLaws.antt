@@ -1,4 +1,4 @@
--- The first bad statement of a scope, and of all scopes in order.
+-- The first bad statement of a scope, and of all scopes, is found in order.
 use Prim.Native.Nat.{ℕ, suc, _+_, _-_, _≤_, _<_}
 use native.Mathlib.Omega.{arith}
 use mathlib.Core.Path.{_≡_, refl, sym, ap, _∙_}

@@ -1,4 +1,4 @@
--- Which of some tests fails first.
+-- The first of some tests that fails gives the number.
 use Prim.Native.Nat.{ℕ, _+_, _≤_, _<_}
 use mathlib.Core.Path.{_≡_, refl, sym, subst, _∙_}
 use mathlib.Core.Bool.{Bool, true, false, and-true}

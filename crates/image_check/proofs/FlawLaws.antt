@@ -1,4 +1,4 @@
--- What is wrong with a statement by its kind.
+-- What is wrong with a statement follows from its kind.
 use Prim.Native.Nat.{ℕ, zero, suc}
 use mathlib.Core.Path.{_≡_, refl, _∙_}
 use mathlib.Core.Bool.{Bool, true, false}

@@ -1,4 +1,4 @@
--- The flaw that the code found, by its number.
+-- The flaw that the code found follows from its number.
 use Prim.Native.Nat.{ℕ, _≤_}
 use native.Mathlib.Omega.{arith}
 use mathlib.Core.Path.{_≡_, refl, sym, _∙_}

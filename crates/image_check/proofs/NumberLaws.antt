@@ -1,4 +1,4 @@
--- The numbers that check can give: 1, then 2 to 8.
+-- The check gives the number 1, or one from 2 to 8 where the contents add up.
 use Prim.Native.Nat.{ℕ, _≤_}
 use native.Mathlib.Omega.{arith}
 use mathlib.Core.Path.{_≡_, subst}
@@ -48,7 +48,7 @@ module _ (image : List ℕ) where
       inner true t = plain-known (λ r v t. 4) scope t (λ r v t. known 4 (omega arith) (omega arith)) (statement image t)
       inner false t = known 4 (omega arith) (omega arith)
 
-  -- whatever check refuses with, once the contents are right
+  -- whatever the check refuses with where the contents add up
   pub check-known : (n p : ℕ) → contentsOk image ≡ true → check image ≡ bad n p → Known n
   unfolding quantumRegisterFlaw classicalRegisterFlaw gateFlaw
   check-known n p c e =

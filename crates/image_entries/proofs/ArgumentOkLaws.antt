@@ -1,4 +1,4 @@
--- A scope's variables, and the arguments in it: a scope that is not 0 is one more than its gate.
+-- Whether an argument is well formed in a scope, and how many variables the scope has: a scope that is not 0 is one more than its gate.
 use Prim.Native.Nat.{ℕ, zero, suc, _+_, _-_, _≤_, _<_}
 use native.Mathlib.Omega.{arith}
 use mathlib.Core.Path.{_≡_, refl, sym, ap, _∙_}
@@ -11,7 +11,7 @@ use Rattle.model.specs.Image.{word, quantumRegisters, classicalRegisters, gateA
 use Rattle.model.specs.Check.{argumentOk, classicalArgumentOk}
 
 module _ (image : List ℕ) where
-  -- ---- its gate
+  -- ---- the variables of a scope
   pub variables-main : (scope : ℕ) → scope ≡ 0 → 0 ≡ variables image scope
   unfolding variables
   variables-main scope z = rw z refl

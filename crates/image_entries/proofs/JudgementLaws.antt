@@ -58,14 +58,14 @@ module _ (x p y q : ℕ) where
             (λ i j m. omega arith);
       }
 
-  -- one is not well formed
+  -- one operand is not well formed
   pub over-left : x ≡ 0 → JudgementIs x p (λ v k. accepts x p v k && accepts y q v k)
   over-left z = over-none x p z (λ k h i j m n. omega arith)
 
   pub over-right : y ≡ 0 → JudgementIs y q (λ v k. accepts x p v k && accepts y q v k)
   over-right z = over-none y q z (λ k h i j m n. omega arith)
 
-  -- one has all the levels that there may be
+  -- one operand has all the levels that there may be
   pub over-deep : (level : ℕ) → level ≡ max x y → 32 ≤ level → JudgementIs 0 0 (λ v k. accepts x p v k && accepts y q v k)
   over-deep level d l = over-none 0 0 refl (λ k h i j m n. omega arith)
 
@@ -107,11 +107,11 @@ leaf-words (suc (suc (suc (suc j)))) a b v =
     j
 
 module _ (kind a b : ℕ) where
-  -- its third word is not 0
+  -- the entry's third word is not 0
   pub leaf-second : (b ≡ 0 → ⊥) → JudgementIs 0 0 (λ v k. wordsOk kind a b v (λ i. false))
   leaf-second h = record { right = λ v k hv hk. leaf-words kind a b v ∙ rw (ne-eqb b 0 h) (and-false (leafFits v kind a)) }
 
-  -- its second word may not stand there
+  -- the entry's second word may not stand there
   pub leaf-unfit : leafFits 16 kind a ≡ false → JudgementIs 0 0 (λ v k. wordsOk kind a b v (λ i. false))
   leaf-unfit h = record { right = λ v k hv hk. leaf-words kind a b v ∙ rw (fewer kind v hv h) refl }
     where
@@ -122,7 +122,7 @@ module _ (kind a b : ℕ) where
       fewer (suc (suc (suc zero))) v hv h = le-ltb a v (omega (arith, ltb-false a 16 h))
       fewer (suc (suc (suc (suc j)))) v hv h = refl
 
-  -- any but a variable
+  -- an entry of any leaf but a variable
   pub leaf-constant : b ≡ 0 → leafFits 16 kind a ≡ true → (kind ≡ 3 → ⊥) → JudgementIs 1 0 (λ v k. wordsOk kind a b v (λ i. false))
   leaf-constant z h n =
       record {
@@ -229,7 +229,7 @@ module _ (image : List ℕ) (e : ℕ) where
             right = λ v k hv hk. by-words v k ∙ unary-kind a b v (operandOk v k) kind l h ∙ rw (ne-eqb b 0 z) (and-false (operandOk v k a));
           }
 
-      -- over operands that the tables tell of
+      -- an operation over operands that the tables tell of
       module _ (levels variable-counts : List ℕ) (tables : JudgementTables image e levels variable-counts) where
         abbrev leveled : ℕ → ℕ
         leveled i = cond (ltb i e) (getD levels i 0) 0
@@ -269,7 +269,7 @@ module _ (image : List ℕ) (e : ℕ) where
 pub judged-none : (image levels variable-counts : List ℕ) → JudgementTables image 0 levels variable-counts
 judged-none image levels variable-counts = record { levels-fit = zero-le; variable-counts-fit = zero-le; right = λ e h. absurd (omega arith) }
 
--- one entry more
+-- the tables with one entry more
 pub judged-next : (image : List ℕ) (e level variables : ℕ) (levels variable-counts : List ℕ) → e < length levels → e < length variable-counts → JudgementTables image e levels variable-counts
     → JudgementIs level variables (λ v k. expressionOk image v (suc k) e) → JudgementTables image (e + 1) (set levels e level) (set variable-counts e variables)
 unfolding expressionOk

@@ -1,4 +1,4 @@
--- Whether sizes of arguments match.
+-- Sizes match if each one is 1 or the largest.
 use Prim.Native.Nat.{ℕ, max}
 use native.Mathlib.Omega.{arith}
 use mathlib.Core.Path.{_≡_, refl, sym, ap}

@@ -1,4 +1,4 @@
--- Entries in a list, and the words of a statement that must be 0.
+-- Whether entries lie in a list is asked without a sum, and whether words are 0 is asked one after another.
 use Prim.Native.Nat.{ℕ, _+_, _-_, _≤_, _<_}
 use native.Mathlib.Omega.{arith}
 use mathlib.Core.Path.{_≡_, refl, sym, ap, _∙_}

@@ -31,7 +31,7 @@ module _ (j kind n : ℕ) where
   unfolding weightOf
   weight-none h e = rw (le-ltb j 7 h, ne-eqb j 8 e) refl
 
-  -- the words may be cut
+  -- the words may be capped first
   pub weight-capped : capped (1 * weightOf j kind (capped n)) ≡ capped (weightOf j kind n)
   unfolding weightOf
   weight-capped = go (ltb j 7) (eqb j 8) (cond (eqb kind (suc j)) 1 0)

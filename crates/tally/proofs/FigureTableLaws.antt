@@ -1,4 +1,4 @@
--- The table as it is filled, figure by figure and gate by gate.
+-- The table is filled figure by figure and gate by gate.
 use Prim.Native.Nat.{ℕ, zero, suc, _+_, _-_, _*_, _≤_, _<_}
 use native.Mathlib.Numerals.{add-one}
 use native.Mathlib.Omega.{arith}
@@ -75,7 +75,7 @@ module _ (image : List ℕ) (n : ℕ) where
             (λ apart. tab .holds k m j e (omega arith) q);
       }
 
--- of fewer gates
+-- a table of more gates is one of fewer
 pub tabled-fewer : (image : List ℕ) (n m p : ℕ) (table : List ℕ) → p ≤ m → FigureTable image n m table → FigureTable image n p table
 tabled-fewer image n m p table h tab = record { holds = λ k g j e q r. tab .holds k g j e (omega arith) r }
 

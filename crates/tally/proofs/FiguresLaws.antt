@@ -48,7 +48,7 @@ module _ (image : List ℕ) where
       go true p = let h = ltb-true (gates image) depth p in deep-figures image acc depth (n + 1) h (omega arith)
       go false p = let h = ltb-false (gates image) depth p in level-same depth (n + 1) (omega arith)
 
--- ---- figures that are cut
+-- ---- figures that are capped
 uncapped : (l : List ℕ) → largest (map capped l) < 2 ^ 32 → map capped l ≡ l
 unfolding largest
 uncapped [] h = refl

@@ -1,4 +1,4 @@
--- Some rounds of a call: opaque, cut short, or opened.
+-- What some rounds of a call come to: of an opaque gate, of a gate that is cut, and of one whose body is opened.
 use Prim.Native.Nat.{ℕ, zero, suc, _+_, _*_, _≤_, _<_}
 use native.Mathlib.Omega.{arith}
 use mathlib.Core.Path.{_≡_, refl}

@@ -1,4 +1,4 @@
--- What statement stands at a place, by its first word, and what it comes to.
+-- What a statement that is no if comes to, and what is known of its numbers.
 use Prim.Native.Nat.{ℕ, zero, suc, _≤_}
 use native.Mathlib.Omega.{arith}
 use mathlib.Core.Path.{_≡_, refl}

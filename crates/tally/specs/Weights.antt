@@ -38,19 +38,23 @@ openingFor image j n = openingTally image (weightOf j) (entryOf j) n
 abbrev pub body : List ℕ → ℕ → ℕ → ℕ → ℕ
 body image n g j = bodyTally image (weightOf j) (entryOf j) (openingFor image j n) (suc g)
 
--- figure j, with bodies opened n deep, of a call of gate g, of a statement that is no if, of an if around statement t, of a statement, and of a scope
+-- figure j of a call of gate g, with bodies opened n deep
 abbrev pub gateFigure : List ℕ → ℕ → ℕ → ℕ → ℕ
 gateFigure image n g j = gateTally image (weightOf j) (entryOf j) (openingFor image j n) g
 
+-- figure j of a statement that is no if
 abbrev pub plainFigure : List ℕ → ℕ → ℕ → ℕ → ℕ → ℕ
 plainFigure image n scope s j = plainTally image (weightOf j) (entryOf j) (λ t. 0) (openingFor image j n) scope (statement image s)
 
+-- figure j of an if around statement t
 abbrev pub conditionalFigure : List ℕ → ℕ → ℕ → ℕ → ℕ → ℕ
 conditionalFigure image n scope t j = conditionalTally image (weightOf j) (entryOf j) (openingFor image j n) scope t
 
+-- figure j of a statement
 abbrev pub statementFigure : List ℕ → ℕ → ℕ → ℕ → ℕ → ℕ
 statementFigure image n scope s j = statementTally image (weightOf j) (entryOf j) (openingFor image j n) scope s
 
+-- figure j of the statements of a scope
 abbrev pub bodyFigure : List ℕ → ℕ → ℕ → ℕ → ℕ
 bodyFigure image n scope j = bodyTally image (weightOf j) (entryOf j) (openingFor image j n) scope
 
