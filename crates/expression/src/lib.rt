@@ -304,7 +304,7 @@ fn refusal(r: Evaluation, place: u64) -> LinearizeErrorKind
 }
 
 // Puts the angles of the n expressions that the words from a place on name in front of those given, or answers the refusal of the first that has none.
-pub fn parameters(
+pub fn parameter_values(
     image: &[u64],
     l: Layout,
     angles: &[u64; 96],

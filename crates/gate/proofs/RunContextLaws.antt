@@ -21,7 +21,7 @@ use Rattle.gate.specs.declared.Call.{Call}
 use Rattle.record_writer.specs.declared.Linearized.{Linearized}
 use Rattle.record_writer.specs.Promise.{InOutput, WroteSteps, SoundAngles}
 use Rattle.argument.specs.Frames.{scopeFrame, RoundQubits}
-use Rattle.gate.specs.RunContext.{traceWords, StatementContext, RunContext}
+use Rattle.gate.specs.RunContext.{mostTraceWords, StatementContext, RunContext}
 use Rattle.gate.specs.PlainStatement.{PlainStatement, IsCall}
 use Rattle.gate.specs.RanSteps.{RanSteps, plainSteps}
 use Rattle.gate.specs.CallStatement.{CallStatement, callSteps}
@@ -72,7 +72,7 @@ module _ {image : List ℕ} {l : Layout} {qubit-starts bit-starts : List ℕ} wh
   context-on r k e f =
       record {
         context = record { in-scope = r .context .in-scope; with-bits = r .context .with-bits; with-angles = angles-kept (r .context .with-angles .sound) (r .context) f; in-output = k .in-output };
-        trace-length = subst (λ (t : List ℕ). traceWords ≤ length t) (sym e) (r .trace-length);
+        trace-length = subst (λ (t : List ℕ). mostTraceWords ≤ length t) (sym e) (r .trace-length);
         trace-room = omega (arith, r .trace-room, k .level);
       }
 
@@ -89,7 +89,7 @@ module _ {image : List ℕ} {l : Layout} {qubit-starts bit-starts : List ℕ} wh
           with-angles = angles-kept a (r .context) f;
           in-output = rw d (record { inside = lo .in-output .inside; fewer = lo .in-output .fewer });
         };
-        trace-length = subst (λ (x : List ℕ). traceWords ≤ length x) (sym t) (r .trace-length);
+        trace-length = subst (λ (x : List ℕ). mostTraceWords ≤ length x) (sym t) (r .trace-length);
         trace-room = omega (arith, r .trace-room, c .downward, ap (λ (x : Position). x .trace) d);
       }
 

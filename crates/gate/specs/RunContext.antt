@@ -19,8 +19,8 @@ nested zero = mostNested
 nested (suc g) = g
 
 -- the words of a trace that has room for every call: two for each
-abbrev pub traceWords : ℕ
-traceWords = 2 * mostNested
+abbrev pub mostTraceWords : ℕ
+mostTraceWords = 2 * mostNested
 
 -- where a statement is run that opens no gate: the tables tell where the registers start, the frame has its qubits and angles,
 -- the values kept are those of constants, and the position lies in the output
@@ -33,5 +33,5 @@ pub record StatementContext (image : List ℕ) (l : Layout) (qubit-starts bit-st
 -- where any statement is run: the trace has room for every call that may nest, too
 pub record RunContext (image : List ℕ) (l : Layout) (qubit-starts bit-starts kept-values : List ℕ) (scope : ℕ) (angles qubits out trace : List ℕ) (at : Position) : Type 0 where
   pub context : StatementContext image l qubit-starts bit-starts kept-values scope angles qubits out at
-  pub trace-length : traceWords ≤ length trace
-  pub trace-room : at .trace + 2 * nested scope ≤ traceWords
+  pub trace-length : mostTraceWords ≤ length trace
+  pub trace-room : at .trace + 2 * nested scope ≤ mostTraceWords

@@ -259,7 +259,7 @@ fn visit_gate(
 {
     let call = call_at(image, l, s);
     let mut given_angles = [0u64; 96];
-    match expression::parameters(
+    match expression::parameter_values(
         image,
         l,
         angles,

@@ -142,7 +142,7 @@ pub fn word_after(image: &[u64], place: u64, i: u64) -> u64
 }
 
 // A count of the contents, capped where it passes any image's length.
-fn count(image: &[u64], place: u64) -> u64
+fn capped_count(image: &[u64], place: u64) -> u64
     ensures { λ r. ⌜ r ≡ min (word (now (image .entry)) place) 8193 ⌝ }
 {
     let n = word(image, place);
@@ -153,16 +153,16 @@ fn count(image: &[u64], place: u64) -> u64
 fn counts(image: &[u64]) -> Layout
     ensures { λ r. ⌜ CappedCounts (now (image .entry)) r ⌝ }
 {
-    let main = count(image, 4);
+    let main = capped_count(image, 4);
     Layout {
-        quantum_registers: count(image, 1),
-        classical_registers: count(image, 2),
-        gates: count(image, 3),
+        quantum_registers: capped_count(image, 1),
+        classical_registers: capped_count(image, 2),
+        gates: capped_count(image, 3),
         main_statements: main,
-        statements: main + count(image, 5),
-        arguments: count(image, 6),
-        parameters: count(image, 7),
-        expressions: count(image, 8),
+        statements: main + capped_count(image, 5),
+        arguments: capped_count(image, 6),
+        parameters: capped_count(image, 7),
+        expressions: capped_count(image, 8),
     }
 }
 

@@ -414,7 +414,7 @@ fn first_bad_judged(image: &[u64], l: Layout, levels: &[u64], variables: &[u64])
 }
 
 // The tables of a few expressions have this length: a small program should not pay for clearing the long ones.
-const FEW_EXPRESSIONS: usize = 128;
+pub const FEW_EXPRESSIONS: usize = 128;
 
 // The first bad statement, with tables for a few expressions.
 fn first_bad_few_expressions(image: &[u64], l: Layout) -> Flaw

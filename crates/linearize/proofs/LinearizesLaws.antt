@@ -34,7 +34,7 @@ use Rattle.linearize.specs.Linearizes.{refusedWith, Linearizes}
 
 -- the claims of every run, said of the slices as they are left
 module _ (image : List ℕ) (depth : ℕ) (out trace : List ℕ) {r : Linearized} {out′ trace′ : List ℕ} where
-  pub linearizes : promise.outcomeOf r out′ trace′ ≡ linearize image depth out trace → Linearizes image depth out trace r out′ trace′
+  pub linearizes : promise.answerOutcome r out′ trace′ ≡ linearize image depth out trace → Linearizes image depth out trace r out′ trace′
   linearizes e =
       let c : Claims image depth out trace = claims image depth out trace in
       let found : Outcome → List (List ℕ) = λ o. recordsIn (take (o .outputWords) (o .outputLeft)) in

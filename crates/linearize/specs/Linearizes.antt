@@ -25,8 +25,8 @@ module _ (r : Linearized) (out trace : List ℕ) where
   abbrev pub answered : Answer
   answered = runAnswerOf r (take (positionOf r .trace) trace)
 
-  abbrev pub outcomeOf : Outcome
-  outcomeOf =
+  abbrev pub answerOutcome : Outcome
+  answerOutcome =
       record {
         answer = answered;
         records = positionOf r .records;
@@ -46,7 +46,7 @@ module _ (r : Linearized) (out trace : List ℕ) where
 -- of an image, a depth and the slices as they were lent: an answer, and the slices as they are left
 pub record Linearizes (image : List ℕ) (depth : ℕ) (out trace : List ℕ) (r : Linearized) (out′ trace′ : List ℕ) : Type 0 where
   -- answer, counts, output and trace are the definition's; words that need not be touched are as they were
-  pub outcome : outcomeOf r out′ trace′ ≡ linearize image depth out trace
+  pub outcome : answerOutcome r out′ trace′ ≡ linearize image depth out trace
   -- what is written is what the tally said: of each kind no more, and as many where the run finished
   pub tallied : (k : ℕ) → count k (recordsFound r out′ trace′) ≤ recordFigure image depth k
   pub exactly : answered r out′ trace′ ≡ done → (k : ℕ) → count k (recordsFound r out′ trace′) ≡ recordFigure image depth k

@@ -10,7 +10,7 @@ use Rattle.image.specs.Layout.{LayoutOf}
 use Rattle.image.specs.RegisterStarts.{RegisterStarts}
 use Rattle.record_writer.specs.declared.Position.{Position}
 use Rattle.record_writer.specs.Promise.{InOutput}
-use Rattle.gate.specs.RunContext.{traceWords}
+use Rattle.gate.specs.RunContext.{mostTraceWords}
 
 -- the most expressions of a program that has few
 abbrev pub fewExpressions : ℕ
@@ -25,7 +25,7 @@ pub record StartContext (image : List ℕ) (l : Layout) (out trace : List ℕ) (
   pub laid : LayoutOf image l
   pub accepted : Accepted image
   pub in-output : InOutput out at
-  pub trace-length : traceWords ≤ length trace
+  pub trace-length : mostTraceWords ≤ length trace
   pub no-calls : at .trace ≡ 0
 
 -- where the main statements are run: the tables tell where the registers start, too

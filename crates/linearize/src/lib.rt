@@ -18,10 +18,7 @@ ghost use Rattle.linearize.specs.MainStatement.{MainStatement, IsConditi
 ghost use Rattle.linearize.specs.Linearizes.{refusedWith, Linearizes};
 
 // The words of a trace that is long enough for any run: two for each call, and a call goes to a gate of smaller number.
-const TRACE_WORDS: usize = 2 * (image::MOST_GATES as usize);
-
-// The most expressions of a program that has few.
-const FEW_EXPRESSIONS: usize = 128;
+pub const TRACE_WORDS: usize = 2 * (image::MOST_GATES as usize);
 
 // The most quantum, and the most classical, registers of a program that has few.
 const FEW_REGISTERS: usize = 64;
@@ -260,7 +257,7 @@ fn visit_few_expressions(
         (now (out .entry)) at (now (trace .entry)) r (now (out .exit)) (now (trace .exit))
         ⌝ }
 {
-    let mut kept_values = [0u64; KEPT_VALUE_WORDS * FEW_EXPRESSIONS];
+    let mut kept_values = [0u64; KEPT_VALUE_WORDS * image_check::FEW_EXPRESSIONS];
     visit_program(
         image,
         l,
@@ -322,7 +319,7 @@ fn visit_with_kept_values(
         (now (out .entry)) at (now (trace .entry)) r (now (out .exit)) (now (trace .exit))
         ⌝ }
 {
-    if l.expressions <= FEW_EXPRESSIONS as u64 {
+    if l.expressions <= image_check::FEW_EXPRESSIONS as u64 {
         return visit_few_expressions(
             image,
             l,

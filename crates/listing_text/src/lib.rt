@@ -17,10 +17,8 @@ ghost use Rattle.text.specs.RecordLine.{recordLine};
 ghost use Rattle.listing_text.specs.EndText.{WordsOfRecords, endText};
 ghost use Rattle.listing_text.specs.InputText.{inputText, ListingInFront};
 
-// The words of the output and of the trace that a listing has room for.
+// The words of the output that a listing has room for.
 const OUTPUT_WORDS: usize = 8192;
-
-const TRACE_WORDS: usize = 256;
 
 // Puts the lines of all records of some words.
 fn put_records(text: &mut [u8], at: usize, words: &[u64]) -> usize
@@ -100,7 +98,7 @@ fn put_run(text: &mut [u8], image: &[u64], depth: u64) -> usize
     ensures { λ n. ⌜ Put (runText (runs (now (image .entry)) depth 8192 256)) (now (text .entry)) 0 n (now (text .exit)) ⌝ }
 {
     let mut out = [0u64; OUTPUT_WORDS];
-    let mut trace = [0u64; TRACE_WORDS];
+    let mut trace = [0u64; linearize::TRACE_WORDS];
     let r = unit::run(image, depth, &mut out, &mut trace);
     let written = unit::position_of(r);
     let n = written.words as usize;

@@ -38,7 +38,7 @@ pub enum Tallied {
 }
 
 // The first figure that is refused: what passes it is capped to it.
-const LIMIT: u64 = 0x1_0000_0000;
+const FIGURE_LIMIT: u64 = 0x1_0000_0000;
 
 // How many figures there are, which is how long a row of the table is.
 const FIGURES: u64 = 9;
@@ -96,7 +96,11 @@ fn capped_sum(a: u64, b: u64) -> u64
     requires { ⌜ a ≤ 2 ^ 32 ⌝ }
     ensures { λ r. ⌜ r ≡ capped (a + b) ⌝ }
 {
-    if b < LIMIT - a { a + b } else { LIMIT }
+    if b < FIGURE_LIMIT - a {
+        a + b
+    } else {
+        FIGURE_LIMIT
+    }
 }
 
 // A figure times k, capped.
@@ -106,7 +110,11 @@ fn capped_product(k: u64, a: u64) -> u64
     if a == 0 {
         return 0;
     }
-    if k <= LIMIT / a { k * a } else { LIMIT }
+    if k <= FIGURE_LIMIT / a {
+        k * a
+    } else {
+        FIGURE_LIMIT
+    }
 }
 
 // What a record adds to figure j in some rounds.
@@ -468,7 +476,7 @@ fn accepted_tally(image: &[u64], l: Layout, depth: u64) -> Tallied
     let n = opened_levels(depth, l.gates);
     let table = opened_table(image, l, n);
     let figures = nine_figures(image, l, &table, n);
-    if largest_figure(figures) < LIMIT {
+    if largest_figure(figures) < FIGURE_LIMIT {
         Tallied::Figures(figures)
     } else {
         Tallied::TooLarge

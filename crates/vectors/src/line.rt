@@ -60,7 +60,7 @@ fn digit(b: u8) -> u64
 }
 
 // The digits from `at` on: at least one, and a number below 2^64.
-pub fn digits(text: &[u8], at: usize) -> Decimal {
+pub fn read_digits(text: &[u8], at: usize) -> Decimal {
     let mut n = 0u64;
     let mut i = at;
     while i < text.len() {
@@ -86,7 +86,7 @@ pub fn digits(text: &[u8], at: usize) -> Decimal {
 fn number_behind_space(text: &[u8], at: usize) -> Decimal {
     if at < text.len() {
         if text[at] == b' ' {
-            return digits(text, at + 1);
+            return read_digits(text, at + 1);
         }
     }
     Decimal::Malformed
@@ -95,7 +95,7 @@ fn number_behind_space(text: &[u8], at: usize) -> Decimal {
 // The k-th number of a line: no space stands before the first.
 fn leading_number(text: &[u8], at: usize, k: usize) -> Decimal {
     if k == 0 {
-        return digits(text, at);
+        return read_digits(text, at);
     }
     number_behind_space(text, at)
 }
@@ -118,7 +118,7 @@ fn read_leading(text: &[u8], leading: &mut [u64]) -> Leading {
 
 // So many copies of the word that begins at `at`.
 fn copies(text: &[u8], at: usize, count: u64) -> EqualWords {
-    let read = digits(text, at);
+    let read = read_digits(text, at);
     match read {
         Decimal::Number(word, end) => EqualWords::Words(count, word, end),
         Decimal::Malformed => EqualWords::Malformed,

@@ -46,11 +46,11 @@ fn signed_number(text: &[u8], at: usize, k: usize) -> Field {
     if at < text.len() {
         if text[at] == b'-' {
             if may_have_a_sign(k) {
-                return with_sign(true, line::digits(text, at + 1));
+                return with_sign(true, line::read_digits(text, at + 1));
             }
         }
     }
-    with_sign(false, line::digits(text, at))
+    with_sign(false, line::read_digits(text, at))
 }
 
 // The byte after the k-th number.

@@ -15,13 +15,10 @@ ghost use Rattle.rational.specs.Rational.{LowestTerms};
 ghost use Rattle.value.specs.Value.{Sound};
 
 // A case with the four numbers of a result, or operands that the operation does not take.
-enum Outcome {
+enum NumberResult {
     Result(u64, Value),
     Unfit,
 }
-
-// The first magnitude out of range.
-const LIMIT: u64 = 0x8000_0000_0000_0000;
 
 fn in_lowest_terms(x: Rational64) -> bool
     ensures { λ r. ⌜ (r ≡ true → LowestTerms x) ⌝ }
@@ -32,8 +29,8 @@ fn in_lowest_terms(x: Rational64) -> bool
         }
     }
     if 0 < x.denom {
-        if x.denom < LIMIT {
-            if x.numer < LIMIT {
+        if x.denom < rational::MAGNITUDE_LIMIT {
+            if x.numer < rational::MAGNITUDE_LIMIT {
                 return rational::gcd(x.numer, x.denom) == 1;
             }
         }
@@ -53,8 +50,8 @@ fn is_sound(x: Value) -> bool
 }
 
 // A result of one number: the other three are 0.
-fn one_number(case: u64, n: u64) -> Outcome {
-    Outcome::Result(
+fn one_number(case: u64, n: u64) -> NumberResult {
+    NumberResult::Result(
         case,
         Value {
             a: Rational64 {
@@ -71,13 +68,13 @@ fn one_number(case: u64, n: u64) -> Outcome {
     )
 }
 
-fn float_result(case: u64, x: f32) -> Outcome {
+fn float_result(case: u64, x: f32) -> NumberResult {
     one_number(case, float::f32_to_bits(x) as u64)
 }
 
-fn evaluation_result(e: Evaluation) -> Outcome {
+fn evaluation_result(e: Evaluation) -> NumberResult {
     match e {
-        Evaluation::Value(v) => Outcome::Result(0, v),
+        Evaluation::Value(v) => NumberResult::Result(0, v),
         Evaluation::DivideByZero => one_number(9, 0),
         Evaluation::ApproximateFail(f) => float_result(10, f),
         Evaluation::Overflow => one_number(11, 0),
@@ -106,7 +103,7 @@ fn evaluated(op: u64, x: Value, y: Value) -> Evaluation
 }
 
 // Operations 1 to 13, on angles.
-fn angles_result(op: u64, x: Value, y: Value) -> Outcome {
+fn angles_result(op: u64, x: Value, y: Value) -> NumberResult {
     if is_sound(x) {
         if is_sound(y) {
             if op == 13 {
@@ -115,22 +112,22 @@ fn angles_result(op: u64, x: Value, y: Value) -> Outcome {
             return evaluation_result(evaluated(op, x, y));
         }
     }
-    Outcome::Unfit
+    NumberResult::Unfit
 }
 
-fn word_result(word: u64) -> Outcome {
+fn word_result(word: u64) -> NumberResult {
     if word < 0x1_0000_0000 {
         return evaluation_result(Value::from_float(float::f32_from_bits(word)));
     }
-    Outcome::Unfit
+    NumberResult::Unfit
 }
 
-fn root_result(k: u64, v: u64) -> Outcome {
+fn root_result(k: u64, v: u64) -> NumberResult {
     if k < 2 {
-        return Outcome::Unfit;
+        return NumberResult::Unfit;
     }
-    if v >= LIMIT {
-        return Outcome::Unfit;
+    if v >= rational::MAGNITUDE_LIMIT {
+        return NumberResult::Unfit;
     }
     let root = rational::int_root(v, k);
     let WholeRoot::Whole(r) = root else {
@@ -140,19 +137,19 @@ fn root_result(k: u64, v: u64) -> Outcome {
 }
 
 // Operations 14 to 17, on plain numbers.
-fn numbers_result(op: u64, n: u64, m: u64) -> Outcome {
+fn numbers_result(op: u64, n: u64, m: u64) -> NumberResult {
     match op {
         14 => word_result(n),
         15 => float_result(0, float::nearest_f32(n)),
         16 => one_number(0, rational::gcd(n, m)),
         17 => root_result(n, m),
-        _ => Outcome::Unfit,
+        _ => NumberResult::Unfit,
     }
 }
 
-fn computed(op: u64, x: Value, y: Value) -> Outcome {
+fn computed(op: u64, x: Value, y: Value) -> NumberResult {
     if op == 0 {
-        return Outcome::Unfit;
+        return NumberResult::Unfit;
     }
     if op <= 13 {
         return angles_result(op, x, y);
@@ -160,10 +157,10 @@ fn computed(op: u64, x: Value, y: Value) -> Outcome {
     let n = x.a;
     let m = y.a;
     if n.negative {
-        return Outcome::Unfit;
+        return NumberResult::Unfit;
     }
     if m.negative {
-        return Outcome::Unfit;
+        return NumberResult::Unfit;
     }
     numbers_result(op, n.numer, m.numer)
 }
@@ -185,7 +182,7 @@ fn agrees(v: Vector) -> bool {
     let y = v.y;
     let expected = v.result;
     let outcome = computed(v.op, x, y);
-    let Outcome::Result(case, result) = outcome else {
+    let NumberResult::Result(case, result) = outcome else {
         return false;
     };
     if case == v.case {

@@ -36,8 +36,6 @@ const TRACE_SUM: usize = 11;
 // The last number that the check answers, and that of a trace that is too short.
 const LAST_OF_CHECK: u64 = 8;
 
-const SHORT_TRACE: u64 = 15;
-
 // The longest output and the longest trace that a line lends.
 const OUTPUT_ROOM: u64 = 81920;
 
@@ -162,7 +160,7 @@ fn answers(answer: &[u64; 6], leading: &[u64; 12]) -> bool {
 // Whether the check answers what a line says of it: its number and place where the run has them, and otherwise that the image is
 // accepted. A trace that is too short comes before it.
 fn check_agrees(image: &[u64], leading: &[u64; 12]) -> bool {
-    if leading[NUMBER] == SHORT_TRACE {
+    if leading[NUMBER] == image::refusal::SHORT_TRACE {
         return true;
     }
     let mut checked = [0u64; 2];

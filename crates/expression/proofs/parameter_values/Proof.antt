@@ -12,8 +12,8 @@ use Rattle.expression.specs.KeptValues.{ConstantsKept}
 use Rattle.expression.proofs.EntryLaws.{inside, no-value}
 use Rattle.expression.proofs.AnglesLaws.{angles-put}
 use Rattle.expression.proofs.ParameterLaws.{Front, front-none, front-next, front-done, front-refuses}
-use Rattle.expression.proofs.parameters.Statement.{statement}
-use Rattle.expression.proofs.parameters.Tie as tie
+use Rattle.expression.proofs.parameter_values.Statement.{statement}
+use Rattle.expression.proofs.parameter_values.Tie as tie
 
 abbrev Inv-loop : tie.InvT-loop
 Inv-loop image l angles kept₀ place n given₀ at i₀ kept given i = (i ≤ n) × Front image (anglesIn angles) (λ k. word image (place + k)) i (anglesIn given) × ConstantsKept image kept × (length kept ≡ length kept₀) × (length given ≡ length given₀)
@@ -120,8 +120,8 @@ returns-2 c =
     let l = c .before in
     (front-done (now (a .image)) (anglesIn (now (a .angles))) (λ k. word (now (a .image)) (a .place + k)) (l .loop .i) (a .n) _ (a .at) (l .loop .inv .0) (c .loop-test .left) (l .loop .inv .1), l .loop .inv .2)
 
-pub parameters-spec : {M : Type 1} → statement M
-parameters-spec =
+pub parameter-values-spec : {M : Type 1} → statement M
+parameter-values-spec =
     tie.close
     (tie.spec
     Inv-loop

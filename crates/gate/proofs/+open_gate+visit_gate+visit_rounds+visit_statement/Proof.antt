@@ -23,7 +23,7 @@ use Rattle.gate.proofs.RunContextLaws.{kind-read, primitive-steps, call
 use Prim.Native.Nat.{ℕ, _<_}
 use borrow.Fn.Kinds.{In}
 use borrow.Fn.PlainCycle.{Measures, is, falls, and}
-use Rattle.expression.proofs.parameters.Reads as parameters-reads
+use Rattle.expression.proofs.parameter_values.Reads as parameter-values-reads
 use Rattle.argument.proofs.qubits_in_round.Reads as qubits-in-round-reads
 use Rattle.statement.proofs.visit_opaque.Reads as visit-opaque-reads
 use Rattle.image.proofs.rounds_of.Reads as rounds-of-reads
@@ -114,7 +114,7 @@ abbrev open-gate-callees : ℕ → open-gate-lts.Claims
 open-gate-callees t = (write-cut-gate-reads.Asked, write-cut-gate-reads.Learnt, statements-of-reads.Asked, statements-of-reads.Learnt, visit-statement-below t, visit-statement.Post)
 
 abbrev visit-gate-callees : ℕ → visit-gate-lts.Claims
-visit-gate-callees t = (call-at-reads.Asked, call-at-reads.Learnt, parameters-reads.Asked, parameters-reads.Learnt, visit-rounds-below t, visit-rounds.Post)
+visit-gate-callees t = (call-at-reads.Asked, call-at-reads.Learnt, parameter-values-reads.Asked, parameter-values-reads.Learnt, visit-rounds-below t, visit-rounds.Post)
 
 abbrev visit-rounds-callees : ℕ → visit-rounds-lts.Claims
 visit-rounds-callees t = (angles-in-reads.Asked, angles-in-reads.Learnt, visit-opaque-reads.Asked, visit-opaque-reads.Learnt, rounds-of-reads.Asked, rounds-of-reads.Learnt, qubits-in-round-reads.Asked, qubits-in-round-reads.Learnt, with-trace-words-reads.Asked, with-trace-words-reads.Learnt, open-gate-below t, open-gate.Post, statement-at-reads.Asked, statement-at-reads.Learnt, write-trace-pair-reads.Asked, write-trace-pair-reads.Learnt)
@@ -248,8 +248,8 @@ visit-gate-call-at-requires t c κs =
 visit-gate-slice-aggregate-parameters : (t : ℕ) → visit-gate-lts.Need-slice-aggregate-parameters (visit-gate-callees t) (visit-gate-at t) visit-gate.Post
 visit-gate-slice-aggregate-parameters t c = search needs
 
-visit-gate-parameters-requires : (t : ℕ) → visit-gate-lts.Need-parameters-requires (visit-gate-callees t) (visit-gate-at t) visit-gate.Post
-visit-gate-parameters-requires t c κs =
+visit-gate-parameter-values-requires : (t : ℕ) → visit-gate-lts.Need-parameter-values-requires (visit-gate-callees t) (visit-gate-at t) visit-gate.Post
+visit-gate-parameter-values-requires t c κs =
     let pre = c .before .before .before .before .before .before .before .before .before .pre in
     let args = c .before .before .before .before .before .before .before .before .before .args in
     let call-at = c .before .before .call-at .ensures in
@@ -261,7 +261,7 @@ visit-gate-enum-known-position t c = search needs
 visit-gate-visit-rounds-requires : (t : ℕ) → visit-gate-lts.Need-visit-rounds-requires (visit-gate-callees t) (visit-gate-at t) visit-gate.Post
 visit-gate-visit-rounds-requires t c κs =
     let pre = c .before .before .before .before .before .before .before .before .before .before .before .before .before .before .before .before .before .before .before .pre in
-    let worked-out = c .before .before .before .before .before .before .before .before .before .parameters .ensures in
+    let worked-out = c .before .before .before .before .before .before .before .before .before .parameter-values .ensures in
     let g = rw (c .before .before .before .before .position .given .1) at (worked-out .0 .ends) in
     (omega (arith, pre .0), (context-called (pre .1 .0) (worked-out .1) (worked-out .0 .sound) (g .0), calls (pre .1 .0 .context .in-scope) _ (pre .1 .2) (pre .1 .1) (c .before .before .before .before .before .before .before .before .before .before .before .before .call-at .ensures)))
 
@@ -286,7 +286,7 @@ visit-gate-returns t c =
     let args = c .before .before .before .before .before .before .before .before .before .before .before .before .before .before .before .before .before .before .before .before .before .before .before .before .before .before .args in
     let call-at = c .before .before .before .before .before .before .before .before .before .before .before .before .before .before .before .before .before .before .before .call-at .ensures in
     let call-at-2 = c .before .before .before .before .before .before .before .before .before .before .before .before .before .before .before .before .before .before .before .call-at in
-    let parameters = c .before .before .before .before .before .before .before .before .before .before .before .before .before .before .before .before .parameters .ensures in
+    let parameters = c .before .before .before .before .before .before .before .before .before .before .before .before .before .before .before .before .parameter-values .ensures in
     let position = c .before .before .before .before .before .before .before .before .before .before .before .position in
     let visit-rounds = c .before .before .before .before .before .before .visit-rounds .ensures in
     let g = rw (position .given .1) at (parameters .0 .ends) in (rw (gate-given (pre .1 .0 .context .in-scope) _ (pre .1 .2) call-at _ _ (named-listed (pre .1 .0 .context .in-scope) _ (pre .1 .2) (pre .1 .1) call-at) (g .1)) (ran-steps (call-frame _ _ _ (anglesIn (now (args .angles))) _ (call-at-2 .result) _) (rw (g .0) at (visit-rounds .0))), visit-rounds .1)
@@ -298,7 +298,7 @@ visit-gate-returns-2 : (t : ℕ) → visit-gate-lts.Need-returns-2 (visit-gate-c
 visit-gate-returns-2 t c =
     let pre = c .before .before .before .before .before .before .before .before .before .before .before .before .before .before .before .before .pre in
     let call-at = c .before .before .before .before .before .before .before .before .before .call-at .ensures in
-    let parameters = c .before .before .before .before .before .before .parameters .ensures in
+    let parameters = c .before .before .before .before .before .before .parameter-values .ensures in
     let g = rw (c .before .e .given .1) at (parameters .0 .ends) in (wrote-ran _ (rw (gate-refused (pre .1 .0 .context .in-scope) _ (pre .1 .2) call-at _ _ (named-listed (pre .1 .0 .context .in-scope) _ (pre .1 .2) (pre .1 .1) call-at) (g .1 .1)) (refuses _ _ (g .0) (g .1 .2) (pre .1 .0 .context .in-output))), parameters .1)
 
 abbrev visit-rounds-Inv-loop : visit-rounds-lts.InvT-loop
@@ -525,7 +525,7 @@ pub +open-gate+visit-gate+visit-rounds+visit-statement-spec : {M : Type 1} → s
     visit-gate.Post
     (visit-gate-call-at-requires t)
     (visit-gate-slice-aggregate-parameters t)
-    (visit-gate-parameters-requires t)
+    (visit-gate-parameter-values-requires t)
     (visit-gate-enum-known-position t)
     (visit-gate-visit-rounds-requires t)
     (visit-gate-enum-known-e t)
