@@ -2,8 +2,8 @@
 use Prim.Native.Nat.{_-_}
 use borrow.Author.Needs.{needs}
 use lib.ListN.{length}
-use Rattle.vectors.proofs.line.digits.Statement.{statement}
-use Rattle.vectors.proofs.line.digits.Tie as tie
+use Rattle.vectors.proofs.line.read_digits.Statement.{statement}
+use Rattle.vectors.proofs.line.read_digits.Tie as tie
 
 abbrev Inv-loop : tie.InvT-loop
 Inv-loop text at n₀ i₀ n i = Unit {0}
@@ -47,8 +47,8 @@ returns-2 c = search needs
 returns-3 : tie.Need-returns-3 Inv-loop μ-loop
 returns-3 c = search needs
 
-pub digits-spec : {M : Type 1} → statement M
-digits-spec =
+pub read-digits-spec : {M : Type 1} → statement M
+read-digits-spec =
     tie.close
     (tie.spec
     Inv-loop
