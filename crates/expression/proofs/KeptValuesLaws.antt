@@ -44,11 +44,11 @@ pub kept-constant : (image t : List ℕ) (e : ℕ) → ConstantsKept image t →
 kept-constant image t e f h m xs ys = f .each e h m xs ∙ sym (f .each e h m ys)
 
 module _ (image : List ℕ) (angles : List Value) where
-  pub keeps-none : (t : List ℕ) → expressions image ≤ 2728 → ConstantsKept image t → ValuesKept image angles (replicate 2728 false) t
+  pub keeps-none : (t : List ℕ) → expressions image ≤ 2727 → ConstantsKept image t → ValuesKept image angles (replicate 2727 false) t
   keeps-none t few f = record { constants = f; each = λ e l k. absurd (none e l k); sound = λ e l k. absurd (none e l k) }
     where
-      none : (e : ℕ) → e < expressions image → getD (replicate 2728 false) e false ≡ true → ⊥
-      none e l k = subst T (sym (sym (getD-replicate 2728 e false false (omega arith)) ∙ k)) tt
+      none : (e : ℕ) → e < expressions image → getD (replicate 2727 false) e false ≡ true → ⊥
+      none e l k = subst T (sym (sym (getD-replicate 2727 e false false (omega arith)) ∙ k)) tt
 
   -- a value that is known, or a constant's, is an entry's
   pub known-value : (known : List Bool) (t : List ℕ) (e : ℕ) (x : Value) → ValuesKept image angles known t → e < expressions image → getD known e false ≡ true → x ≡ keptAt t e → EvaluatesTo (evaluate image angles 32 e) (evaluation.Value x)

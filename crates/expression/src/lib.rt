@@ -16,6 +16,7 @@ ghost use Rattle.value.specs.Promise.{EvaluatesTo};
 ghost use Rattle.model.specs.Evaluate.{evaluate, zeroValue};
 ghost use Rattle.model.specs.Steps.{parameterValues};
 ghost use Rattle.record_writer.specs.Promise.{SoundAngles};
+ghost use Rattle.image.specs.Limits.{mostExpressions};
 ghost use Rattle.image.specs.Layout.{LayoutOf};
 ghost use Rattle.expression.specs.Angles.{denominatorOf, fractionAt, signWord, putFraction, valueAt, putValue, anglesIn};
 ghost use Rattle.expression.specs.KeptValues.{Constant, ConstantsKept, ValueStored, ValuesKept, AngleContext, Evaluated};
@@ -144,8 +145,8 @@ fn unary(kind: u64, x: Value) -> Evaluation
 // ---- values that are kept: a constant is worked out once in a run, any other operand once in an expression
 
 // Keeps a value as that of an entry, which is known from then on.
-fn keep_value(known: &mut [bool; 2728], kept_values: &mut [u64], e: u64, x: Value)
-    requires { ⌜ (e < 2728) × (7 * e + 6 < length (now «kept_values»)) × Sound x ⌝ }
+fn keep_value(known: &mut [bool; image::MOST_EXPRESSIONS], kept_values: &mut [u64], e: u64, x: Value)
+    requires { ⌜ (e < mostExpressions) × (7 * e + 6 < length (now «kept_values»)) × Sound x ⌝ }
     ensures { λ r. ⌜ ValueStored (now (known .entry)) (now («kept_values» .entry)) e x (now (known .exit)) (now («kept_values» .exit)) ⌝ }
 {
     put_value(kept_values, 7 * e + 1, x);
@@ -179,7 +180,7 @@ fn worked_out(
     image: &[u64],
     l: Layout,
     angles: &[u64; 96],
-    known: &mut [bool; 2728],
+    known: &mut [bool; image::MOST_EXPRESSIONS],
     kept_values: &mut [u64],
     e: u64,
 ) -> Evaluation
@@ -217,7 +218,7 @@ fn evaluate(
     image: &[u64],
     l: Layout,
     angles: &[u64; 96],
-    known: &mut [bool; 2728],
+    known: &mut [bool; image::MOST_EXPRESSIONS],
     kept_values: &mut [u64],
     e: u64,
 ) -> Evaluation
@@ -266,7 +267,7 @@ fn evaluate_anew(
     if image::word(image, at) == 3 {
         return nullary(angles, 3, image::word(image, at + 1));
     }
-    let mut known = [false; 2728];
+    let mut known = [false; image::MOST_EXPRESSIONS];
     evaluate(image, l, angles, &mut known, kept_values, e)
 }
 

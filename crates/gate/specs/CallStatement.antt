@@ -8,6 +8,7 @@ use Rattle.model.specs.Image.{word, statementAt, parameterAt, gateParameters, g
 use Rattle.model.specs.Steps as Steps
 use Rattle.model.specs.Steps.{Step, inRounds, visitGate, opening}
 use Rattle.image.specs.declared.Layout.{Layout}
+use Rattle.image.specs.Limits.{mostParameters}
 use Rattle.gate.specs.declared.Call.{Call}
 use Rattle.argument.specs.Frames.{CallArguments}
 use Rattle.gate.specs.RunContext.{nested}
@@ -33,7 +34,7 @@ pub record CallStatement (image : List ℕ) (l : Layout) (scope : ℕ) (call : C
   pub listed : call .statement < l .statements
   pub gate-listed : call .gate < l .gates
   pub downward : call .gate < nested scope
-  pub few-parameters : call .parameters ≤ 16
+  pub few-parameters : call .parameters ≤ mostParameters
   pub arguments-fit : CallArguments image l scope (call .argument) (call .arguments)
 
 -- the rounds of a call, with the angles of its gate

@@ -3,24 +3,21 @@ use Prim.Native.Nat.{ℕ, zero, suc, _+_, _*_, _≤_}
 use mathlib.Core.List.{List}
 use lib.ListN.{length}
 use Rattle.image.specs.declared.Layout.{Layout}
+use Rattle.image.specs.Limits.{mostGates}
 use Rattle.record_writer.specs.declared.Position.{Position}
 use Rattle.record_writer.specs.Promise.{InOutput}
 use Rattle.expression.specs.Angles.{anglesIn}
 use Rattle.expression.specs.KeptValues.{AngleContext}
 use Rattle.argument.specs.Frames.{ScopeContext, BitContext}
 
--- as many calls nest at most as an image has gates
-abbrev pub mostNested : ℕ
-mostNested = 128
-
 -- the calls that may nest in a scope: each goes to a gate of smaller number
 abbrev pub nested : ℕ → ℕ
-nested zero = mostNested
+nested zero = mostGates
 nested (suc g) = g
 
 -- the words of a trace that has room for every call: two for each
 abbrev pub mostTraceWords : ℕ
-mostTraceWords = 2 * mostNested
+mostTraceWords = 2 * mostGates
 
 -- where a statement is run that opens no gate: the tables tell where the registers start, the frame has its qubits and angles,
 -- the values kept are those of constants, and the position lies in the output

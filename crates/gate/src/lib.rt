@@ -11,6 +11,7 @@ ghost use Rattle.model.specs.Image.{word, statementAt, gateArguments};
 ghost use Rattle.model.specs.Records.{Record};
 ghost use Rattle.model.specs.Steps.{write};
 ghost use Rattle.image.specs.Layout.{LayoutOf};
+ghost use Rattle.image.specs.Limits.{mostWords};
 ghost use Rattle.record_writer.specs.Promise.{InOutput, QubitsGiven, WroteSteps};
 ghost use Rattle.expression.specs.Angles.{anglesIn};
 ghost use Rattle.expression.specs.KeptValues.{ConstantsKept};
@@ -143,7 +144,7 @@ fn call_at(image: &[u64], l: Layout, s: u64) -> Call
         LayoutOf (now image) l
         × (s < l .statements)
         × (word (now image) (statementAt (now image) s + 1) < l .gates)
-        × (word (now image) (statementAt (now image) s + 2) ≤ 8192)
+        × (word (now image) (statementAt (now image) s + 2) ≤ mostWords)
         ⌝ }
     ensures { λ r. ⌜ r ≡ callOf (now (image .entry)) s ⌝ }
 {

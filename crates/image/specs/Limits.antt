@@ -17,6 +17,10 @@ mostParameters = 16
 abbrev pub mostLevels : ℕ
 mostLevels = 32
 
+-- the expressions that an image has room for
+abbrev pub mostExpressions : ℕ
+mostExpressions = 2727
+
 -- the qubits of all quantum registers, and the bits of all classical ones
 abbrev pub mostElements : ℕ
 mostElements = 4096

@@ -146,13 +146,11 @@ fn call_fits(image: &[u64], l: Layout, s: u64, g: u64, p: u64, a: u64) -> bool
 fn call_number(angles: bool, arguments: bool, sizes: bool) -> u64
     ensures { λ r. ⌜ r ≡ callFlaw angles arguments sizes ⌝ }
 {
-    let wrong_angle = refusal::EXPRESSION;
-    let wrong_argument = refusal::ARGUMENT;
     if !angles {
-        return wrong_angle;
+        return refusal::EXPRESSION;
     }
     if !arguments {
-        return wrong_argument;
+        return refusal::ARGUMENT;
     }
     if sizes { 0 } else { refusal::SIZES }
 }

@@ -75,7 +75,7 @@ listed : (t : ℕ) (s : Evaluates t) → s .args .e < expressions (now (s .args 
 listed t s = inside (now (s .args .image)) (s .args .e) (s .pre .1 .2)
 
 -- an image has room for fewer expressions than there are marks
-few : (t : ℕ) (s : Evaluates t) → s .args .e < 2728
+few : (t : ℕ) (s : Evaluates t) → s .args .e < 2727
 few t s = omega (arith, s .pre .1 .0 .whole, s .pre .1 .0 .short, listed t s)
 
 -- the words of kept values have room for the entry

@@ -16,7 +16,7 @@ use Rattle.expression.proofs.evaluate_anew.Tie as tie
 listed : (s : tie.Start) → s .args .e < expressions (now (s .args .image))
 listed s = inside (now (s .args .image)) (s .args .e) (s .pre .1)
 
-few : (s : tie.Start) → s .args .e < 2728
+few : (s : tie.Start) → s .args .e < 2727
 few s = omega (arith, s .pre .0 .laid .whole, s .pre .0 .laid .short, listed s)
 
 room : (s : tie.Start) → 7 * s .args .e + 1 + 5 < length (now (s .args .kept-values))
