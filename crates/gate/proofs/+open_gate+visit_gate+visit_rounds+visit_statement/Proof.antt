@@ -245,8 +245,8 @@ visit-gate-call-at-requires t c κs =
     let pre = c .before .before .before .before .before .before .pre in
     let k = known-gate (pre .1 .0 .context .in-scope) _ (pre .1 .2) (pre .1 .1) in (pre .1 .0 .context .in-scope .laid, pre .1 .1 .listed, k .0, k .1)
 
-visit-gate-slice-aggregate-parameters : (t : ℕ) → visit-gate-lts.Need-slice-aggregate-parameters (visit-gate-callees t) (visit-gate-at t) visit-gate.Post
-visit-gate-slice-aggregate-parameters t c = search needs
+visit-gate-slice-aggregate-parameter-values : (t : ℕ) → visit-gate-lts.Need-slice-aggregate-parameter-values (visit-gate-callees t) (visit-gate-at t) visit-gate.Post
+visit-gate-slice-aggregate-parameter-values t c = search needs
 
 visit-gate-parameter-values-requires : (t : ℕ) → visit-gate-lts.Need-parameter-values-requires (visit-gate-callees t) (visit-gate-at t) visit-gate.Post
 visit-gate-parameter-values-requires t c κs =
@@ -524,7 +524,7 @@ pub +open-gate+visit-gate+visit-rounds+visit-statement-spec : {M : Type 1} → s
     (visit-gate-at t)
     visit-gate.Post
     (visit-gate-call-at-requires t)
-    (visit-gate-slice-aggregate-parameters t)
+    (visit-gate-slice-aggregate-parameter-values t)
     (visit-gate-parameter-values-requires t)
     (visit-gate-enum-known-position t)
     (visit-gate-visit-rounds-requires t)
