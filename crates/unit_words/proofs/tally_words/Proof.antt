@@ -30,7 +30,7 @@ returns-2 c =
     rw (t2 .given .1, c .before .refusal-number .ensures, c .refusal-place .ensures) (refused-words (refusalFlaw (t2 .given .0 .0)))
 
 returns-3 : tie.Need-returns-3
-returns-3 c = search needs
+returns-3 c = rw (c .enum-told .given .1) refl
 
 pub tally-words-spec : {M : Type 1} → statement M
 tally-words-spec =
