@@ -501,7 +501,7 @@ def variables_and_operands():
         lists = dict(expressions=[variable(number), (NEGATE, 0, 0)])
         expect(EXPRESSION, in_main((U, 1, 1, 1, 0), **lists), in_if((U, 1, 1, 1, 0), **lists))
         expect(ACCEPTED, in_body((U, 1, 1, 1, 0), **lists))
-    heading("6: a fault below the expression that is named")
+    heading("6: a flaw below the expression that is named")
     for entry in (16, 0, 0), (PI, 0, 1), variable(2), (NEGATE, 1, 0), (PLUS, 0, 5):
         for user in (NEGATE, 1, 0), (PLUS, 1, 0), (PLUS, 0, 1):
             everywhere(EXPRESSION, (U, 0, 3, 0, 0), expressions=[PI_ENTRY, entry, user, (SQRT, 2, 0)])
@@ -664,7 +664,7 @@ FLAWED_LISTS = dict(
 
 
 def order_in_a_statement():
-    heading("Two faults in one statement: 4 before 8 before 6 before 5 before 7")
+    heading("Two flaws in one statement: 4 before 8 before 6 before 5 before 7")
     for parameter, argument, unused in (1, 0, 1), (1, 1, 1), (0, 1, 1), (0, 0, 1), (1, 1, 0), (1, 0, 0), (0, 1, 0):
         number = FORM if unused else EXPRESSION if parameter else ARGUMENT
         everywhere(number, (CALL, 0, parameter, argument, unused), **FLAWED_LISTS)
@@ -688,14 +688,14 @@ def order_in_a_statement():
             expect_at(number, MAIN, 1, made_in((CALL, 0, parameter, 0), **dict(FLAWED_LISTS, below=[opaque(1, 3)])))
     expect_at(FORM, MAIN, 1, in_main((BARRIER, 2, 1, 1), **FLAWED_LISTS))
     expect_at(FORM, MAIN, 1, in_main((BARRIER, 2, 2), **FLAWED_LISTS))
-    heading("An if's own faults with its inner statement's: 4")
+    heading("An if's own flaws with its inner statement's: 4")
     for statement in (IF, 0, 0, 2, 1), (IF, 9, 0, 2), (IF, 0, 0, 3), (IF, 0, 0, 1):
         words = image(quantum=[1], classical=[1], main=[NOTHING, statement], further=[(RESET, 0)], arguments=[(1, 0)])
         expect_at(FORM, MAIN, 1, words)
 
 
 def order_of_lists():
-    heading("The order of the lists: a fault in each, and then one less from the front")
+    heading("The order of the lists: a flaw in each, and then one less from the front")
     whole = dict(
         quantum=[2, 0, 3], classical=[1, 4097], gates=[opaque(0, 0), opaque(17, 0), gate(0, 1, 5, 2), gate(0, 1, 3, 2)],
         main=[NOTHING, (RESET, 1), (8,)], further=[(U, 0, 0, 0, 0), (CALL, 3, 0, 0), (CX, 0, 0), (9,)],

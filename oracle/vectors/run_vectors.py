@@ -976,7 +976,7 @@ def short_outputs_inside():
         gates = [(0, 2, [(CX, 1, 0)]), (0, 2, [call(0), (BARRIER, 0, 2)])]
         lists = dict(quantum=[3, 3], classical=[1], arguments=[(0, 0), (1, 0)])
         every_length(program([(IF, 0, 1, 2), (RESET, 1)], gates, [call(1)], **lists), depth)
-    heading("An output of exactly the words that a refused run has written: it is refused for its fault")
+    heading("An output of exactly the words that a refused run has written: it is refused for its own reason, not as full")
     words = image(quantum=[3], main=[(RESET, 0), (CX, 0, 1)], arguments=[(0, 0), (0, 2)])
     every_length(words, 1)
     words = program([U_ONE, call(0)], [(1, 1)], **parameters(PI_TREE, BAD) | dict(parameters=[3]))

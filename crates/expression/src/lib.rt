@@ -145,7 +145,12 @@ fn unary(kind: u64, x: Value) -> Evaluation
 // ---- values that are kept: a constant is worked out once in a run, any other operand once in an expression
 
 // Keeps a value as that of an entry, which is known from then on.
-fn keep_value(known: &mut [bool; image::MOST_EXPRESSIONS], kept_values: &mut [u64], e: u64, x: Value)
+fn keep_value(
+    known: &mut [bool; image::MOST_EXPRESSIONS],
+    kept_values: &mut [u64],
+    e: u64,
+    x: Value,
+)
     requires { ⌜ (e < mostExpressions) × (7 * e + 6 < length (now «kept_values»)) × Sound x ⌝ }
     ensures { λ r. ⌜ ValueStored (now (known .entry)) (now («kept_values» .entry)) e x (now (known .exit)) (now («kept_values» .exit)) ⌝ }
 {

@@ -1,4 +1,4 @@
--- Answers of the reference program (oracle/sample.py 100 2026), which the definitions give too: antt computes them.
+-- The definitions give what the reference program answers to 100 images (made by oracle/make-vectors, seed 2026): antt computes it.
 use mathlib.Core.Path.{_≡_, refl}
 use mathlib.Core.List.{List, [], _∷_, map}
 use Rattle.model.proofs.Sampled.{Sample, sample, computed, answered}
