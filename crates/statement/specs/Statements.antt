@@ -19,7 +19,7 @@ use Rattle.record_writer.specs.declared.Linearized.{Linearized}
 use Rattle.record_writer.specs.declared.Linearized.the-variants as linearized
 use Rattle.record_writer.specs.Promise.{WroteSteps}
 use Rattle.image.specs.declared.Layout.{Layout}
-use Rattle.image.specs.Layout.{LayoutOf}
+use Rattle.image.specs.Layout.{WithinLimits, Small}
 use Rattle.expression.specs.NamedExpressions.{namedAt, ListedExpressions}
 use Rattle.argument.specs.Frames.{scopeFrame, AcceptedArgument, AcceptedBits}
 use Rattle.statement.specs.declared.Overlap.{Overlap}
@@ -43,6 +43,11 @@ pub record MeasureArguments (image : List ℕ) (l : Layout) (scope q c : ℕ) : 
 pub record UStatement (image : List ℕ) (l : Layout) (scope place a : ℕ) : Type 0 where
   pub expressions : ListedExpressions image (variables image scope) place 3
   pub argument : AcceptedArgument image l scope a
+
+-- the places of n arguments from a on can be worked out
+pub record ArgumentPlaces (l : Layout) (a n : ℕ) : Type 0 where
+  pub limits : WithinLimits l
+  pub near : Small (a + n)
 
 -- ---- the steps of a statement, from the qubits of its scope's frame
 
