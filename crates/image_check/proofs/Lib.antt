@@ -4,5 +4,4 @@ pub mod FirstBadLaws
 pub mod FirstOfLaws
 pub mod FlawLaws
 pub mod FlawOfLaws
-pub mod NumberLaws
 pub mod ScopeLaws

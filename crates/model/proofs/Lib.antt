@@ -31,3 +31,9 @@ pub mod RisingLaws
 pub mod Renamed
 pub mod CopyLaws
 pub mod BodyRecords
+pub mod StatementOfLaws
+pub mod FlawLaws
+pub mod SetsLaws
+pub mod DecimalLaws
+pub mod WordsOfLaws
+pub mod RecordsInLaws

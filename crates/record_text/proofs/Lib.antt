@@ -1,5 +1,4 @@
 pub mod ReadFrontLaws
 pub mod ReadBackLaws
 pub mod LongInputLaws
-pub mod RecordsInLaws
 pub mod Samples

@@ -1,3 +1,2 @@
-pub mod WriteLaws
 pub mod WroteStepsLaws
 pub mod AngleWordsLaws
