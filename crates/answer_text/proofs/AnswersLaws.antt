@@ -15,7 +15,7 @@ use Rattle.model.specs.Listing.{littleEndian, wordsOf}
 use Rattle.unit_words.specs.AnswerWords.{checkWords, tallyWords}
 use Rattle.text.specs.Put.{Put}
 use Rattle.text.proofs.PutLaws.{put-same}
-use Rattle.text.proofs.WordsOfLaws.{too-long, at-most-same, at-most-fits, read-front, parted}
+use Rattle.model.proofs.WordsOfLaws.{too-long, at-most-same, at-most-fits, read-front, parted}
 use Rattle.text.specs.NumberLine.{numbersLine}
 use Rattle.answer_text.specs.Answers.{checkLine, tallyLine, checkAnswer, tallyAnswer}
 

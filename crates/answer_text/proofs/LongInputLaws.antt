@@ -12,7 +12,7 @@ use Rattle.model.specs.Check.{bad, check}
 use Rattle.model.specs.Tally.{refused, tally}
 use Rattle.model.specs.Listing.{wordsOf}
 use Rattle.unit_words.specs.AnswerWords.{checkWords, tallyWords}
-use Rattle.text.proofs.WordsOfLaws.{length-words, too-long}
+use Rattle.model.proofs.WordsOfLaws.{length-words, too-long}
 use Rattle.text.specs.NumberLine.{numbersLine}
 use Rattle.answer_text.specs.Answers.{checkAnswer, tallyAnswer}
 use Rattle.answer_text.proofs.AnswersLaws.{long-tally}

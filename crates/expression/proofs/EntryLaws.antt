@@ -19,7 +19,7 @@ use Rattle.model.specs.Check.{entryOk, expressionOk}
 use Rattle.model.specs.Evaluate.{unary, binary, valueOf, evaluate}
 use Rattle.model.proofs.All.{test}
 use Rattle.model.proofs.EvaluateLaws.{operand, node}
-use Rattle.image.proofs.KindLaws.{entry-is}
+use Rattle.model.proofs.StatementOfLaws.{entry-is}
 use Rattle.expression.specs.Operands.{AcceptedExpression, NoValue}
 use Rattle.expression.specs.KeptValues.{Constant}
 

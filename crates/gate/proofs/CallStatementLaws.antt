@@ -14,7 +14,7 @@ use Rattle.model.proofs.All.{all-All, All-all, All-of}
 use Rattle.model.proofs.Accepted.{few-parameters, few-arguments}
 use Rattle.model.specs.Accepted.{PlainFacts}
 use Rattle.image.specs.declared.Layout.{Layout}
-use Rattle.image.proofs.KindLaws.{gate-is, words-are}
+use Rattle.model.proofs.StatementOfLaws.{gate-is, words-are}
 use Rattle.gate.specs.declared.Call.{Call}
 use Rattle.argument.specs.Frames.{scopeFrame, ScopeContext}
 use Rattle.expression.specs.NamedExpressions.{namedAt, ListedExpressions}

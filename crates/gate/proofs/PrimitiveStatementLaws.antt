@@ -22,7 +22,7 @@ use Rattle.model.specs.Accepted.{Accepted, FrameOk, PlainFacts}
 use Rattle.model.proofs.Facts.{no-kind}
 use Rattle.image.specs.declared.Layout.{Layout}
 use Rattle.image.specs.Layout.{LayoutOf}
-use Rattle.image.proofs.KindLaws.{u-is, cx-is, barrier-is, measure-is, reset-is, words-are}
+use Rattle.model.proofs.StatementOfLaws.{u-is, cx-is, barrier-is, measure-is, reset-is, words-are}
 use Rattle.record_writer.specs.declared.Position.{Position}
 use Rattle.record_writer.specs.declared.Linearized.{Linearized}
 use Rattle.gate.specs.declared.Call.{Call}

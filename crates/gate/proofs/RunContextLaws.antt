@@ -13,7 +13,7 @@ use Rattle.model.specs.Accepted.{PlainFacts}
 use Rattle.image.specs.declared.Layout.{Layout}
 use Rattle.image.specs.declared.Span.{Span}
 use Rattle.image.specs.Layout.{StatementsOf}
-use Rattle.image.proofs.KindLaws.{words-are}
+use Rattle.model.proofs.StatementOfLaws.{words-are}
 use Rattle.record_writer.specs.declared.Position.{Position}
 use Rattle.expression.specs.Angles.{anglesIn}
 use Rattle.expression.specs.KeptValues.{ConstantsKept, AngleContext}

@@ -1,4 +1,3 @@
 pub mod Answer
 pub mod Layout
-pub mod Limits
 pub mod RegisterStarts

@@ -16,7 +16,7 @@ use Rattle.image.specs.declared.Layout.{Layout}
 use Rattle.image_entries.specs.Flaws.{flawOf, registerFlaw}
 use Rattle.image.specs.Layout.{LayoutOf, GatesAccepted}
 use Rattle.image_check.specs.Answer.{entriesFlaw}
-use Rattle.image_check.proofs.NumberLaws.{check-known}
+use Rattle.model.proofs.FlawLaws.{check-known}
 
 -- the first part that finds a flaw decides
 pub flaw-first : (f : code.Flaw) (v w : Flaw) → flawOf f ≡ v → ¬ (f .number ≡ 0) → flawOf f ≡ orElse v w

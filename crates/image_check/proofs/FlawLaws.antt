@@ -5,7 +5,7 @@ use mathlib.Core.Bool.{Bool, true, false}
 use mathlib.Core.List.{List}
 use Rattle.model.specs.Image.{Statement, statementOf, statement}
 use Rattle.model.specs.Check.{plainFlaw, inConditional, conditionalOk, conditionalFlaw, flaw}
-use Rattle.image.proofs.KindLaws.{if-is}
+use Rattle.model.proofs.StatementOfLaws.{if-is}
 use Rattle.image_check.specs.Statements.{noIf}
 
 module _ (image : List ℕ) where

@@ -17,7 +17,7 @@ use Rattle.model.specs.Check.{entryOk, expressionOk}
 use Rattle.model.proofs.All.{and-T, T-and}
 use Rattle.model.specs.All.{All, nil, cons}
 use Rattle.image_entries.specs.Judging.{accepts, JudgementTables, leafFits, wordsOk, JudgementIs}
-use Rattle.image.proofs.KindLaws.{entry-is}
+use Rattle.model.proofs.StatementOfLaws.{entry-is}
 
 -- ---- what the levels and the variables accept
 

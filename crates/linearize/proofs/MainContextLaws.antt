@@ -21,7 +21,7 @@ use Rattle.image.specs.RegisterStarts.{RegisterStarts}
 use Rattle.record_writer.specs.declared.Linearized.{Linearized}
 use Rattle.record_writer.specs.declared.Linearized.the-variants as linearized
 use Rattle.record_writer.proofs.WroteStepsLaws.{wrote-open}
-use Rattle.image.proofs.KindLaws.{if-at, plain-facts-at}
+use Rattle.model.proofs.StatementOfLaws.{if-at, plain-facts-at}
 use Rattle.argument.specs.Frames.{scopeFrame, scopeQubits, ScopeContext, BitContext}
 use Rattle.expression.specs.KeptValues.{ConstantsKept}
 use Rattle.expression.proofs.AnglesLaws.{zeros-sound}

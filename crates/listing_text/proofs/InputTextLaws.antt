@@ -12,7 +12,7 @@ use Rattle.model.specs.Run.{stop, flawed, accepted, runs, numbers}
 use Rattle.model.specs.Listing.{littleEndian, wordsOf, refusedText, runText, listing}
 use Rattle.text.specs.Put.{Put}
 use Rattle.text.proofs.PutLaws.{put-same}
-use Rattle.text.proofs.WordsOfLaws.{too-long, at-most-fits, at-most-same, read-front, parted}
+use Rattle.model.proofs.WordsOfLaws.{too-long, at-most-fits, at-most-same, read-front, parted}
 use Rattle.listing_text.specs.InputText.{inputText}
 
 -- ---- an input that is no depth and image

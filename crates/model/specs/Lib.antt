@@ -1,4 +1,5 @@
 pub mod Lists
+pub mod Limits
 pub mod Refusals
 pub mod Image
 pub mod Check

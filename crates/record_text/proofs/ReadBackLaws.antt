@@ -12,7 +12,7 @@ use Rattle.model.specs.RecordReader.{recordsIn}
 use Rattle.model.specs.Listing.{ascii, decimal, line, wordsOf}
 use Rattle.text.specs.Put.{Put}
 use Rattle.text.proofs.PutLaws.{put-same, put-then, put-length}
-use Rattle.text.proofs.WordsOfLaws.{at-most-fits, read-front, length-words}
+use Rattle.model.proofs.WordsOfLaws.{at-most-fits, read-front, length-words}
 use Rattle.record_text.specs.declared.Front.{Front}
 use Rattle.record_text.specs.ReadBack.{lastLine, recordsText, readBack}
 use Rattle.record_text.specs.ReadFront.{ReadFront}

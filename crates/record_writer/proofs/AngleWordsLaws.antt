@@ -17,7 +17,7 @@ use Rattle.model.specs.Records.{Record, encode, kind, fields, fractionWords, an
 use Rattle.model.proofs.ListLaws.{within, flat-append}
 use Rattle.model.proofs.Lengths.{length-words}
 use Rattle.record_writer.specs.Promise.{SoundAngles}
-use Rattle.record_writer.proofs.WriteLaws.{put-more, front}
+use Rattle.model.proofs.SetsLaws.{put-more, front}
 
 pub complement : {x : Rational64} → LowestTerms x → x .negative ≡ true → 2 ^ 64 - 1 - x .numer + 1 ≡ cond (x .negative) (2 ^ 64 - x .numer) (x .numer)
 complement {x} h e = rw e (omega (arith, nonzero h e, h .numer-fits))

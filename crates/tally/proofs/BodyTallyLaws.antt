@@ -13,7 +13,7 @@ use Rattle.model.specs.Tally.{plainTally, conditionalTally, statementTally, bod
 use Rattle.model.proofs.Accepted.{accepts}
 use Rattle.model.proofs.Facts.{run-facts}
 use Rattle.model.specs.Accepted.{PlainFacts, Facts}
-use Rattle.image.proofs.KindLaws.{if-at}
+use Rattle.model.proofs.StatementOfLaws.{if-at}
 use Rattle.tally.specs.Weights.{weightOf, entryOf, capped, openingFor}
 use Rattle.tally.proofs.PlainTallyLaws.{plain-any}
 

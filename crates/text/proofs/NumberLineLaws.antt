@@ -10,7 +10,7 @@ use Rattle.model.specs.Listing.{decimal, line}
 use Rattle.text.specs.Put.{Room, Put, PutMost}
 use Rattle.text.specs.NumberLine.{spaced, spacedNumbers, spacedMost, namedLine, namedLineMost, numbersLine}
 use Rattle.text.proofs.PutLaws.{put-same, put-then, put-length, Putting, putting-start, putting-more, putting-last}
-use Rattle.text.proofs.DecimalLaws.{decimal-short}
+use Rattle.model.proofs.DecimalLaws.{decimal-short}
 
 pub line-spaced : (w : List ℕ) (l : List (List ℕ)) → line (w ∷ l) ≡ w ++ (spaced l ++ 10 ∷ [])
 unfolding line flatMap

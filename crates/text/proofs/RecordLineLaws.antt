@@ -12,7 +12,7 @@ use lib.Seq.{drop-cons}
 use Rattle.model.specs.Listing.{decimal}
 use Rattle.text.specs.RecordLine.{wordText, numerator, wordsText, recordLine}
 use Rattle.text.specs.Put.{Room, Put, PutMost}
-use Rattle.text.proofs.DecimalLaws.{decimal-short}
+use Rattle.model.proofs.DecimalLaws.{decimal-short}
 use Rattle.text.proofs.SignedTextLaws.{word-short}
 
 -- ---- which words are numerators

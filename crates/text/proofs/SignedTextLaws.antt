@@ -9,7 +9,7 @@ use lib.Dec.{ltb}
 use lib.ListN.{length}
 use Rattle.model.specs.Listing.{digits, decimal}
 use Rattle.text.specs.RecordLine.{signedText, wordText}
-use Rattle.text.proofs.DecimalLaws.{digits-few, decimal-short}
+use Rattle.model.proofs.DecimalLaws.{digits-few, decimal-short}
 
 pub no-sign : (n : ℕ) → n < 2 ^ 63 → signedText n ≡ decimal n
 unfolding signedText

@@ -5,7 +5,7 @@ use borrow.Author.Needs.{needs}
 use denote.Ref.{now}
 use lib.ListN.{length, take, replicate}
 use Rattle.text.proofs.PutLaws.{put-length}
-use Rattle.text.proofs.WordsOfLaws.{at-most-fits, at-most-inside, read-inside, read-length}
+use Rattle.model.proofs.WordsOfLaws.{at-most-fits, at-most-inside, read-inside, read-length}
 use Rattle.answer_text.proofs.AnswersLaws.{check-two, check-put}
 use Rattle.answer_text.proofs.put_check.Statement.{statement}
 use Rattle.answer_text.proofs.put_check.Tie as tie

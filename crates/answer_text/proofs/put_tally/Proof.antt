@@ -4,7 +4,7 @@ use Prim.Native.Nat.{_-_, _/_}
 use denote.Ref.{now}
 use lib.ListN.{length, take, drop, replicate}
 use Rattle.text.proofs.PutLaws.{put-length}
-use Rattle.text.proofs.WordsOfLaws.{at-most-fits, at-most-inside, read-inside, read-length}
+use Rattle.model.proofs.WordsOfLaws.{at-most-fits, at-most-inside, read-inside, read-length}
 use Rattle.answer_text.proofs.AnswersLaws.{tally-eleven, tally-put}
 use borrow.Author.Needs.{needs}
 use Rattle.answer_text.proofs.put_tally.Statement.{statement}

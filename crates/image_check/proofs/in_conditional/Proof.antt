@@ -3,7 +3,7 @@ use Prim.Native.Nat.{_+_}
 use mathlib.Core.Path.{_≡_, refl}
 use denote.Ref.{now}
 use Rattle.model.specs.Image.{word, statement as statementAs, statementOf}
-use Rattle.image.proofs.KindLaws.{words-are}
+use Rattle.model.proofs.StatementOfLaws.{words-are}
 use Rattle.image_check.proofs.FlawLaws.{allowed-is, allowed-1, allowed-2, allowed-3, allowed-5, allowed-6, allowed-rest}
 use borrow.Author.Needs.{needs}
 use Rattle.image_check.proofs.in_conditional.Statement.{statement}

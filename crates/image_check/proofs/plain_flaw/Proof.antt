@@ -2,7 +2,7 @@
 use mathlib.Core.Path.{_≡_, refl}
 use denote.Ref.{now}
 use Rattle.model.specs.Image.{statement as statementAs, statementOf}
-use Rattle.image.proofs.KindLaws.{u-is, cx-is, gate-is, barrier-is, measure-is, reset-is, words-are}
+use Rattle.model.proofs.StatementOfLaws.{u-is, cx-is, gate-is, barrier-is, measure-is, reset-is, words-are}
 use Rattle.image_check.proofs.FlawLaws.{plain-is, plain-other}
 use borrow.Author.Needs.{needs}
 use Rattle.image_check.proofs.plain_flaw.Statement.{statement}

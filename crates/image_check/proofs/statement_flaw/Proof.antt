@@ -2,7 +2,7 @@
 use mathlib.Core.Path.{refl}
 use denote.Ref.{now}
 use Rattle.model.specs.Image.{word}
-use Rattle.image.proofs.KindLaws.{words-are}
+use Rattle.model.proofs.StatementOfLaws.{words-are}
 use Rattle.image_check.proofs.FlawLaws.{flaw-if, flaw-plain}
 use borrow.Author.Needs.{needs}
 use Rattle.image_check.proofs.statement_flaw.Statement.{statement}

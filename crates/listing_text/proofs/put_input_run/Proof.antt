@@ -5,7 +5,7 @@ use mathlib.Core.Path.{_≡_}
 use borrow.Author.Needs.{needs}
 use denote.Ref.{now}
 use Rattle.text.proofs.PutLaws.{put-length}
-use Rattle.text.proofs.WordsOfLaws.{read-inside, read-length}
+use Rattle.model.proofs.WordsOfLaws.{read-inside, read-length}
 use Rattle.listing_text.proofs.InputTextLaws.{input-put}
 use lib.ListN.{length, drop, replicate, length-replicate}
 use Rattle.listing_text.proofs.put_input_run.Statement.{statement}

@@ -5,7 +5,7 @@ use borrow.Author.Needs.{needs}
 use denote.Ref.{now}
 use lib.ListN.{length, replicate}
 use Rattle.text.proofs.PutLaws.{put-length}
-use Rattle.text.proofs.WordsOfLaws.{at-most-fits, at-most-inside, read-inside, read-length}
+use Rattle.model.proofs.WordsOfLaws.{at-most-fits, at-most-inside, read-inside, read-length}
 use Rattle.record_text.proofs.ReadBackLaws.{front-lines-room, last-room, back-put}
 use Rattle.record_text.proofs.put_read_back.Statement.{statement}
 use Rattle.record_text.proofs.put_read_back.Tie as tie

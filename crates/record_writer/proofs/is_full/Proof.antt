@@ -1,7 +1,7 @@
 -- The test over the words left is the test over the position.
 use denote.Ref.{now}
 use lib.ListN.{length}
-use Rattle.record_writer.proofs.WriteLaws.{left-test}
+use Rattle.model.proofs.SetsLaws.{left-test}
 use borrow.Author.Needs.{needs}
 use Rattle.record_writer.proofs.is_full.Statement.{statement}
 use Rattle.record_writer.proofs.is_full.Tie as tie

@@ -6,7 +6,7 @@ use lib.ListN.{set, length-set}
 use denote.Ref.{now}
 use borrow.Author.Needs.{needs}
 use Rattle.model.specs.Records.{Record, encode, kind, fields}
-use Rattle.record_writer.proofs.WriteLaws.{three-put}
+use Rattle.model.proofs.SetsLaws.{three-put}
 use Rattle.record_writer.proofs.WroteStepsLaws.{record-written}
 use Rattle.record_writer.proofs.put_cx.Statement.{statement}
 use Rattle.record_writer.proofs.put_cx.Tie as tie

@@ -8,7 +8,7 @@ use lib.ListN.{length, take, length-set}
 use lib.Seq.{sets, take-length}
 use denote.Ref.{now}
 use borrow.Author.Needs.{needs}
-use Rattle.record_writer.proofs.WriteLaws.{put-next-word}
+use Rattle.model.proofs.SetsLaws.{put-next-word}
 use Rattle.record_writer.proofs.put_words.Statement.{statement}
 use Rattle.record_writer.proofs.put_words.Tie as tie
 

@@ -9,7 +9,7 @@ use Rattle.model.specs.Image as Image
 use Rattle.model.proofs.Facts.{no-kind}
 use Rattle.model.specs.Accepted.{PlainFacts}
 use Rattle.model.proofs.Deep.{called-below}
-use Rattle.image.proofs.KindLaws.{words-are, u-is, cx-is, gate-is, barrier-is, measure-is, reset-is}
+use Rattle.model.proofs.StatementOfLaws.{words-are, u-is, cx-is, gate-is, barrier-is, measure-is, reset-is}
 use Rattle.tally.specs.Weights.{weightOf, capped}
 use Rattle.tally.proofs.PlainTallyLaws.{arguments-few}
 use Rattle.tally.proofs.FigureTableLaws.{tabled-fewer}

@@ -2,7 +2,7 @@
 use native.Mathlib.Omega.{arith}
 use denote.Ref.{now}
 use borrow.Author.Needs.{needs}
-use Rattle.image.proofs.KindLaws.{if-facts-at, plain-facts-at}
+use Rattle.model.proofs.StatementOfLaws.{if-facts-at, plain-facts-at}
 use Rattle.tally.proofs.BodyTallyLaws.{if-comes, plain-comes}
 use Rattle.tally.proofs.PlainTallyLaws.{statements-few}
 use Rattle.tally.proofs.statement_figure.Statement.{statement}

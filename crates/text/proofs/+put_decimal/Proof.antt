@@ -4,7 +4,7 @@ use Prim.Native.Nat.{ℕ, _<_}
 use mathlib.Core.Path.{sym}
 use borrow.Author.Needs.{needs}
 use Rattle.text.proofs.PutLaws.{put-same, put-then, put-length, room-same, room-front, room-rest}
-use Rattle.text.proofs.DecimalLaws.{decimal-one, decimal-more}
+use Rattle.model.proofs.DecimalLaws.{decimal-one, decimal-more}
 use borrow.Fn.Kinds.{In}
 use borrow.Fn.PlainCycle.{Measures, is, falls, and}
 use Rattle.text.proofs.put_decimal.Reads as put-decimal

@@ -3,7 +3,7 @@ use native.Mathlib.Omega.{arith}
 use Prim.Native.Nat.{_+_}
 use borrow.Author.Needs.{needs}
 use denote.Ref.{now}
-use Rattle.text.proofs.WordsOfLaws.{half-is}
+use Rattle.model.proofs.WordsOfLaws.{half-is}
 use Rattle.text.proofs.half_word_at.Statement.{statement}
 use Rattle.text.proofs.half_word_at.Tie as tie
 

@@ -5,7 +5,7 @@ use mathlib.Core.Path.{_≡_, refl, ap, _∙_}
 use borrow.Author.Needs.{needs}
 use denote.Ref.{now}
 use lib.ListN.{length}
-use Rattle.text.proofs.WordsOfLaws.{words-more, words-none}
+use Rattle.model.proofs.WordsOfLaws.{words-more, words-none}
 use lib.ListN.{drop, length-set}
 use lib.Seq.{sets}
 use native.Mathlib.Nat.{le-antisymm}

@@ -1,7 +1,7 @@
 -- Eight bytes are the word of their two halves.
 use borrow.Author.Needs.{needs}
 use denote.Ref.{now}
-use Rattle.text.proofs.WordsOfLaws.{word-is}
+use Rattle.model.proofs.WordsOfLaws.{word-is}
 use Rattle.text.proofs.word_at.Statement.{statement}
 use Rattle.text.proofs.word_at.Tie as tie
 
