@@ -16,7 +16,7 @@ ghost use Rattle.value.specs.Promise.{EvaluatesTo};
 ghost use Rattle.model.specs.Evaluate.{evaluate, zeroValue};
 ghost use Rattle.model.specs.Steps.{parameterValues};
 ghost use Rattle.record_writer.specs.Promise.{SoundAngles};
-ghost use Rattle.image.specs.Limits.{mostExpressions};
+ghost use Rattle.model.specs.Limits.{mostExpressions};
 ghost use Rattle.image.specs.Layout.{LayoutOf};
 ghost use Rattle.expression.specs.Angles.{denominatorOf, fractionAt, signWord, putFraction, valueAt, putValue, anglesIn};
 ghost use Rattle.expression.specs.KeptValues.{Constant, ConstantsKept, ValueStored, ValuesKept, AngleContext, Evaluated};

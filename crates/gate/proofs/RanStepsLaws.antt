@@ -176,9 +176,6 @@ module _ {ss : List Step} {out out′ trace trace′ : List ℕ} {at : Position}
   pub ran-still : {trace″ : List ℕ} → trace″ ≡ trace′ → RanSteps ss out at trace r out′ trace′ → RanSteps ss out at trace r out′ trace″
   ran-still e w = rw e w
 
-pub wrote-steps : {ss ss′ : List Step} {out out′ : List ℕ} {at : Position} {r : Linearized} → ss ≡ ss′ → WroteSteps ss out at r out′ → WroteSteps ss′ out at r out′
-wrote-steps e w = rw (← e) w
-
 -- ---- one after the other
 
 module _ {s : List Step} {out out₁ : List ℕ} {at : Position} {r₁ : Linearized} where

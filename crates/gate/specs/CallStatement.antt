@@ -8,7 +8,7 @@ use Rattle.model.specs.Image.{word, statementAt, parameterAt, gateParameters, g
 use Rattle.model.specs.Steps as Steps
 use Rattle.model.specs.Steps.{Step, inRounds, visitGate, opening}
 use Rattle.image.specs.declared.Layout.{Layout}
-use Rattle.image.specs.Limits.{mostParameters}
+use Rattle.model.specs.Limits.{mostParameters}
 use Rattle.gate.specs.declared.Call.{Call}
 use Rattle.argument.specs.Frames.{CallArguments}
 use Rattle.gate.specs.RunContext.{nested}

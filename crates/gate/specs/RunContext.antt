@@ -3,7 +3,7 @@ use Prim.Native.Nat.{ℕ, zero, suc, _+_, _*_, _≤_}
 use mathlib.Core.List.{List}
 use lib.ListN.{length}
 use Rattle.image.specs.declared.Layout.{Layout}
-use Rattle.image.specs.Limits.{mostGates}
+use Rattle.model.specs.Limits.{mostGates}
 use Rattle.record_writer.specs.declared.Position.{Position}
 use Rattle.record_writer.specs.Promise.{InOutput}
 use Rattle.expression.specs.Angles.{anglesIn}

@@ -11,7 +11,7 @@ ghost use Rattle.model.specs.Image.{word, statementAt, gateArguments};
 ghost use Rattle.model.specs.Records.{Record};
 ghost use Rattle.model.specs.Steps.{write};
 ghost use Rattle.image.specs.Layout.{LayoutOf};
-ghost use Rattle.image.specs.Limits.{mostWords};
+ghost use Rattle.model.specs.Limits.{mostWords};
 ghost use Rattle.record_writer.specs.Promise.{InOutput, QubitsGiven, WroteSteps};
 ghost use Rattle.expression.specs.Angles.{anglesIn};
 ghost use Rattle.expression.specs.KeptValues.{ConstantsKept};

@@ -8,7 +8,7 @@ use lib.Dec.{T}
 use Rattle.model.specs.Lists.{range}
 use Rattle.model.specs.Image.{word, quantumRegisters, classicalRegisters, gates, mainStatements, allStatements, arguments, parameters, expressions, expressionAt, scopeStatements}
 use Rattle.model.specs.Check.{contentsOk, gateOk}
-use Rattle.image.specs.Limits.{mostGates, mostWords}
+use Rattle.model.specs.Limits.{mostGates, mostWords}
 use Rattle.image.specs.declared.Layout.{Layout}
 use Rattle.image.specs.declared.Span.{Span}
 use Rattle.image.specs.declared.Contents.{Contents}

@@ -5,7 +5,7 @@ ghost use lib.ListN.{length, set};
 ghost use Prim.Native.Nat.{_+_, _<_, _≤_, min, max};
 ghost use Rattle.model.specs.Lists.{range, sum};
 ghost use Rattle.model.specs.Image.{word, quantumRegisterAt, classicalRegisterAt, gateAt, statementAt, argumentAt, parameterAt, expressionAt, argumentSize, classicalArgumentSize, rounds};
-ghost use Rattle.image.specs.Limits.{mostElements, mostWords};
+ghost use Rattle.model.specs.Limits.{mostElements, mostWords};
 ghost use Rattle.image.specs.Answer.{refusalFlaw, answerFlaw, numberIn, placeIn};
 ghost use Rattle.image.specs.Layout.{CappedCounts, LayoutOf, WithinLimits, Small, SmallPlace, PlaceIs, ReadAs, GatesAccepted, StatementsOf};
 ghost use Rattle.image.specs.RegisterStarts.{RegisterStarts};

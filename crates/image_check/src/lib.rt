@@ -11,7 +11,7 @@ ghost use Prim.Native.Nat.{ℕ, _≤_};
 ghost use Rattle.model.specs.Lists.{all};
 ghost use Rattle.model.specs.Image.{U, CX, Gate, Barrier, Measure, Reset, statement, statementAt, scopeStatements};
 ghost use Rattle.model.specs.Check.{firstBad, expressionOk, downward, conditionalFlaw, plainFlaw, flaw, statementEntries, check, inConditional};
-ghost use Rattle.image.specs.Limits.{mostLevels, mostParameters, mostWords};
+ghost use Rattle.model.specs.Limits.{mostLevels, mostParameters, mostWords};
 ghost use Rattle.image.specs.Answer.{refusalFlaw, answerFlaw};
 ghost use Rattle.image.specs.Layout.{LayoutOf, GatesAccepted};
 ghost use Rattle.image_entries.specs.Flaws.{flawOf};

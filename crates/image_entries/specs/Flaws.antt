@@ -6,7 +6,7 @@ use lib.Dec.{eqb, leb}
 use Rattle.model.specs.Check.{Flaw, fine, bad, firstOf}
 use Rattle.model.specs.Refusals as refusal
 use Rattle.model.specs.Lists.{range, sum, every}
-use Rattle.image.specs.Limits.{mostElements}
+use Rattle.model.specs.Limits.{mostElements}
 use Rattle.image_entries.specs.declared.Flaw as code
 
 -- the flaw that a part of the check found; number 0 is none

@@ -7,7 +7,7 @@ use lib.Dec.{ltb, eqb, leb}
 use lib.ListN.{getD, length}
 use Rattle.model.specs.Image.{expressionOf}
 use Rattle.model.specs.Check.{entryOk, expressionOk}
-use Rattle.image.specs.Limits.{mostLevels, mostParameters}
+use Rattle.model.specs.Limits.{mostLevels, mostParameters}
 use Rattle.image.specs.declared.Layout.{Layout}
 use Rattle.image.specs.Layout.{LayoutOf}
 

@@ -147,11 +147,6 @@ module _ {image : List ℕ} {l : Layout} {out trace : List ℕ} {at : Position} 
       → RegisterStarts (λ i. word image (quantum-place + i)) (l .«quantum_registers») qubit-starts → RegisterStarts (λ i. word image (classical-place + i)) (l .«classical_registers») bit-starts → MainContext image l qubit-starts bit-starts out trace at
   with-starts p r q b = record { start = start; quantum = rw (p .in-image image laid, laid .quantum-registers-is) at q; classical = rw (classical-at r, laid .classical-registers-is) at b }
 
--- no step is written
-pub wrote-nothing : {out : List ℕ} {at : Position} → InOutput out at → WroteSteps [] out at (linearized.Done at) out
-unfolding play
-wrote-nothing o = record { plays = plays-stop [] (o .inside) refl; level = refl }
-
 -- the head is written
 pub start-wrote : {image : List ℕ} {l : Layout} {ss : List Step} {out out′ trace : List ℕ} {at p : Position} {r : Linearized} → StartContext image l out trace at → WroteSteps ss out at r out′ → r ≡ linearized.Done p → StartContext image l out′ trace p
 start-wrote {ss = ss} {out} {out′} {at = at} {p} start w e =

@@ -1,11 +1,12 @@
 -- Small laws that several crates cite: the entries of a list and of its front, ranges with one number more, a number that is none of some.
-use Prim.Native.Nat.{ℕ, zero, suc, _+_, _≤_, _<_}
-use native.Mathlib.Nat.{add-zero, not-suc-le-zero}
+use Prim.Native.Nat.{ℕ, zero, suc, _+_, _-_, _≤_, _<_}
+use native.Mathlib.Nat.{add-zero, le-of-suc-le-suc, not-suc-le-zero}
 use native.Mathlib.Numerals.{add-one}
 use native.Mathlib.Omega.{arith}
 use mathlib.Core.Path.{_≡_, refl, sym, ap, _∙_}
 use mathlib.Core.List.{List, [], _∷_, _++_, map, flatMap, append-assoc, append-nil}
-use lib.ListN.{length, getD, take}
+use lib.ListN.{length, getD, take, drop}
+use lib.Seq.{take-nil}
 use Rattle.model.specs.Lists.{range}
 
 -- within a list no default shows
@@ -20,6 +21,15 @@ getD-take zero i l d h = absurd (not-suc-le-zero h)
 getD-take (suc n) i [] d h = refl
 getD-take (suc n) zero (x ∷ l) d h = refl
 getD-take (suc n) (suc i) (x ∷ l) d h = getD-take n i l d (omega arith)
+
+-- what is left of a front behind some entries is a front of what is left
+pub drop-take : (k m : ℕ) (l : List ℕ) → k ≤ m → drop k (take m l) ≡ take (m - k) (drop k l)
+drop-take zero m l h = let e : m ≡ m - 0 = omega arith in ap (λ (j : ℕ). take j l) e
+drop-take (suc k) zero l h = absurd (not-suc-le-zero h)
+drop-take (suc k) (suc m) [] h = sym (take-nil (suc m - suc k))
+drop-take (suc k) (suc m) (x ∷ l) h =
+    let e : m - k ≡ suc m - suc k = omega arith in
+    drop-take k m l (le-of-suc-le-suc h) ∙ ap (λ (j : ℕ). take j (drop k l)) e
 
 -- ---- ranges
 

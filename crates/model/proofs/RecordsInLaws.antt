@@ -11,7 +11,7 @@ use lib.ListN.{length, getD, take, drop, length-drop}
 use lib.Seq.{drop-drop, length-take-le, take-take}
 use Rattle.model.specs.Lists.{sum}
 use Rattle.model.specs.RecordReader.{Next, next, end, wrong, recordLength, nextAt, found, recordsFrom, recordsIn}
-use Rattle.record_text.proofs.LongInputLaws.{drop-take}
+use Rattle.model.proofs.ListLaws.{drop-take}
 
 -- ---- what stands at a position depends on the words from there on alone
 

@@ -5,6 +5,7 @@ use mathlib.Core.List.{List, [], _∷_, map, flatMap}
 use lib.ListN.{length}
 use lib.Dec.{leb, ltb, eqb}
 use Rattle.model.specs.Lists.{range, largest, every, all}
+use Rattle.model.specs.Limits.{contentsWords, statementWords, mostWords, mostGates, mostParameters, mostArguments, mostElements, mostLevels}
 use Rattle.model.specs.Refusals as refusal
 use Rattle.model.specs.Image.{Statement, U, CX, Gate, Barrier, Measure, Reset, Conditional, Unknown, statement, Expr, Pi, Real, Int, Var, Binary, Unary, expression}
 use Rattle.model.specs.Image.{word, quantumRegisters, classicalRegisters, gates, mainStatements, allStatements, arguments, parameters, expressions, quantumRegisterAt, classicalRegisterAt, gateAt, statementAt, expressionAt, quantumSize, classicalSize, firstQubit, firstBit, gateParameters, gateArguments, gateBody, bodyStart, bodyLength, parameter, argumentRegister, argumentIndex, variables, scopeStatements, argumentSize, classicalArgumentSize}
@@ -37,15 +38,15 @@ module _ (image : List ℕ) where
   unfoldable pub contentsOk : Bool
   contentsOk =
       every
-      (leb 9 (length image) ∷ leb (length image) 8192 ∷ eqb (word image 0) (length image)
-      ∷ eqb (expressionAt image (expressions image)) (length image) ∷ leb (gates image) 128 ∷ [])
+      (leb contentsWords (length image) ∷ leb (length image) mostWords ∷ eqb (word image 0) (length image)
+      ∷ eqb (expressionAt image (expressions image)) (length image) ∷ leb (gates image) mostGates ∷ [])
 
   -- "2 for a register": "sizes 1 to 4,096; 4,096 qubits and 4,096 bits in all (the register that passes a total is the bad one)"
   unfoldable pub quantumRegisterFlaw : ℕ → ℕ
-  quantumRegisterFlaw r = firstOf ((every (leb 1 (quantumSize image r) ∷ leb (quantumSize image r) 4096 ∷ leb (firstQubit image (suc r)) 4096 ∷ []), refusal.register) ∷ [])
+  quantumRegisterFlaw r = firstOf ((every (leb 1 (quantumSize image r) ∷ leb (quantumSize image r) mostElements ∷ leb (firstQubit image (suc r)) mostElements ∷ []), refusal.register) ∷ [])
 
   unfoldable pub classicalRegisterFlaw : ℕ → ℕ
-  classicalRegisterFlaw r = firstOf ((every (leb 1 (classicalSize image r) ∷ leb (classicalSize image r) 4096 ∷ leb (firstBit image (suc r)) 4096 ∷ []), refusal.register) ∷ [])
+  classicalRegisterFlaw r = firstOf ((every (leb 1 (classicalSize image r) ∷ leb (classicalSize image r) mostElements ∷ leb (firstBit image (suc r)) mostElements ∷ []), refusal.register) ∷ [])
 
   -- n entries from a on, in a list of m: "An empty run of statements, parameters or arguments starts at most at its list's count."
   abbrev pub fits : ℕ → ℕ → ℕ → Bool
@@ -55,7 +56,7 @@ module _ (image : List ℕ) where
   unfoldable pub gateOk : ℕ → Bool
   gateOk g =
       every
-      (leb (gateParameters image g) 16 ∷ leb (gateArguments image g) 16 ∷ leb (gateBody image g) 1
+      (leb (gateParameters image g) mostParameters ∷ leb (gateArguments image g) mostArguments ∷ leb (gateBody image g) 1
       ∷ fits (bodyStart image g) (bodyLength image g) (allStatements image)
       ∷ cond (eqb (gateBody image g) 0)
       (every (eqb (bodyStart image g) 0 ∷ eqb (bodyLength image g) 0 ∷ []))
@@ -89,7 +90,7 @@ module _ (image : List ℕ) where
 
   -- "unused words 0": those of statement s after its first n
   unfoldable pub unused : ℕ → ℕ → Bool
-  unused s n = all (λ i. eqb (word image (statementAt image s + i)) 0) (range n (5 - n))
+  unused s n = all (λ i. eqb (word image (statementAt image s + i)) 0) (range n (statementWords - n))
 
   -- "8 call not downward": bodies "call only gates of smaller number"
   unfoldable pub downward : ℕ → ℕ → Bool
@@ -101,7 +102,7 @@ module _ (image : List ℕ) where
   plainFlaw ifFlaw scope s (U theta phi lambda q) =
       firstOf
       ((every (ltb theta (expressions image) ∷ ltb phi (expressions image) ∷ ltb lambda (expressions image) ∷ ltb q (arguments image) ∷ []), refusal.form)
-      ∷ (all (expressionOk (variables image scope) 32) (theta ∷ phi ∷ lambda ∷ []), refusal.expression)
+      ∷ (all (expressionOk (variables image scope) mostLevels) (theta ∷ phi ∷ lambda ∷ []), refusal.expression)
       ∷ (argumentOk scope q, refusal.argument) ∷ [])
   plainFlaw ifFlaw scope s (CX a b) =
       firstOf
@@ -112,7 +113,7 @@ module _ (image : List ℕ) where
       firstOf
       ((every (unused s 4 ∷ ltb g (gates image) ∷ fits p (gateParameters image g) (parameters image) ∷ fits a (gateArguments image g) (arguments image) ∷ []), refusal.form)
       ∷ (downward scope g, refusal.upward)
-      ∷ (all (λ i. expressionOk (variables image scope) 32 (parameter image i)) (range p (gateParameters image g)), refusal.expression)
+      ∷ (all (λ i. expressionOk (variables image scope) mostLevels (parameter image i)) (range p (gateParameters image g)), refusal.expression)
       ∷ (all (argumentOk scope) (range a (gateArguments image g)), refusal.argument)
       ∷ (matching (map (argumentSize image scope) (range a (gateArguments image g))), refusal.sizes) ∷ [])
   plainFlaw ifFlaw scope s (Barrier a n) =

@@ -5,6 +5,7 @@ use mathlib.Core.List.{List, [], _∷_, map}
 use lib.ListN.{getD}
 use lib.Dec.{eqb}
 use Rattle.model.specs.Lists.{range, sum, largest}
+use Rattle.model.specs.Limits.{contentsWords, gateWords, statementWords, argumentWords, expressionWords}
 
 -- ---- what an entry says
 
@@ -85,26 +86,26 @@ module _ (image : List ℕ) where
 
   -- "The bodies follow in that order without gaps." The place of each list's entry i: "A place is the index of an entry's first word in the image".
   abbrev pub quantumRegisterAt : ℕ → ℕ
-  quantumRegisterAt i = 9 + i
+  quantumRegisterAt i = contentsWords + i
 
   abbrev pub classicalRegisterAt : ℕ → ℕ
   classicalRegisterAt i = quantumRegisterAt quantumRegisters + i
 
   abbrev pub gateAt : ℕ → ℕ
-  gateAt i = classicalRegisterAt classicalRegisters + 5 * i
+  gateAt i = classicalRegisterAt classicalRegisters + gateWords * i
 
   abbrev pub statementAt : ℕ → ℕ
-  statementAt i = gateAt gates + 5 * i
+  statementAt i = gateAt gates + statementWords * i
 
   abbrev pub argumentAt : ℕ → ℕ
-  argumentAt i = statementAt allStatements + 2 * i
+  argumentAt i = statementAt allStatements + argumentWords * i
 
   abbrev pub parameterAt : ℕ → ℕ
   parameterAt i = argumentAt arguments + i
 
   -- past the last entry is the image's end
   abbrev pub expressionAt : ℕ → ℕ
-  expressionAt i = parameterAt parameters + 3 * i
+  expressionAt i = parameterAt parameters + expressionWords * i
 
   -- "Register, 1 word: size." A register's first qubit or bit is the sum of the sizes before it.
   abbrev pub quantumSize : ℕ → ℕ

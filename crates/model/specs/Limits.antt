@@ -1,30 +1,53 @@
--- The limits of document 01's "Limits" by their names, as contracts cite them, and a statement's width.
+-- Document 01, "The program image": how many words each entry has, and "Limits", each by its name.
 use Prim.Native.Nat.{ℕ}
 
--- the words of an image
+-- ---- words
+
+-- "contents first: total words, then counts of" eight lists
+abbrev pub contentsWords : ℕ
+contentsWords = 9
+
+-- "Gate, 5"
+abbrev pub gateWords : ℕ
+gateWords = 5
+
+-- "Statement, 5"
+abbrev pub statementWords : ℕ
+statementWords = 5
+
+-- "Argument, 2"
+abbrev pub argumentWords : ℕ
+argumentWords = 2
+
+-- "Expression, 3"
+abbrev pub expressionWords : ℕ
+expressionWords = 3
+
+-- ---- limits
+
+-- "9 to 8,192 words"
 abbrev pub mostWords : ℕ
 mostWords = 8192
 
--- the gates of an image
+-- "128 gates"
 abbrev pub mostGates : ℕ
 mostGates = 128
 
--- the parameters of a gate, which are the variables of its body
+-- "16 parameters and 16 arguments a gate"
 abbrev pub mostParameters : ℕ
 mostParameters = 16
 
--- the levels of an expression
-abbrev pub mostLevels : ℕ
-mostLevels = 32
+abbrev pub mostArguments : ℕ
+mostArguments = 16
 
--- the expressions that an image has room for
-abbrev pub mostExpressions : ℕ
-mostExpressions = 2727
-
--- the qubits of all quantum registers, and the bits of all classical ones
+-- "4,096 qubits and 4,096 bits in all"
 abbrev pub mostElements : ℕ
 mostElements = 4096
 
--- the words of a statement
-abbrev pub statementWords : ℕ
-statementWords = 5
+-- "An expression has at most 32 levels"
+abbrev pub mostLevels : ℕ
+mostLevels = 32
+
+-- no image has room for more expressions
+abbrev pub mostExpressions : ℕ
+mostExpressions = 2727

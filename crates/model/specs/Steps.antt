@@ -10,6 +10,7 @@ use Rattle.value.specs.declared.Value.{Value}
 use Rattle.value.specs.declared.Evaluation.{Evaluation}
 use Rattle.value.specs.declared.Evaluation.the-variants as evaluation
 use Rattle.model.specs.Lists.{range, largest, rising}
+use Rattle.model.specs.Limits.{mostLevels}
 use Rattle.model.specs.Image.{Statement, Gate, Conditional, statement, statementAt, argumentAt, expressionAt, parameter, argumentRegister, argumentIndex, gateParameters, gateArguments, gateBody, quantumSize, classicalSize, firstQubit, firstBit, quantumRegisters, classicalRegisters, mainStatements, argumentSize, classicalArgumentSize, rounds, scopeStatements}
 use Rattle.model.specs.Evaluate.{evaluate, zeroValue}
 use Rattle.model.specs.Records.{Record}
@@ -110,7 +111,7 @@ module _ (image : List ℕ) where
 
   unfoldable pub parameterValues : List Value → List ℕ → Values
   parameterValues values [] = have []
-  parameterValues values (e ∷ es) = also (evaluate image values 32 e) (expressionAt image e) (parameterValues values es)
+  parameterValues values (e ∷ es) = also (evaluate image values mostLevels e) (expressionAt image e) (parameterValues values es)
 
   unfoldable pub withValues : Frame → List ℕ → (List Value → List Step) → List Step
   withValues frame es next = given (frame .trace) (parameterValues (frame .values) es) next

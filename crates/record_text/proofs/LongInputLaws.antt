@@ -10,15 +10,8 @@ use lib.Seq.{take-nil, take-take, length-take-le}
 use Rattle.model.specs.Lists.{sum}
 use Rattle.model.specs.RecordReader.{recordsIn}
 use Rattle.model.specs.Listing.{littleEndian, wordsOf}
+use Rattle.model.proofs.ListLaws.{drop-take}
 use Rattle.record_text.specs.ReadBack.{lastLine, recordsText, readBack}
-
-pub drop-take : (k m : ℕ) (l : List ℕ) → k ≤ m → drop k (take m l) ≡ take (m - k) (drop k l)
-drop-take zero m l h = let e : m ≡ m - 0 = omega arith in ap (λ (j : ℕ). take j l) e
-drop-take (suc k) zero l h = absurd (not-suc-le-zero h)
-drop-take (suc k) (suc m) [] h = sym (take-nil (suc m - suc k))
-drop-take (suc k) (suc m) (x ∷ l) h =
-    let e : m - k ≡ suc m - suc k = omega arith in
-    drop-take k m l (le-of-suc-le-suc h) ∙ ap (λ (j : ℕ). take j (drop k l)) e
 
 -- n words of a front that has them
 words-of-front : (n m : ℕ) (bytes : List ℕ) → 8 * n ≤ m → wordsOf n (take m bytes) ≡ wordsOf n bytes

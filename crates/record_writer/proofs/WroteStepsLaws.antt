@@ -70,3 +70,12 @@ not-done (kind.FunctionOfFloats p) t e = absurd (let z : _≡_ {A = ℕ} 0 1 = c
 not-done kind.OutputFull t e = absurd (let z : _≡_ {A = ℕ} 0 1 = cc in omega arith)
 not-done (kind.Flawed c) t e = absurd (let z : _≡_ {A = ℕ} 0 1 = cc in omega arith)
 not-done kind.ShortTrace t e = absurd (let z : _≡_ {A = ℕ} 0 1 = cc in omega arith)
+
+-- the same steps, otherwise written
+pub wrote-steps : {ss ss′ : List Step} {out out′ : List ℕ} {at : Position} {r : Linearized} → ss ≡ ss′ → WroteSteps ss out at r out′ → WroteSteps ss′ out at r out′
+wrote-steps e w = rw (← e) w
+
+-- no step is written
+pub wrote-nothing : {out : List ℕ} {at : Position} → InOutput out at → WroteSteps [] out at (linearized.Done at) out
+unfolding play
+wrote-nothing o = record { plays = plays-stop [] (o .inside) refl; level = refl }

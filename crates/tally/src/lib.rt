@@ -11,7 +11,7 @@ ghost use Rattle.model.specs.Lists.{range, sum, largest};
 ghost use Rattle.model.specs.Image.{statement, argumentSize, classicalArgumentSize, rounds, gates, gateArguments, qubits, bits};
 ghost use Rattle.model.specs.Tally.{weightTally, figures, tally};
 ghost use Rattle.model.specs.Accepted.{PlainFacts, Facts};
-ghost use Rattle.image.specs.Limits.{mostWords};
+ghost use Rattle.model.specs.Limits.{mostWords};
 ghost use Rattle.image.specs.Layout.{LayoutOf};
 ghost use Rattle.image_check.specs.Answer.{AcceptedLayout};
 ghost use Rattle.tally.specs.Weights.{weightOf, entryOf, capped, nineOf, tallyAnswerOf};

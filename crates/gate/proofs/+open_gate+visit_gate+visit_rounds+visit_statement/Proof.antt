@@ -16,7 +16,8 @@ use Rattle.statement.proofs.LoopedLaws.{Looped, looped-start, looped-next, loop
 use Rattle.expression.proofs.NamedExpressionLaws.{named}
 use Rattle.record_writer.proofs.WroteStepsLaws.{refuses}
 use Rattle.argument.proofs.CallArgumentsLaws.{call-rounds-few}
-use Rattle.gate.proofs.RanStepsLaws.{wrote-ran, ran-next, ran-stop, ran-done, ran-returned, ran-refused, ran-enter, ran-lengths, ran-steps, ran-from, ran-still, wrote-steps}
+use Rattle.gate.proofs.RanStepsLaws.{wrote-ran, ran-next, ran-stop, ran-done, ran-returned, ran-refused, ran-enter, ran-lengths, ran-steps, ran-from, ran-still}
+use Rattle.record_writer.proofs.WroteStepsLaws.{wrote-steps}
 use Rattle.gate.proofs.CallStatementLaws.{known-gate, calls, named-listed, gate-given, gate-refused}
 use Rattle.gate.proofs.OpenGateLaws.{body-round, opaque-rounds, cut-steps, open-steps, bodyStatement, few-arguments}
 use Rattle.gate.proofs.RunContextLaws.{kind-read, primitive-steps, call-frame, context-on, context-opened, context-in-body, context-called, holds-body, statement-in-body, step-in-body}

@@ -2,7 +2,8 @@
 use mathlib.Core.Path.{refl}
 use borrow.Author.Needs.{needs}
 use Rattle.gate.proofs.RanStepsLaws.{wrote-ran, wrote-then, wrote-stops, ran-lengths, ran-steps}
-use Rattle.linearize.proofs.MainContextLaws.{no-steps, head-steps, wrote-nothing, start-wrote}
+use Rattle.record_writer.proofs.WroteStepsLaws.{wrote-nothing}
+use Rattle.linearize.proofs.MainContextLaws.{no-steps, head-steps, start-wrote}
 use Rattle.linearize.proofs.run_accepted.Statement.{statement}
 use Rattle.linearize.proofs.run_accepted.Tie as tie
 
