@@ -4,3 +4,4 @@ pub mod PlaceLaws
 pub mod QubitsLaws
 pub mod RegisterStartsLaws
 pub mod StatementsOfLaws
+pub mod GatesAcceptedLaws

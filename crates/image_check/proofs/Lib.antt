@@ -4,4 +4,3 @@ pub mod FirstBadLaws
 pub mod FirstOfLaws
 pub mod FlawLaws
 pub mod FlawOfLaws
-pub mod ScopeLaws

@@ -36,7 +36,7 @@ module _ (r : Linearized) (out trace : List ℕ) where
         traceLeft = trace;
       }
 
-  -- the output words written, and the records that the reader finds in them
+  -- the output words written, and the records that the record reader finds in them
   abbrev pub written : List ℕ
   written = take (positionOf r .words) out
 

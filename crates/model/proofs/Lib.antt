@@ -37,3 +37,4 @@ pub mod SetsLaws
 pub mod DecimalLaws
 pub mod WordsOfLaws
 pub mod RecordsInLaws
+pub mod DownwardLaws

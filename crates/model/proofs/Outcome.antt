@@ -290,9 +290,9 @@ module _ (image : List ℕ) (depth : ℕ) (out trace : List ℕ) where
   unfolding linearize
   front = take-append-seam (output played) (drop (length (output played)) out)
 
-  reader : recordsFound image depth out trace ≡ map encode (played .written)
+  records-read : recordsFound image depth out trace ≡ map encode (played .written)
   unfolding output
-  reader = ap recordsIn front ∙ reads-back (played .written)
+  records-read = ap recordsIn front ∙ reads-back (played .written)
 
   kept : (ws old : List ℕ) → length ws ≤ length old → length (laidOver ws old) ≡ length old
   kept ws old h = length-append ws (drop (length ws) old) ∙ omega (arith, length-drop (length ws) old)
@@ -304,7 +304,7 @@ module _ (image : List ℕ) (depth : ℕ) (out trace : List ℕ) where
 
   -- each record found is the words of one written
   found-all : (P : List ℕ → Type 0) → All (λ r. P (encode r)) (played .written) → (r : List ℕ) → List·Memᴰ r (recordsFound image depth out trace) → P r
-  found-all P h r m = members-All (subst (All P) (sym reader) (All-of encode h)) r m
+  found-all P h r m = members-All (subst (All P) (sym records-read) (All-of encode h)) r m
 
   sound-step : (acc : Accepted image) (t : List ℕ) (r : Record) → List·Memᴰ (write t r) (steps image depth) → T (declaredRecord image r) × T (distinctRecord image r)
   sound-step acc t r m = let g = members-All (steps-good image acc depth) (write t r) m in (g .0, g .1)
@@ -323,13 +323,13 @@ module _ (image : List ℕ) (depth : ℕ) (out trace : List ℕ) where
   unfolding linearize output
   claims =
       record {
-        most = λ k. subst (λ (n : ℕ). n ≤ recordFigure image depth k) (sym (ap (count k) reader ∙ counted k (played .written))) (records-most image depth (length out) (length trace) k);
-        exactly = λ d k. ap (count k) reader ∙ counted k (played .written) ∙ records-done image depth (length out) (length trace) d k;
+        most = λ k. subst (λ (n : ℕ). n ≤ recordFigure image depth k) (sym (ap (count k) records-read ∙ counted k (played .written))) (records-most image depth (length out) (length trace) k);
+        exactly = λ d k. ap (count k) records-read ∙ counted k (played .written) ∙ records-done image depth (length out) (length trace) d k;
         bounded = words-most image depth (length out) (length trace);
         ample = bound-suffices image depth (length out) (length trace);
         number = record-count image depth (length out) (length trace);
-        read = ap length reader ∙ length-map (played .written) encode;
-        filled = ap (flatMap (λ r. r)) reader ∙ joined (played .written) ∙ sym front;
+        read = ap length records-read ∙ length-map (played .written) encode;
+        filled = ap (flatMap (λ r. r)) records-read ∙ joined (played .written) ∙ sym front;
         entries = entries-done image depth (length out) (length trace);
         declares = found-all (λ r. T (declared image r)) (all-written image depth (length out) (length trace) (λ acc t r m. declared-words image r (sound-step acc t r m .0)));
         differs = found-all (λ r. T (distinct image r)) (all-written image depth (length out) (length trace) (λ acc t r m. distinct-words image r (sound-step acc t r m .1)));

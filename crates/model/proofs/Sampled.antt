@@ -10,27 +10,27 @@ pub record Sample : Type 0 where
   pub depth : ℕ
   pub outputLength : ℕ
   pub traceLength : ℕ
-  pub telling : List ℕ
+  pub answering : List ℕ
   pub outputWords : List ℕ
   pub traceWords : List ℕ
   pub tallying : List ℕ
 
 abbrev pub sample : List ℕ → ℕ → ℕ → ℕ → List ℕ → List ℕ → List ℕ → List ℕ → Sample
 sample image depth o t a b c d =
-    record { image = image; depth = depth; outputLength = o; traceLength = t; telling = a; outputWords = b; traceWords = c; tallying = d }
+    record { image = image; depth = depth; outputLength = o; traceLength = t; answering = a; outputWords = b; traceWords = c; tallying = d }
 
 -- number, two places and records told; output words; trace words; figures, or number and place
 abbrev pub answered : Sample → List (List ℕ)
-answered s = s .telling ∷ s .outputWords ∷ s .traceWords ∷ s .tallying ∷ []
+answered s = s .answering ∷ s .outputWords ∷ s .traceWords ∷ s .tallying ∷ []
 
 abbrev tallyNumbers : TallyAnswer → List ℕ
 tallyNumbers (tallied nine) = nine
 tallyNumbers (refused n p) = n ∷ p ∷ []
 
-abbrev tellingOf : Played → List ℕ
-tellingOf p = let n = answerNumbers (p .answer) in n .number ∷ n .place ∷ n .second ∷ length (p .written) ∷ []
+abbrev numbersOfAnswer : Played → List ℕ
+numbersOfAnswer p = let n = answerNumbers (p .answer) in n .number ∷ n .place ∷ n .second ∷ length (p .written) ∷ []
 
 unfoldable pub computed : Sample → List (List ℕ)
 computed s =
     let p = runs (s .image) (s .depth) (s .outputLength) (s .traceLength) in
-    tellingOf p ∷ output p ∷ traceOf (p .answer) ∷ tallyNumbers (tally (s .image) (s .depth)) ∷ []
+    numbersOfAnswer p ∷ output p ∷ traceOf (p .answer) ∷ tallyNumbers (tally (s .image) (s .depth)) ∷ []

@@ -12,7 +12,7 @@ use Rattle.model.specs.Check.{plainFlaw, downward, argumentOk, matching}
 use Rattle.image_check.specs.Statements.{callFits}
 use Rattle.image_check.proofs.CallFitsLaws.{call-gate, call-parameters, call-arguments, parameters-of, arguments-of}
 use Rattle.image_entries.proofs.JudgementLaws.{parameterOk}
-use Rattle.image_check.proofs.ScopeLaws.{variables-few}
+use Rattle.image.proofs.GatesAcceptedLaws.{variables-few}
 use Rattle.image_check.proofs.FirstOfLaws.{fails, passes, found}
 use borrow.Author.Needs.{needs}
 use Rattle.image_check.proofs.call_flaw.Statement.{statement}

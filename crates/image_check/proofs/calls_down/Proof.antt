@@ -1,5 +1,5 @@
 -- Main calls any gate, and a body those before its own.
-use Rattle.image_check.proofs.ScopeLaws.{down-main, down-body}
+use Rattle.model.proofs.DownwardLaws.{down-main, down-body}
 use borrow.Author.Needs.{needs}
 use Rattle.image_check.proofs.calls_down.Statement.{statement}
 use Rattle.image_check.proofs.calls_down.Tie as tie

@@ -6,7 +6,7 @@ use mathlib.Core.List.{[], _∷_}
 use Rattle.model.specs.Lists.{every, all}
 use denote.Ref.{now}
 use Rattle.model.specs.Image.{expressions, arguments, variables}
-use Rattle.image_check.proofs.ScopeLaws.{variables-few}
+use Rattle.image.proofs.GatesAcceptedLaws.{variables-few}
 use Rattle.image_check.proofs.FirstOfLaws.{fails, passes, none, out, then, whole, below, beyond}
 use native.Mathlib.Omega.{arith}
 use mathlib.Core.Path.{_≡_, sym, _∙_}
