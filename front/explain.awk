@@ -86,7 +86,7 @@ function tell_gate(    body) {
     else tell("There are no further statements.")
 }
 
-# An if has the faults of the statement that it holds, and then that one is in main too.
+# An if has the flaws of the statement that it holds, and then that one is in main too.
 function tell_bad_statement(    number, scope) {
     number = statement_at(PLACE)
     scope = number < WORD[MAIN] ? 0 : -1
@@ -131,7 +131,7 @@ function tell_expressions(number,    many, i) {
     }
 }
 
-# ---- 9 to 14: a fault of the run
+# ---- 9 to 14: a refusal of the run
 
 # The calls that the run was in, outermost first.
 function tell_frames(    i) {
@@ -144,7 +144,7 @@ function call_text(place,    many, i, text) {
     return "calls gate " WORD[place + 1] (many ? " with " text : "")
 }
 
-# The scope of the fault: the body of the gate that the last frame calls.
+# The scope of the refusal: the body of the gate that the last frame calls.
 function fault_scope() {
     return FRAMES ? WORD[CALLED_AT[FRAMES] + 1] + 1 : 0
 }
@@ -180,7 +180,7 @@ function statements_here(scope,    n, i, first, many) {
     return many + 0
 }
 
-# Entries may be shared, so that several statements can name the one at fault.
+# Entries may be shared, so that several statements can name the one that is refused.
 function tell_user(statement, scope) {
     tell("at " statement_name(statement, scope) ": " statement_text(statement))
 }

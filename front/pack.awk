@@ -6,7 +6,7 @@
 # awk counts in doubles, which are whole only up to 2^53. A word is therefore held in two parts of ten
 # digits each, and divided by 256 eight times.
 
-function fault(token, words) {
+function refuse(token, words) {
     token = substr(token, 1, 32)
     gsub(/[^!-~]/, "?", token)
     printf "line %d: `%s` %s\n", NR, token, words | "cat >&2"
@@ -47,9 +47,9 @@ function pack(token,    digits, minus, b) {
     digits = token
     minus = signed && digits ~ /^-/
     if (minus) digits = substr(digits, 2)
-    if (digits !~ /^[0-9]+$/) fault(token, "is not a word in decimal")
+    if (digits !~ /^[0-9]+$/) refuse(token, "is not a word in decimal")
     sub(/^0+/, "", digits)
-    if (length(digits) > 20 || !divide(digits)) fault(token, "is 2^64 or more: a word is at most 18446744073709551615")
+    if (length(digits) > 20 || !divide(digits)) refuse(token, "is 2^64 or more: a word is at most 18446744073709551615")
     if (minus) negate()
     for (b = 1; b <= 8; b++) printf "\\%03o", BYTE[b]
     # A line holds eight words, so that the shell reads few lines and none is long.

@@ -149,7 +149,7 @@ void cowhirame_tally(const uint64_t *image, size_t words, uint64_t depth, uint64
  *   trace, trace_words      the words lent for the calls that a refusal was met in: at least 256. Two words a call,
  *                           outermost first: 0 for main or the calling gate + 1, and the place of the call
  *   answer                  6 words: number, place, second, records, output words and trace words written
- * A refused run has written the records before the fault. Only 9 to 14 write a trace.
+ * A refused run has written the records before the refusal. Only 9 to 14 write a trace.
  */
 void cowhirame_run(const uint64_t *image, size_t words, uint64_t depth, uint64_t *output, size_t output_words,
                    uint64_t *trace, size_t trace_words, uint64_t *answer);
