@@ -19,7 +19,7 @@ fn with_byte(sum: u64, byte: u8) -> u64 {
 }
 
 // The sum of some bytes.
-pub fn of_bytes(bytes: &[u8]) -> u64 {
+pub fn bytes_checksum(bytes: &[u8]) -> u64 {
     let mut sum = 0u64;
     let mut i = 0;
     while i < bytes.len() {

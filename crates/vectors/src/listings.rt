@@ -15,7 +15,7 @@ fn lists(input: &[u8], length: u64, sum: u64) -> bool {
     if n as u64 != length {
         return false;
     }
-    checksum::of_bytes(&text[..n]) == sum
+    checksum::bytes_checksum(&text[..n]) == sum
 }
 
 // Whether the listing of an image is as a line says.

@@ -2,8 +2,8 @@
 use Prim.Native.Nat.{_≤_, _-_}
 use lib.ListN.{length}
 use borrow.Author.Needs.{needs}
-use Rattle.vectors.proofs.checksum.of_bytes.Statement.{statement}
-use Rattle.vectors.proofs.checksum.of_bytes.Tie as tie
+use Rattle.vectors.proofs.checksum.bytes_checksum.Statement.{statement}
+use Rattle.vectors.proofs.checksum.bytes_checksum.Tie as tie
 
 abbrev Inv-loop : tie.InvT-loop
 Inv-loop text sum₀ i₀ sum i = i ≤ length text
@@ -32,8 +32,8 @@ loop-again c = search needs
 returns : tie.Need-returns Inv-loop μ-loop
 returns c = search needs
 
-pub of-bytes-spec : {M : Type 1} → statement M
-of-bytes-spec =
+pub bytes-checksum-spec : {M : Type 1} → statement M
+bytes-checksum-spec =
     tie.close
     (tie.spec
     Inv-loop

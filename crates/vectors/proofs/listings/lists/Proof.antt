@@ -17,11 +17,11 @@ returns c = search needs
 array-share-prefix-text : tie.Need-array-share-prefix-text
 array-share-prefix-text c = c .before .listing-text .ensures .inside
 
-slice-aggregate-of-bytes : tie.Need-slice-aggregate-of-bytes
-slice-aggregate-of-bytes c = sym (length-take-le _ _ (c .before .before .listing-text .ensures .inside))
+slice-aggregate-bytes-checksum : tie.Need-slice-aggregate-bytes-checksum
+slice-aggregate-bytes-checksum c = sym (length-take-le _ _ (c .before .before .listing-text .ensures .inside))
 
-of-bytes-requires : tie.Need-of-bytes-requires
-of-bytes-requires c κs = search needs
+bytes-checksum-requires : tie.Need-bytes-checksum-requires
+bytes-checksum-requires c κs = search needs
 
 returns-2 : tie.Need-returns-2
 returns-2 c = search needs
@@ -34,6 +34,6 @@ lists-spec =
     listing-text-requires
     returns
     array-share-prefix-text
-    slice-aggregate-of-bytes
-    of-bytes-requires
+    slice-aggregate-bytes-checksum
+    bytes-checksum-requires
     returns-2)
