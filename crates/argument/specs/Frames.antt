@@ -1,11 +1,12 @@
 -- What a scope's statements have at hand, in the model's words, and the qubits and bits of their arguments.
-use Prim.Native.Nat.{ℕ, zero, suc, _+_, _-_, _≤_, _<_}
+use Prim.Native.Nat.{ℕ, zero, suc, _+_, _-_, _*_, _≤_, _<_}
 use mathlib.Core.Path.{_≡_}
 use mathlib.Core.Bool.{cond}
 use mathlib.Core.List.{List, [], map}
 use lib.Dec.{T, eqb}
 use lib.ListN.{length, take}
 use Rattle.value.specs.declared.Value.{Value}
+use Rattle.model.specs.Limits.{mostWords, mostArguments, mostElements}
 use Rattle.model.specs.Lists.{range, sum, all}
 use Rattle.model.specs.Check.{argumentOk, classicalArgumentOk, matching}
 use Rattle.model.specs.Image.{word, quantumSize, classicalSize, quantumRegisters, classicalRegisters, gateArguments, variables, argumentSize, classicalArgumentSize, argumentRegister, argumentIndex, firstBit}
@@ -30,7 +31,7 @@ pub record ScopeContext (image : List ℕ) (l : Layout) (qubit-starts : List ℕ
   pub laid : LayoutOf image l
   pub accepted : Accepted image
   pub starts : RegisterStarts (quantumSize image) (quantumRegisters image) qubit-starts
-  pub sixteen : length qubits ≡ 16
+  pub sixteen : length qubits ≡ mostArguments
   pub frame : FrameOk image scope [] (take (scopeQubits image scope) qubits)
 
 -- where the bits of an argument are found: the image is accepted, and its classical registers start where the table says
@@ -53,10 +54,10 @@ registerArgument image sizes at =
 pub record RegisterEntry (image register-starts : List ℕ) (sizes at : ℕ) : Type 0 where
   pub count : ℕ
   pub starts : RegisterStarts (λ i. word image (sizes + i)) count register-starts
-  pub few : count ≤ 4096
+  pub few : count ≤ mostElements
   pub listed : word image at < count
-  pub below : registerArgument image sizes at .first < 4096
-  pub near : (sizes ≤ 16384) × (at ≤ 16384)
+  pub below : registerArgument image sizes at .first < mostElements
+  pub near : (sizes ≤ 2 * mostWords) × (at ≤ 2 * mostWords)
 
 -- the first qubit of a quantum argument of a scope, and its size
 abbrev pub quantumArgument : List ℕ → ℕ → List ℕ → ℕ → Argument
@@ -89,12 +90,12 @@ pub record AcceptedArguments (image : List ℕ) (l : Layout) (scope a n : ℕ) :
 
 -- n arguments from a on that a call may have in a scope
 pub record CallArguments (image : List ℕ) (l : Layout) (scope a n : ℕ) : Type 0 where
-  pub few : n ≤ 16
+  pub few : n ≤ mostArguments
   pub listed : a + n ≤ l .arguments
   pub each : T (all (argumentOk image scope) (range a n))
   pub match : T (matching (map (argumentSize image scope) (range a n)))
 
 -- the qubits of n arguments in a round stand in front of sixteen
 pub record RoundQubits (image : List ℕ) (scope : ℕ) (qubits : List ℕ) (a n i : ℕ) (q : List ℕ) : Type 0 where
-  pub sixteen : length q ≡ 16
+  pub sixteen : length q ≡ mostArguments
   pub front : take n q ≡ map (qubitIn image (scopeFrame image scope [] qubits) i) (range a n)

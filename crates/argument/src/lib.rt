@@ -38,7 +38,7 @@ pub fn resolve_qreg(
     l: Layout,
     qubit_starts: &[u64],
     scope: u64,
-    qubits: &[u64; 16],
+    qubits: &[u64; image::FRAME_QUBITS],
     a: u64,
 ) -> Argument
     requires { ⌜ ScopeContext (now image) l (now «qubit_starts») scope (now qubits) × AcceptedArgument (now image) l scope a ⌝ }
@@ -76,11 +76,11 @@ pub fn qubits_in_round(
     l: Layout,
     qubit_starts: &[u64],
     scope: u64,
-    qubits: &[u64; 16],
+    qubits: &[u64; image::FRAME_QUBITS],
     a: u64,
     n: u64,
     i: u64,
-) -> [u64; 16]
+) -> [u64; image::FRAME_QUBITS]
     requires { ⌜
         ScopeContext (now image) l (now «qubit_starts») scope (now qubits)
         × CallArguments (now image) l scope a n
@@ -88,7 +88,7 @@ pub fn qubits_in_round(
         ⌝ }
     ensures { λ r. ⌜ RoundQubits (now (image .entry)) scope (now (qubits .entry)) a n i r ⌝ }
 {
-    let mut found = [0u64; 16];
+    let mut found = [0u64; image::FRAME_QUBITS];
     let mut j = 0u64;
     while j < n {
         let x = resolve_qreg(image, l, qubit_starts, scope, qubits, a + j);

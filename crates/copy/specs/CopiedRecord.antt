@@ -5,13 +5,14 @@ use mathlib.Core.Bool.{cond}
 use mathlib.Core.List.{List, _++_, map}
 use lib.Dec.{eqb}
 use lib.ListN.{length, getD, take, drop}
+use Rattle.model.specs.Limits.{mostArguments}
 use Rattle.model.proofs.CopyLaws.{renaming}
 
 -- the first n of sixteen qubits are renamed to the first n of sixteen others
 pub record RenamingGiven (old new : List ℕ) (n : ℕ) : Type 0 where
-  pub few : n ≤ 16
-  pub old-sixteen : length old ≡ 16
-  pub new-sixteen : length new ≡ 16
+  pub few : n ≤ mostArguments
+  pub old-sixteen : length old ≡ mostArguments
+  pub new-sixteen : length new ≡ mostArguments
 
 -- n words have room at a place after their own end
 pub record LaterPlace (out : List ℕ) (from to n : ℕ) : Type 0 where

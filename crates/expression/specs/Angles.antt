@@ -6,6 +6,7 @@ use lib.ListN.{getD, set}
 use lib.Dec.{eqb}
 use Rattle.rational.specs.declared.Rational64.{Rational64}
 use Rattle.value.specs.declared.Value.{Value}
+use Rattle.model.specs.Limits.{mostParameters}
 use Rattle.model.specs.Lists.{range}
 
 -- a denominator from its word: 0 stands for 1
@@ -31,6 +32,6 @@ valueAt words p = record { a = fractionAt words p; b = fractionAt words (p + 3) 
 abbrev pub putValue : List ℕ → ℕ → Value → List ℕ
 putValue words p x = putFraction (putFraction words p (x .a)) (p + 3) (x .b)
 
--- the sixteen angles of a frame, in 96 words
+-- the sixteen angles of a frame, in six words each
 unfoldable pub anglesIn : List ℕ → List Value
-anglesIn words = map (λ i. valueAt words (6 * i)) (range 0 16)
+anglesIn words = map (λ i. valueAt words (6 * i)) (range 0 mostParameters)

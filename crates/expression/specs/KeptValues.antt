@@ -9,6 +9,7 @@ use Rattle.value.specs.declared.Evaluation.{Evaluation}
 use Rattle.value.specs.declared.Evaluation.the-variants as evaluation
 use Rattle.value.specs.Value.{Sound}
 use Rattle.value.specs.Promise.{EvaluatesTo}
+use Rattle.model.specs.Limits.{mostLevels}
 use Rattle.model.specs.Image.{expressions}
 use Rattle.model.specs.Evaluate.{evaluate}
 use Rattle.image.specs.declared.Layout.{Layout}
@@ -25,18 +26,18 @@ keptAt kept e = valueAt kept (7 * e + 1)
 
 -- an entry's value is the same whatever the parameters are
 abbrev pub Constant : List ℕ → ℕ → Type 0
-Constant image e = (xs ys : List Value) → evaluate image xs 32 e ≡ evaluate image ys 32 e
+Constant image e = (xs ys : List Value) → evaluate image xs mostLevels e ≡ evaluate image ys mostLevels e
 
 -- what is marked as a constant has its value, and there is room for all
 pub record ConstantsKept (image kept : List ℕ) : Type 0 where
   pub room : 7 * expressions image ≤ length kept
-  pub each : (e : ℕ) → e < expressions image → constantAt kept e ≡ 1 → (xs : List Value) → evaluate image xs 32 e ≡ evaluation.Value (keptAt kept e)
+  pub each : (e : ℕ) → e < expressions image → constantAt kept e ≡ 1 → (xs : List Value) → evaluate image xs mostLevels e ≡ evaluation.Value (keptAt kept e)
   pub sound : (e : ℕ) → e < expressions image → constantAt kept e ≡ 1 → Sound (keptAt kept e)
 
 -- what is marked as known has its value with the parameters at hand
 pub record ValuesKept (image : List ℕ) (angles : List Value) (known : List Bool) (kept : List ℕ) : Type 0 where
   pub constants : ConstantsKept image kept
-  pub each : (e : ℕ) → e < expressions image → getD known e false ≡ true → evaluate image angles 32 e ≡ evaluation.Value (keptAt kept e)
+  pub each : (e : ℕ) → e < expressions image → getD known e false ≡ true → evaluate image angles mostLevels e ≡ evaluation.Value (keptAt kept e)
   pub sound : (e : ℕ) → e < expressions image → getD known e false ≡ true → Sound (keptAt kept e)
 
 -- a value is kept as entry e's, which is known then; the others stand as they stood
@@ -55,4 +56,4 @@ pub record AngleContext (image : List ℕ) (l : Layout) (angles : List Value) (k
 
 -- an expression was evaluated with the angles of a frame, and what is kept by then is right
 abbrev pub Evaluated : List ℕ → List Value → ℕ → Evaluation → List Bool → List ℕ → Type 0
-Evaluated image angles e r known kept = EvaluatesTo (evaluate image angles 32 e) r × ValuesKept image angles known kept
+Evaluated image angles e r known kept = EvaluatesTo (evaluate image angles mostLevels e) r × ValuesKept image angles known kept

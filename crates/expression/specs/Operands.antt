@@ -8,6 +8,7 @@ use Rattle.value.specs.declared.Evaluation.the-variants as evaluation
 use lib.Dec.{T}
 use lib.ListN.{take}
 use Rattle.value.specs.Promise.{SoundEvaluation}
+use Rattle.model.specs.Limits.{mostLevels, mostParameters}
 use Rattle.model.specs.Image.{expressionOf}
 use Rattle.model.specs.Check.{expressionOk}
 use Rattle.model.specs.Evaluate.{valueOf}
@@ -34,11 +35,11 @@ pub record NullaryResult (values : List Value) (kind a : ℕ) (r : Evaluation) :
   pub value : (operand : ℕ → Evaluation) (b : ℕ) → r ≡ valueOf values operand (expressionOf kind a b)
   pub sound : SoundEvaluation r
 
--- an expression that the check accepts: of at most 32 levels, with some variables that a gate may have
+-- an expression that the check accepts: of at most so many levels as the limit says, with some variables that a gate may have
 pub record AcceptedExpression (image : List ℕ) (e : ℕ) : Type 0 where
   pub variables : ℕ
-  pub few : variables ≤ 16
-  pub formed : T (expressionOk image variables 32 e)
+  pub few : variables ≤ mostParameters
+  pub formed : T (expressionOk image variables mostLevels e)
 
 -- an evaluation that came to no angle
 abbrev pub NoValue : Evaluation → Type 0

@@ -16,7 +16,7 @@ ghost use Rattle.value.specs.Promise.{EvaluatesTo};
 ghost use Rattle.model.specs.Evaluate.{evaluate, zeroValue};
 ghost use Rattle.model.specs.Steps.{parameterValues};
 ghost use Rattle.record_writer.specs.Promise.{SoundAngles};
-ghost use Rattle.model.specs.Limits.{mostExpressions};
+ghost use Rattle.model.specs.Limits.{mostParameters, mostLevels, mostExpressions};
 ghost use Rattle.image.specs.Layout.{LayoutOf};
 ghost use Rattle.expression.specs.Angles.{denominatorOf, fractionAt, signWord, putFraction, valueAt, putValue, anglesIn};
 ghost use Rattle.expression.specs.KeptValues.{Constant, ConstantsKept, ValueStored, ValuesKept, AngleContext, Evaluated};
@@ -24,6 +24,9 @@ ghost use Rattle.expression.specs.Operands.{BinaryResult, UnaryResult, N
 ghost use Rattle.expression.specs.NamedExpressions.{namedAt, NamesExpressions};
 
 // ---- angles in words: an array of numbers can be lent, an array of angles cannot
+
+// The words of the angles of a frame, six for each.
+pub const FRAME_ANGLE_WORDS: usize = 6 * image::FRAME_ANGLES;
 
 // A denominator from its word: 0 stands for 1, so that words that are all 0 are angles 0.
 fn denominator(word: u64) -> u64
@@ -84,13 +87,13 @@ fn put_value(words: &mut [u64], at: u64, x: Value)
     put_fraction(words, at + 3, b);
 }
 
-// The sixteen angles of a frame, from its 96 words.
-pub fn angles_in(words: &[u64; 96]) -> [Value; 16]
+// The sixteen angles of a frame, from its words.
+pub fn angles_in(words: &[u64; FRAME_ANGLE_WORDS]) -> [Value; image::FRAME_ANGLES]
     ensures { λ r. ⌜ r ≡ anglesIn (now (words .entry)) ⌝ }
 {
-    let mut values = [zero(); 16];
+    let mut values = [zero(); image::FRAME_ANGLES];
     let mut i = 0;
-    while i < 16 {
+    while i < image::MOST_PARAMETERS {
         values[i as usize] = value_at(words, 6 * i);
         i += 1;
     }
@@ -100,8 +103,8 @@ pub fn angles_in(words: &[u64; 96]) -> [Value; 16]
 // ---- expressions
 
 // The value of an entry of a kind from 0 to 3, which has no operand.
-fn nullary(angles: &[u64; 96], kind: u64, a: u64) -> Evaluation
-    requires { ⌜ SoundAngles (anglesIn (now angles)) × (kind < 4) × ((kind ≡ 1) → a < 2 ^ 32) × ((kind ≡ 3) → a < 16) ⌝ }
+fn nullary(angles: &[u64; FRAME_ANGLE_WORDS], kind: u64, a: u64) -> Evaluation
+    requires { ⌜ SoundAngles (anglesIn (now angles)) × (kind < 4) × ((kind ≡ 1) → a < 2 ^ 32) × ((kind ≡ 3) → a < mostParameters) ⌝ }
     ensures { λ r. ⌜ NullaryResult (anglesIn (now (angles .entry))) kind a r ⌝ }
 {
     match kind {
@@ -184,7 +187,7 @@ fn is_constant(image: &[u64], l: Layout, kept_values: &[u64], e: u64) -> bool
 fn worked_out(
     image: &[u64],
     l: Layout,
-    angles: &[u64; 96],
+    angles: &[u64; FRAME_ANGLE_WORDS],
     known: &mut [bool; image::MOST_EXPRESSIONS],
     kept_values: &mut [u64],
     e: u64,
@@ -222,7 +225,7 @@ fn worked_out(
 fn evaluate(
     image: &[u64],
     l: Layout,
-    angles: &[u64; 96],
+    angles: &[u64; FRAME_ANGLE_WORDS],
     known: &mut [bool; image::MOST_EXPRESSIONS],
     kept_values: &mut [u64],
     e: u64,
@@ -257,12 +260,12 @@ fn evaluate(
 fn evaluate_anew(
     image: &[u64],
     l: Layout,
-    angles: &[u64; 96],
+    angles: &[u64; FRAME_ANGLE_WORDS],
     kept_values: &mut [u64],
     e: u64,
 ) -> Evaluation
     requires { ⌜ AngleContext (now image) l (anglesIn (now angles)) (now «kept_values») × AcceptedExpression (now image) e ⌝ }
-    ensures { λ r. ⌜ EvaluatesTo (evaluate (now (image .entry)) (anglesIn (now (angles .entry))) 32 e) r × ConstantsKept (now (image .entry)) (now («kept_values» .exit)) ⌝ }
+    ensures { λ r. ⌜ EvaluatesTo (evaluate (now (image .entry)) (anglesIn (now (angles .entry))) mostLevels e) r × ConstantsKept (now (image .entry)) (now («kept_values» .exit)) ⌝ }
 {
     let i = e as usize;
     if kept_values[7 * i] == 1 {
@@ -313,7 +316,7 @@ fn refusal(r: Evaluation, place: u64) -> LinearizeErrorKind
 pub fn parameter_values(
     image: &[u64],
     l: Layout,
-    angles: &[u64; 96],
+    angles: &[u64; FRAME_ANGLE_WORDS],
     kept_values: &mut [u64],
     place: u64,
     n: u64,

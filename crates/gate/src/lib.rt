@@ -23,8 +23,8 @@ ghost use Rattle.gate.specs.CallStatement.{callOf, CallStatement, callSt
 
 // The sixteen angles and sixteen qubits that a gate's body has at most, an angle in six words.
 pub struct Frame {
-    pub angles: [u64; 96],
-    pub qubits: [u64; 16],
+    pub angles: [u64; expression::FRAME_ANGLE_WORDS],
+    pub qubits: [u64; image::FRAME_QUBITS],
 }
 
 // A call's pair of trace words: the caller's scope and the place of the call.
@@ -41,7 +41,7 @@ fn write_trace_pair(trace: &mut [u64], at: u64, scope: u64, place: u64)
 fn write_cut_gate(
     image: &[u64],
     l: Layout,
-    qubits: [u64; 16],
+    qubits: [u64; image::FRAME_QUBITS],
     g: u64,
     out: &mut [u64],
     at: Position,
@@ -58,7 +58,7 @@ fn write_cut_gate(
         ⌝ }
 {
     let place = l.gate_at(g);
-    let angles = [expression::zero(); 16];
+    let angles = [expression::zero(); image::FRAME_ANGLES];
     record_writer::write_opaque(out, at, g, angles, 0, qubits, image::word(image, place + 1))
 }
 
@@ -70,8 +70,8 @@ fn visit_primitive(
     bit_starts: &[u64],
     kept_values: &mut [u64],
     scope: u64,
-    angles: &[u64; 96],
-    qubits: &[u64; 16],
+    angles: &[u64; expression::FRAME_ANGLE_WORDS],
+    qubits: &[u64; image::FRAME_QUBITS],
     s: u64,
     out: &mut [u64],
     at: Position,
@@ -181,8 +181,8 @@ pub fn visit_statement(
     bit_starts: &[u64],
     kept_values: &mut [u64],
     scope: u64,
-    angles: &[u64; 96],
-    qubits: &[u64; 16],
+    angles: &[u64; expression::FRAME_ANGLE_WORDS],
+    qubits: &[u64; image::FRAME_QUBITS],
     s: u64,
     levels_left: u64,
     out: &mut [u64],
@@ -239,8 +239,8 @@ fn visit_gate(
     bit_starts: &[u64],
     kept_values: &mut [u64],
     scope: u64,
-    angles: &[u64; 96],
-    qubits: &[u64; 16],
+    angles: &[u64; expression::FRAME_ANGLE_WORDS],
+    qubits: &[u64; image::FRAME_QUBITS],
     s: u64,
     levels_left: u64,
     out: &mut [u64],
@@ -259,7 +259,7 @@ fn visit_gate(
         ⌝ }
 {
     let call = call_at(image, l, s);
-    let mut given_angles = [0u64; 96];
+    let mut given_angles = [0u64; expression::FRAME_ANGLE_WORDS];
     match expression::parameter_values(
         image,
         l,
@@ -297,9 +297,9 @@ fn visit_rounds(
     bit_starts: &[u64],
     kept_values: &mut [u64],
     scope: u64,
-    qubits: &[u64; 16],
+    qubits: &[u64; image::FRAME_QUBITS],
     call: Call,
-    angles: [u64; 96],
+    angles: [u64; expression::FRAME_ANGLE_WORDS],
     levels_left: u64,
     out: &mut [u64],
     trace: &mut [u64],

@@ -2,7 +2,7 @@
 ghost use mathlib.Core.Path.{_≡_};
 ghost use mathlib.Core.List.{map};
 ghost use lib.ListN.{length, set};
-ghost use Prim.Native.Nat.{_+_, _<_, _≤_, min, max};
+ghost use Prim.Native.Nat.{_+_, _*_, _<_, _≤_, min, max};
 ghost use Rattle.model.specs.Lists.{range, sum};
 ghost use Rattle.model.specs.Image.{word, quantumRegisterAt, classicalRegisterAt, gateAt, statementAt, argumentAt, parameterAt, expressionAt, argumentSize, classicalArgumentSize, rounds};
 ghost use Rattle.model.specs.Limits.{mostElements, mostWords};
@@ -41,6 +41,11 @@ pub const MOST_GATES: u64 = 128;
 pub const MOST_PARAMETERS: u64 = 16;
 
 pub const MOST_ARGUMENTS: u64 = 16;
+
+// The entries of a frame: an angle for each parameter that a gate may have, and a qubit for each argument.
+pub const FRAME_ANGLES: usize = MOST_PARAMETERS as usize;
+
+pub const FRAME_QUBITS: usize = MOST_ARGUMENTS as usize;
 
 // The most levels of an expression.
 pub const MOST_LEVELS: u64 = 32;
@@ -202,7 +207,7 @@ pub fn store(table: &mut [u64], i: usize, x: u64)
 
 // Where each of n registers starts whose sizes stand from a place on: the first qubit, or bit, of each in one pass.
 pub fn first_of_each(image: &[u64], at: u64, n: u64, firsts: &mut [u64])
-    requires { ⌜ (at ≤ 16384) × (n ≤ length (now firsts)) × (sum (map (λ i. word (now image) (at + i)) (range 0 n)) ≤ mostElements) ⌝ }
+    requires { ⌜ (at ≤ 2 * mostWords) × (n ≤ length (now firsts)) × (sum (map (λ i. word (now image) (at + i)) (range 0 n)) ≤ mostElements) ⌝ }
     ensures { λ r. ⌜ RegisterStarts (λ i. word (now (image .entry)) (at + i)) n (now (firsts .exit)) ⌝ }
 {
     let mut total = 0u64;

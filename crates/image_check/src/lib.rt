@@ -17,7 +17,7 @@ ghost use Rattle.image.specs.Layout.{LayoutOf, GatesAccepted};
 ghost use Rattle.image_entries.specs.Flaws.{flawOf};
 ghost use Rattle.image_entries.specs.Judging.{TablesFit, TablesOf};
 ghost use Rattle.image_check.specs.Answer.{entriesFlaw, LayoutAnswerOf};
-ghost use Rattle.image_check.specs.Statements.{CheckContext, callFits, callFlaw, noIf};
+ghost use Rattle.image_check.specs.Statements.{fewExpressions, CheckContext, callFits, callFlaw, noIf};
 
 // ---- statements
 
@@ -416,7 +416,7 @@ pub const FEW_EXPRESSIONS: usize = 128;
 
 // The first bad statement, with tables for a few expressions.
 fn first_bad_few_expressions(image: &[u64], l: Layout) -> Flaw
-    requires { ⌜ LayoutOf (now image) l × GatesAccepted (now image) × (l .expressions ≤ 128) ⌝ }
+    requires { ⌜ LayoutOf (now image) l × GatesAccepted (now image) × (l .expressions ≤ fewExpressions) ⌝ }
     ensures { λ r. ⌜ flawOf r ≡ statementEntries (now (image .entry)) ⌝ }
 {
     let mut levels = [0u64; FEW_EXPRESSIONS];

@@ -12,10 +12,6 @@ use Rattle.record_writer.specs.declared.Position.{Position}
 use Rattle.record_writer.specs.Promise.{InOutput}
 use Rattle.gate.specs.RunContext.{mostTraceWords}
 
--- the most expressions of a program that has few
-abbrev pub fewExpressions : ℕ
-fewExpressions = 128
-
 -- the most quantum, and the most classical, registers of a program that has few
 abbrev pub fewRegisters : ℕ
 fewRegisters = 64

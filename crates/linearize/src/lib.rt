@@ -9,11 +9,12 @@ ghost use mathlib.Core.Path.{_≡_};
 ghost use Prim.Native.Nat.{_-_, _≤_};
 ghost use lib.ListN.{length};
 ghost use Rattle.model.specs.Steps.{steps};
+ghost use Rattle.image_check.specs.Statements.{fewExpressions};
 ghost use Rattle.expression.specs.KeptValues.{ConstantsKept};
 ghost use Rattle.gate.specs.RunContext.{RunContext};
 ghost use Rattle.gate.specs.PlainStatement.{PlainStatement};
 ghost use Rattle.gate.specs.RanSteps.{RanSteps};
-ghost use Rattle.linearize.specs.MainContext.{fewExpressions, fewRegisters, StartContext, MainContext};
+ghost use Rattle.linearize.specs.MainContext.{fewRegisters, StartContext, MainContext};
 ghost use Rattle.linearize.specs.MainStatement.{MainStatement, IsConditional, mainStatementSteps, innerSteps, mainSteps};
 ghost use Rattle.linearize.specs.Linearizes.{refusedWith, Linearizes};
 
@@ -36,8 +37,8 @@ fn visit_inner_statement(
     qubit_starts: &[u64],
     bit_starts: &[u64],
     kept_values: &mut [u64],
-    angles: &[u64; 96],
-    qubits: &[u64; 16],
+    angles: &[u64; expression::FRAME_ANGLE_WORDS],
+    qubits: &[u64; image::FRAME_QUBITS],
     inner: u64,
     levels_left: u64,
     out: &mut [u64],
@@ -81,8 +82,8 @@ fn visit_conditional(
     qubit_starts: &[u64],
     bit_starts: &[u64],
     kept_values: &mut [u64],
-    angles: &[u64; 96],
-    qubits: &[u64; 16],
+    angles: &[u64; expression::FRAME_ANGLE_WORDS],
+    qubits: &[u64; image::FRAME_QUBITS],
     s: u64,
     levels_left: u64,
     out: &mut [u64],
@@ -136,8 +137,8 @@ fn visit_main(
     qubit_starts: &[u64],
     bit_starts: &[u64],
     kept_values: &mut [u64],
-    angles: &[u64; 96],
-    qubits: &[u64; 16],
+    angles: &[u64; expression::FRAME_ANGLE_WORDS],
+    qubits: &[u64; image::FRAME_QUBITS],
     s: u64,
     levels_left: u64,
     out: &mut [u64],
@@ -208,8 +209,8 @@ fn visit_program(
         (now (out .entry)) at (now (trace .entry)) r (now (out .exit)) (now (trace .exit))
         ⌝ }
 {
-    let angles = [0u64; 96];
-    let qubits = [0u64; 16];
+    let angles = [0u64; expression::FRAME_ANGLE_WORDS];
+    let qubits = [0u64; image::FRAME_QUBITS];
     let n = l.main_statements;
     let mut position = at;
     let mut s = 0u64;

@@ -6,16 +6,17 @@ use lib.Dec.{T}
 use lib.ListN.{length}
 use Rattle.model.specs.Lists.{range, all}
 use Rattle.model.specs.All.{All}
+use Rattle.model.specs.Limits.{mostGates, mostElements, mostLevels}
 use Rattle.model.specs.Image.{Statement, U, CX, Gate, Barrier, Measure, Reset, Conditional, Unknown, statement, expressions, arguments, parameters, gates, mainStatements, allStatements, quantumRegisters, classicalRegisters, quantumSize, classicalSize, qubits, bits, gateParameters, gateArguments, parameter, variables, argumentSize, classicalArgumentSize, scopeStatements}
 use Rattle.model.specs.Check.{gateOk, expressionOk, argumentOk, classicalArgumentOk, downward, matching, inConditional, flaw}
 use Rattle.model.specs.Claims.{isQubit}
 
 pub record Accepted (w : List ℕ) : Type 0 where
-  pub fewGates : gates w ≤ 128
+  pub fewGates : gates w ≤ mostGates
   pub qsizes : (r : ℕ) → r < quantumRegisters w → 1 ≤ quantumSize w r
   pub csizes : (r : ℕ) → r < classicalRegisters w → 1 ≤ classicalSize w r
-  pub fewQubits : qubits w ≤ 4096
-  pub fewBits : bits w ≤ 4096
+  pub fewQubits : qubits w ≤ mostElements
+  pub fewBits : bits w ≤ mostElements
   pub gateEntry : (g : ℕ) → g < gates w → T (gateOk w g)
   pub flawless : (scope : ℕ) → scope ≤ gates w → All (λ s. flaw w scope s ≡ 0) (scopeStatements w scope)
 
@@ -24,12 +25,12 @@ module _ (image : List ℕ) where
   abbrev pub PlainFacts : ℕ → Statement → Type 0
   PlainFacts scope (U theta phi lambda q) =
       (theta < expressions image) × (phi < expressions image) × (lambda < expressions image) × (q < arguments image)
-      × T (all (expressionOk image (variables image scope) 32) (theta ∷ phi ∷ lambda ∷ [])) × T (argumentOk image scope q)
+      × T (all (expressionOk image (variables image scope) mostLevels) (theta ∷ phi ∷ lambda ∷ [])) × T (argumentOk image scope q)
   PlainFacts scope (CX a b) =
       (a < arguments image) × (b < arguments image) × T (argumentOk image scope a) × T (argumentOk image scope b) × T (matching (argumentSize image scope a ∷ argumentSize image scope b ∷ []))
   PlainFacts scope (Gate g p a) =
       (g < gates image) × (p + gateParameters image g ≤ parameters image) × (a + gateArguments image g ≤ arguments image) × T (downward image scope g)
-      × T (all (λ i. expressionOk image (variables image scope) 32 (parameter image i)) (range p (gateParameters image g)))
+      × T (all (λ i. expressionOk image (variables image scope) mostLevels (parameter image i)) (range p (gateParameters image g)))
       × T (all (argumentOk image scope) (range a (gateArguments image g))) × T (matching (map (argumentSize image scope) (range a (gateArguments image g))))
   PlainFacts scope (Barrier a n) = (a + n ≤ arguments image) × T (all (argumentOk image scope) (range a n))
   PlainFacts scope (Measure q c) =

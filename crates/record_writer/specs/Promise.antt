@@ -5,6 +5,7 @@ use mathlib.Core.List.{List, [], _∷_}
 use lib.ListN.{length, getD}
 use Rattle.value.specs.declared.Value.{Value}
 use Rattle.value.specs.Value.{Sound}
+use Rattle.model.specs.Limits.{mostParameters, mostArguments}
 use Rattle.model.specs.Evaluate.{zeroValue}
 use Rattle.float.specs.Float.{floatBits}
 use Rattle.model.specs.Records.{Record, encode}
@@ -65,18 +66,18 @@ pub record AppendedWords (ws out : List ℕ) (at : Position) (r : Linearized) (o
 
 -- sixteen angles, each in lowest terms and in range
 pub record SoundAngles (angles : List Value) : Type 0 where
-  pub sixteen : length angles ≡ 16
-  pub each : (i : ℕ) → i < 16 → Sound (getD angles i zeroValue)
+  pub sixteen : length angles ≡ mostParameters
+  pub each : (i : ℕ) → i < mostParameters → Sound (getD angles i zeroValue)
 
 -- the first n of sixteen sound angles are given
 pub record AnglesGiven (angles : List Value) (n : ℕ) : Type 0 where
   pub sound : SoundAngles angles
-  pub few : n ≤ 16
+  pub few : n ≤ mostParameters
 
 -- the first n of sixteen qubits are given
 pub record QubitsGiven (qubits : List ℕ) (n : ℕ) : Type 0 where
-  pub sixteen : length qubits ≡ 16
-  pub few : n ≤ 16
+  pub sixteen : length qubits ≡ mostArguments
+  pub few : n ≤ mostArguments
 
 -- the three angles of a U are sound
 pub record SoundTriple (theta phi lambda : Value) : Type 0 where

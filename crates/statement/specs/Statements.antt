@@ -7,6 +7,7 @@ use lib.Dec.{T, eqb}
 use lib.ListN.{getD, take}
 use mathlib.Core.Option.{Option, none, some}
 use Rattle.value.specs.declared.Value.{Value}
+use Rattle.model.specs.Limits.{mostElements}
 use Rattle.model.specs.Lists.{range, largest, rising}
 use Rattle.model.specs.Records.{Record}
 use Rattle.model.specs.Image.{argumentAt, argumentSize, classicalArgumentSize, rounds, variables}
@@ -133,7 +134,7 @@ pub record MarksAdded (before : List Bool) (l : List ℕ) (after : List Bool) : 
 pub record MarksCover (marks : List Bool) (l : List ℕ) (marks′ : List Bool) (end : ℕ) : Type 0 where
   pub adds : MarksAdded marks l marks′
   pub below : All (λ q. q < end) l
-  pub few : end ≤ 4096
+  pub few : end ≤ mostElements
 
 -- ---- opaque gates
 
