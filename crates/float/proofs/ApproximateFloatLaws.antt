@@ -2,7 +2,7 @@
 use mathlib.Core.Path.{_≡_, refl, sym, ap, _∙_}
 use mathlib.Core.Bool.{Bool, _&&_}
 use Prim.Native.Nat.{ℕ, zero, suc, _*_, _/_, _%_, _^_, _<_}
-use native.Mathlib.Nat.{mul-one, one-mul}
+use native.Mathlib.Nat.{mul-one, one-mul, div-one}
 use lib.Dec.{T, ltb, leb, eqb, eqb→eq}
 use lib.IntN.{ℤ, pos, negsuc}
 use lib.Ieee.{Float, nan, inf, fin, Format, binary32, up, down, fits, prec, low, emax}
@@ -38,6 +38,12 @@ float-lowest f s zero e t = ap (gcd (0 * up e)) (zero-flat f s e t) ∙ gcd-one 
 float-lowest f s (suc m) (pos k) t = gcd-one (suc m * 2 ^ k)
 float-lowest f s (suc m) (negsuc k) t = ap (λ (z : ℕ). gcd z (2 ^ suc k)) (mul-one (suc m)) ∙ odd-power (suc m) (suc k) (float-odd f s m (negsuc k) t)
 
+-- Its own parts are in reduced terms as they stand.
+pub own-lowest : (f : Format) (s : Bool) (m : ℕ) (e : ℤ) → T (fits f (fin s m e)) → (m * up e / gcd (m * up e) (down e) ≡ m * up e) × (down e / gcd (m * up e) (down e) ≡ down e)
+own-lowest f s m e h =
+    let one = float-lowest f s m e h in
+    (ap (λ (g : ℕ). m * up e / g) one ∙ div-one (m * up e), ap (λ (g : ℕ). down e / g) one ∙ div-one (down e))
+
 -- The value of a float that fits its format, however it is written, comes to the float's own parts in reduced terms.
 pub value-lowest : (f : Format) (s t : Bool) (m : ℕ) (e : ℤ) (a c : ℕ) → 0 < c → T (fits f (fin t m e)) → HasValue (fin t m e) s a c
     → (a / gcd a c ≡ m * up e) × (c / gcd a c ≡ down e)
@@ -49,11 +55,13 @@ unfolding approximateFloat
 float-sound nan h = tt
 float-sound (inf s) h = tt
 float-sound (fin s m e) h =
-    tested (magnitudeInRange (m * up e) && magnitudeInRange (down e)) (ratio s (m * up e) (down e))
+    let own = own-lowest binary32 s m e h in
+    rw (own .0, own .1)
+    (tested (magnitudeInRange (m * up e) && magnitudeInRange (down e)) (ratio s (m * up e) (down e))
     (λ t. let r = both-true (magnitudeInRange (m * up e)) (magnitudeInRange (down e)) t in record {
       positive = down-pos e;
       numer-fits = ltb-true _ _ (r .0);
       denom-fits = ltb-true _ _ (r .1);
       coprime = float-lowest binary32 s m e h;
       zero-unsigned = zero-unsigned-of s (m * up e);
-    })
+    }))

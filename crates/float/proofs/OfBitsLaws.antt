@@ -8,7 +8,7 @@ use borrow.Author.Tests.{ne-eqb}
 use lib.Ieee.{Float, nan, inf, fin, binary32, fits, ofBits, ofFields, toBits, odd}
 use lib.Ieee.Exact.{HasValue, odd-sign}
 use lib.Ieee.Bits.{ofBits-toBits}
-use Rattle.float.proofs.ApproximateFloatLaws.{value-lowest}
+use Rattle.float.proofs.ApproximateFloatLaws.{own-lowest, value-lowest}
 use Rattle.rational.specs.declared.OptionRational64.the-variants.{None}
 use Rattle.rational.specs.Rational.{reduced, checked}
 use Rattle.float.specs.Float.{approximateFloat}
@@ -18,7 +18,7 @@ value-exact : (x : Float) (s : Bool) (a c : ℕ) → 0 < c → T (fits binary32 
 unfolding approximateFloat
 value-exact nan s a c p h v = absurd v
 value-exact (inf t) s a c p h v = absurd v
-value-exact (fin t m e) s a c p h v = let q = value-lowest binary32 s t m e a c p h v in rw (q .0, q .1, v .0)
+value-exact (fin t m e) s a c p h v = let q = value-lowest binary32 s t m e a c p h v in let own = own-lowest binary32 t m e h in rw (q .0, q .1, own .0, own .1, v .0)
 
 -- The float of some bits, for each of the three kinds of exponent.
 module _ (b : ℕ) where

@@ -5,7 +5,7 @@ use lib.Ieee.{Float, nan, inf, fin, up, down, binary32, ofInt, toBits, div}
 use Rattle.rational.specs.declared.Rational64.{Rational64}
 use Rattle.rational.specs.declared.OptionRational64.{OptionRational64}
 use Rattle.rational.specs.declared.OptionRational64.the-variants.{None}
-use Rattle.rational.specs.Rational.{signedInteger, ratio, checked}
+use Rattle.rational.specs.Rational.{signedInteger, reduced, checked}
 
 -- The first number that is not the bits of an f32.
 abbrev pub floatBitsLimit : ℕ
@@ -15,11 +15,11 @@ floatBitsLimit = 2 ^ 32
 abbrev pub significandLimit : ℕ
 significandLimit = 2 ^ 24
 
--- The fraction of an f32: "the exact value of a finite f32, reduced; it fails exactly for infinities, NaN and values outside the range". A finite f32 is ±m·2^e with an odd m, or zero, so m·2^e is reduced as it stands.
+-- The fraction of an f32: "the exact value of a finite f32, reduced; it fails exactly for infinities, NaN and values outside the range". A finite f32 is ±m·2^e.
 unfoldable pub approximateFloat : Float → OptionRational64
 approximateFloat nan = None
 approximateFloat (inf s) = None
-approximateFloat (fin s m e) = checked (ratio s (m * up e) (down e))
+approximateFloat (fin s m e) = checked (reduced s (m * up e) (down e))
 
 -- The bits of an f32: "A NaN is reported as hexadecimal 7FC00000."
 unfoldable pub floatBits : Float → ℕ
