@@ -40,7 +40,7 @@ named-is image p n = parameters-from image p 0 n ∙ ap (λ (m : ℕ). map (para
 -- ---- what the check says
 
 module _ {image : List ℕ} {l : Layout} {qubit-starts : List ℕ} {scope : ℕ} {qubits : List ℕ} (st : ScopeContext image l qubit-starts scope qubits) where
-  below : (g : ℕ) → g < gates image → (scope : ℕ) → T (downward image scope g) → g < nested scope
+  below : (g : ℕ) → g < gates image → (scope : ℕ) → T (downward scope g) → g < nested scope
   unfolding downward
   below g h zero d = omega (arith, st .accepted .fewGates)
   below g h (suc k) d = ltb→lt g k d

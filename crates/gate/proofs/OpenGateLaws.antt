@@ -60,7 +60,7 @@ module _ {image : List ℕ} {l : Layout} {qubit-starts : List ℕ} {scope : ℕ}
 
     -- the round's steps: those of the opened gate under the call's pair of words
     pub body-round : (levels-left : ℕ) (angles new : List Value) → ¬ (call .body ≡ 0)
-        → map (under (scope ∷ statementAt image (call .statement) ∷ [])) (openGate image (opening image levels-left) (scopeFrame image (suc (call .gate)) new q) (call .gate))
+        → map (under (scope ∷ statementAt image (call .statement) ∷ [])) (openGate (opening image levels-left) (scopeFrame image (suc (call .gate)) new q) (call .gate))
         ≡ visitGate image (opening image levels-left) (scopeFrame image scope angles qubits) (call .statement) (call .gate) (range (call .argument) (call .arguments)) (take (call .parameters) new) i
     unfolding visitGate pushFrame scopeQubits variables qubitIn
     body-round levels-left angles new h =
@@ -124,19 +124,19 @@ module _ (image : List ℕ) (g levels-left : ℕ) (angles : List Value) (q : Lis
   abbrev opened : Frame
   opened = scopeFrame image (suc g) angles q
 
-  pub cut-steps : levels-left ≡ 0 → _≡_ {A = List Step} (write [] (Record.Opaque g [] (take (gateArguments image g) q)) ∷ []) (openGate image (opening image levels-left) opened g)
+  pub cut-steps : levels-left ≡ 0 → _≡_ {A = List Step} (write [] (Record.Opaque g [] (take (gateArguments image g) q)) ∷ []) (openGate (opening image levels-left) opened g)
   unfolding openGate opening scopeQubits
   cut-steps e = rw e refl
 
   abbrev pub bodyStatement : ℕ → ℕ → List Step
   bodyStatement first i = visitStatement image (opening image (levels-left - 1)) opened (first + i)
 
-  pub open-steps : (first n : ℕ) → ¬ (levels-left ≡ 0) → scopeStatements image (suc g) ≡ range first n → enter [] g ∷ inRounds n (bodyStatement first) ≡ openGate image (opening image levels-left) opened g
+  pub open-steps : (first n : ℕ) → ¬ (levels-left ≡ 0) → scopeStatements image (suc g) ≡ range first n → enter [] g ∷ inRounds n (bodyStatement first) ≡ openGate (opening image levels-left) opened g
   unfolding openGate opening visitBody
   open-steps first n h run =
       let e : suc (levels-left - 1) ≡ levels-left = omega arith in
       ap (λ (l : List Step). enter [] g ∷ l) (sym (from-first (visitStatement image (opening image (levels-left - 1)) opened) first n))
-      ∙ rw (← run) refl ∙ ap (λ (k : ℕ). openGate image (opening image k) opened g) e
+      ∙ rw (← run) refl ∙ ap (λ (k : ℕ). openGate (opening image k) opened g) e
 
 -- a gate has at most 16 arguments
 pub few-arguments : {image : List ℕ} {l : Layout} {qubit-starts : List ℕ} {g : ℕ} {qubits : List ℕ} → ScopeContext image l qubit-starts (suc g) qubits → g < l .gates → gateArguments image g ≤ 16

@@ -32,4 +32,4 @@ statementSteps image levels-left scope angles qubits s = plainSteps image levels
 
 -- the steps of a gate that has a body, from the words of its frame: those of the body, or the gate itself where no level is left
 abbrev pub openedSteps : List ℕ → ℕ → ℕ → List ℕ → List ℕ → List Step
-openedSteps image levels-left g angles qubits = openGate image (opening image levels-left) (scopeFrame image (suc g) (anglesIn angles) qubits) g
+openedSteps image levels-left g angles qubits = openGate (opening image levels-left) (scopeFrame image (suc g) (anglesIn angles) qubits) g

@@ -9,11 +9,11 @@ use borrow.Author.Tests.{ne-eqb}
 use Rattle.model.specs.Lists.{range}
 use Rattle.model.proofs.All.{range-All}
 use Rattle.model.proofs.Accepted.{passes, none-bad}
-use Rattle.model.specs.Image.{word, quantumRegisters, classicalRegisters, quantumRegisterAt, classicalRegisterAt, firstQubit, firstBit, gates}
-use Rattle.model.specs.Check.{Flaw, fine, bad, orElse, firstBad, quantumRegisterFlaw, classicalRegisterFlaw, registers, contentsOk, gateFlaw, gateEntries, statementEntries, check}
+use Rattle.model.specs.Image.{word, quantumRegisters, classicalRegisters, quantumRegisterAt, classicalRegisterAt, quantumSize, classicalSize, gates}
+use Rattle.model.specs.Check.{Flaw, fine, bad, orElse, firstBad, registerFlaw, registers, contentsOk, gateFlaw, gateEntries, statementEntries, check}
 use Rattle.image_entries.specs.declared.Flaw as code
 use Rattle.image.specs.declared.Layout.{Layout}
-use Rattle.image_entries.specs.Flaws.{flawOf, registerFlaw}
+use Rattle.image_entries.specs.Flaws.{flawOf}
 use Rattle.image.specs.Layout.{LayoutOf, GatesAccepted}
 use Rattle.image_check.specs.Answer.{entriesFlaw}
 use Rattle.model.proofs.FlawLaws.{check-known}
@@ -32,18 +32,16 @@ flaw-next v w e = sym (rw e refl)
 -- the registers, as the code reads them
 module _ (image : List ℕ) where
   abbrev pub quantumPart : Flaw
-  quantumPart = firstBad (quantumRegisterFlaw image) (quantumRegisterAt image) (range 0 (quantumRegisters image))
+  quantumPart = firstBad (registerFlaw (quantumSize image)) (quantumRegisterAt image) (range 0 (quantumRegisters image))
 
   abbrev pub classicalPart : Flaw
-  classicalPart = firstBad (classicalRegisterFlaw image) (classicalRegisterAt image) (range 0 (classicalRegisters image))
+  classicalPart = firstBad (registerFlaw (classicalSize image)) (classicalRegisterAt image) (range 0 (classicalRegisters image))
 
   module _ (l : Layout) (laid : LayoutOf image l) (at : ℕ) {v : Flaw} where
     pub quantum-part : at ≡ quantumRegisterAt image 0 → v ≡ firstBad (registerFlaw (λ i. word image (at + i))) (λ i. at + i) (range 0 (l .«quantum_registers»)) → v ≡ quantumPart
-    unfolding quantumRegisterFlaw registerFlaw firstQubit
     quantum-part e h = h ∙ rw (e, laid .quantum-registers-is) refl
 
     pub classical-part : at ≡ classicalRegisterAt image 0 → v ≡ firstBad (registerFlaw (λ i. word image (at + i))) (λ i. at + i) (range 0 (l .«classical_registers»)) → v ≡ classicalPart
-    unfolding classicalRegisterFlaw registerFlaw firstBit
     classical-part e h = h ∙ rw (e ∙ add-zero (quantumRegisterAt image (quantumRegisters image)), laid .classical-registers-is) refl
 
   -- the four parts in their turn

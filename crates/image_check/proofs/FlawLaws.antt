@@ -8,6 +8,39 @@ use Rattle.model.specs.Check.{plainFlaw, inConditional, conditionalOk, conditio
 use Rattle.model.proofs.StatementOfLaws.{if-is}
 use Rattle.image_check.specs.Statements.{noIf}
 
+-- which kinds an if may hold
+pub allowed-1 : (k a b c d : ℕ) → k ≡ 1 → true ≡ inConditional (statementOf k a b c d)
+unfolding inConditional statementOf
+allowed-1 k a b c d e = rw e refl
+
+pub allowed-2 : (k a b c d : ℕ) → k ≡ 2 → true ≡ inConditional (statementOf k a b c d)
+unfolding inConditional statementOf
+allowed-2 k a b c d e = rw e refl
+
+pub allowed-3 : (k a b c d : ℕ) → k ≡ 3 → true ≡ inConditional (statementOf k a b c d)
+unfolding inConditional statementOf
+allowed-3 k a b c d e = rw e refl
+
+pub allowed-5 : (k a b c d : ℕ) → k ≡ 5 → true ≡ inConditional (statementOf k a b c d)
+unfolding inConditional statementOf
+allowed-5 k a b c d e = rw e refl
+
+pub allowed-6 : (k a b c d : ℕ) → k ≡ 6 → true ≡ inConditional (statementOf k a b c d)
+unfolding inConditional statementOf
+allowed-6 k a b c d e = rw e refl
+
+pub allowed-rest : (k a b c d : ℕ) → ¬ (k ≡ 1) → ¬ (k ≡ 2) → ¬ (k ≡ 3) → ¬ (k ≡ 5) → ¬ (k ≡ 6) → false ≡ inConditional (statementOf k a b c d)
+unfolding inConditional statementOf
+allowed-rest zero a b c d n1 n2 n3 n5 n6 = refl
+allowed-rest (suc zero) a b c d n1 n2 n3 n5 n6 = absurd (n1 refl)
+allowed-rest (suc (suc zero)) a b c d n1 n2 n3 n5 n6 = absurd (n2 refl)
+allowed-rest (suc (suc (suc zero))) a b c d n1 n2 n3 n5 n6 = absurd (n3 refl)
+allowed-rest (suc (suc (suc (suc zero)))) a b c d n1 n2 n3 n5 n6 = refl
+allowed-rest (suc (suc (suc (suc (suc zero))))) a b c d n1 n2 n3 n5 n6 = absurd (n5 refl)
+allowed-rest (suc (suc (suc (suc (suc (suc zero)))))) a b c d n1 n2 n3 n5 n6 = absurd (n6 refl)
+allowed-rest (suc (suc (suc (suc (suc (suc (suc zero))))))) a b c d n1 n2 n3 n5 n6 = refl
+allowed-rest (suc (suc (suc (suc (suc (suc (suc (suc k)))))))) a b c d n1 n2 n3 n5 n6 = refl
+
 module _ (image : List ℕ) where
   -- no if is looked into
   pub plain-is : (scope s : ℕ) {r : ℕ} {x y : Statement} → statement image s ≡ x → x ≡ y → r ≡ plainFlaw image noIf scope s y → r ≡ plainFlaw image noIf scope s (statement image s)
@@ -46,41 +79,8 @@ module _ (image : List ℕ) where
   unfolding flaw
   flaw-plain scope s k a b c d e z h = rw e ((rw e at h) ∙ any-if (conditionalFlaw image scope s) scope s k a b c d z)
 
-  -- what an if may hold
-  pub allowed-is : (t : ℕ) {r : Bool} {x : Statement} → statement image t ≡ x → r ≡ inConditional image x → r ≡ inConditional image (statement image t)
+  pub allowed-is : (t : ℕ) {r : Bool} {x : Statement} → statement image t ≡ x → r ≡ inConditional x → r ≡ inConditional (statement image t)
   allowed-is t e h = rw e h
-
-  pub allowed-1 : (k a b c d : ℕ) → k ≡ 1 → true ≡ inConditional image (statementOf k a b c d)
-  unfolding inConditional statementOf
-  allowed-1 k a b c d e = rw e refl
-
-  pub allowed-2 : (k a b c d : ℕ) → k ≡ 2 → true ≡ inConditional image (statementOf k a b c d)
-  unfolding inConditional statementOf
-  allowed-2 k a b c d e = rw e refl
-
-  pub allowed-3 : (k a b c d : ℕ) → k ≡ 3 → true ≡ inConditional image (statementOf k a b c d)
-  unfolding inConditional statementOf
-  allowed-3 k a b c d e = rw e refl
-
-  pub allowed-5 : (k a b c d : ℕ) → k ≡ 5 → true ≡ inConditional image (statementOf k a b c d)
-  unfolding inConditional statementOf
-  allowed-5 k a b c d e = rw e refl
-
-  pub allowed-6 : (k a b c d : ℕ) → k ≡ 6 → true ≡ inConditional image (statementOf k a b c d)
-  unfolding inConditional statementOf
-  allowed-6 k a b c d e = rw e refl
-
-  pub allowed-rest : (k a b c d : ℕ) → ¬ (k ≡ 1) → ¬ (k ≡ 2) → ¬ (k ≡ 3) → ¬ (k ≡ 5) → ¬ (k ≡ 6) → false ≡ inConditional image (statementOf k a b c d)
-  unfolding inConditional statementOf
-  allowed-rest zero a b c d n1 n2 n3 n5 n6 = refl
-  allowed-rest (suc zero) a b c d n1 n2 n3 n5 n6 = absurd (n1 refl)
-  allowed-rest (suc (suc zero)) a b c d n1 n2 n3 n5 n6 = absurd (n2 refl)
-  allowed-rest (suc (suc (suc zero))) a b c d n1 n2 n3 n5 n6 = absurd (n3 refl)
-  allowed-rest (suc (suc (suc (suc zero)))) a b c d n1 n2 n3 n5 n6 = refl
-  allowed-rest (suc (suc (suc (suc (suc zero))))) a b c d n1 n2 n3 n5 n6 = absurd (n5 refl)
-  allowed-rest (suc (suc (suc (suc (suc (suc zero)))))) a b c d n1 n2 n3 n5 n6 = absurd (n6 refl)
-  allowed-rest (suc (suc (suc (suc (suc (suc (suc zero))))))) a b c d n1 n2 n3 n5 n6 = refl
-  allowed-rest (suc (suc (suc (suc (suc (suc (suc (suc k)))))))) a b c d n1 n2 n3 n5 n6 = refl
 
   -- an if by its own test
   pub if-wrong : (scope s r v t : ℕ) → conditionalOk image scope s r t ≡ false → 4 ≡ conditionalFlaw image scope s r v t

@@ -26,8 +26,8 @@ abbrev pub callFits : List ℕ → ℕ → ℕ → ℕ → ℕ → Bool
 callFits image s g p a =
     every
     (unused image s 4 ∷ ltb g (gates image)
-    ∷ fits image p (gateParameters image g) (parameters image)
-    ∷ fits image a (gateArguments image g) (arguments image) ∷ [])
+    ∷ fits p (gateParameters image g) (parameters image)
+    ∷ fits a (gateArguments image g) (arguments image) ∷ [])
 
 -- what is wrong first of a call's angles, arguments and sizes
 abbrev pub callFlaw : Bool → Bool → Bool → ℕ

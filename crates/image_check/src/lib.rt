@@ -23,7 +23,7 @@ ghost use Rattle.image_check.specs.Statements.{fewExpressions, CheckCont
 
 // Whether a call of gate g from a scope is downward.
 fn calls_down(scope: u64, g: u64) -> bool
-    ensures { λ r. ⌜ ((image : List ℕ) → r ≡ downward image scope g) ⌝ }
+    ensures { λ r. ⌜ r ≡ downward scope g ⌝ }
 {
     if scope == 0 {
         return true;
@@ -293,7 +293,7 @@ fn plain_flaw(
 // Whether an if may hold statement t.
 fn in_conditional(image: &[u64], l: Layout, t: u64) -> bool
     requires { ⌜ LayoutOf (now image) l × (t ≤ mostWords) ⌝ }
-    ensures { λ r. ⌜ r ≡ inConditional (now (image .entry)) (statement (now (image .entry)) t) ⌝ }
+    ensures { λ r. ⌜ r ≡ inConditional (statement (now (image .entry)) t) ⌝ }
 {
     let kind = image::word(image, l.statement_at(t));
     match kind {

@@ -8,8 +8,7 @@ use mathlib.Core.List.{List, map}
 use lib.Dec.{leb}
 use borrow.Author.Tests.{le-leb, lt-leb}
 use Rattle.model.specs.Lists.{range, sum, every}
-use Rattle.model.specs.Check.{firstOf, firstBad, gateOk, gateFlaw}
-use Rattle.image_entries.specs.Flaws.{registerFlaw}
+use Rattle.model.specs.Check.{firstOf, firstBad, registerFlaw, gateOk, gateFlaw}
 use Rattle.image.proofs.RegisterStartsLaws.{total-next}
 
 -- the whole range is the one from 0 on

@@ -1,21 +1,15 @@
--- What the parts of the check answer, a flaw or none, and what they ask of a register and of a body.
-use Prim.Native.Nat.{ℕ, suc, _+_}
+-- What the parts of the check answer, a flaw or none, and what they ask of a body.
+use Prim.Native.Nat.{ℕ, _+_}
 use mathlib.Core.Bool.{Bool, cond, _||_}
-use mathlib.Core.List.{[], _∷_, map}
+use mathlib.Core.List.{[], _∷_}
 use lib.Dec.{eqb, leb}
-use Rattle.model.specs.Check.{Flaw, fine, bad, firstOf}
-use Rattle.model.specs.Refusals as refusal
-use Rattle.model.specs.Lists.{range, sum, every}
-use Rattle.model.specs.Limits.{mostElements}
+use Rattle.model.specs.Check.{Flaw, fine, bad}
+use Rattle.model.specs.Lists.{every}
 use Rattle.image_entries.specs.declared.Flaw as code
 
 -- the flaw that a part of the check found; number 0 is none
 abbrev pub flawOf : code.Flaw → Flaw
 flawOf f = cond (eqb (f .number) 0) fine (bad (f .number) (f .place))
-
--- register r of some sizes, as quantumRegisterFlaw and classicalRegisterFlaw say
-unfoldable pub registerFlaw : (ℕ → ℕ) → ℕ → ℕ
-registerFlaw size r = firstOf ((every (leb 1 (size r) ∷ leb (size r) mostElements ∷ leb (sum (map size (range 0 (suc r)))) mostElements ∷ []), refusal.register) ∷ [])
 
 -- what gateOk asks of a body by a gate entry's last three words, where the further statements are those from `main` to below `statements`
 abbrev pub bodyWordsOk : ℕ → ℕ → ℕ → ℕ → ℕ → Bool

@@ -9,10 +9,10 @@ ghost use lib.ListN.{length, getD};
 ghost use Prim.Native.Nat.{ℕ, _+_, _-_, _<_, _≤_, suc};
 ghost use Rattle.model.specs.Lists.{range, all};
 ghost use Rattle.model.specs.Image.{word, parameter, variables, argumentSize};
-ghost use Rattle.model.specs.Check.{firstBad, gateOk, expressionOk, argumentOk, classicalArgumentOk, unused, matching, gateEntries};
+ghost use Rattle.model.specs.Check.{firstBad, registerFlaw, gateOk, expressionOk, argumentOk, classicalArgumentOk, unused, matching, gateEntries};
 ghost use Rattle.model.specs.Limits.{mostLevels, mostParameters, mostWords, statementWords};
 ghost use Rattle.image.specs.Layout.{LayoutOf, SmallPlace};
-ghost use Rattle.image_entries.specs.Flaws.{flawOf, registerFlaw, bodyWordsOk};
+ghost use Rattle.image_entries.specs.Flaws.{flawOf, bodyWordsOk};
 ghost use Rattle.image_entries.specs.Judging.{accepts, JudgementTables, TablesFit, TablesOf, leafFits, wordsOk, JudgementIs};
 
 // What is wrong with an image: a number of document 01 with its place. Number 0 is nothing wrong.

@@ -3,20 +3,14 @@ use Prim.Native.Nat.{ℕ, _+_, _≤_, _<_}
 use native.Mathlib.Nat.{zero-add}
 use native.Mathlib.Omega.{arith}
 use mathlib.Core.Path.{_≡_, refl, sym, ap, ap₂, subst, _∙_}
-use mathlib.Core.Bool.{cond}
-use mathlib.Core.List.{List, [], _∷_, _++_, map, flatMap, List·Memᴰ}
+use mathlib.Core.List.{List, [], _∷_, _++_, flatMap}
 use borrow.Author.Tests.{le-ltb, lt-ltb}
-use lib.Dec.{T, eqb}
 use lib.ListN.{length, take, drop}
 use lib.Seq.{sets-eq, take-append-seam}
-use Rattle.model.specs.Lists.{range, sum}
-use Rattle.model.specs.Image.{mainStatements}
 use Rattle.model.specs.Check.{Flaw, fine, bad, check}
 use Rattle.model.specs.Steps.{steps}
-use Rattle.model.specs.Run.{Answer, done, full, traceOf, Played, flawed, accepted, play, runs, output, Outcome, laidOver, outcomeOf, linearize}
-use Rattle.model.specs.Tally.{recordFigure, wordBound}
-use Rattle.model.specs.RecordReader.{recordsIn}
-use Rattle.model.specs.Claims.{Claims, count, declared, distinct}
+use Rattle.model.specs.Run.{Answer, traceOf, Played, flawed, accepted, play, runs, output, laidOver, outcomeOf, linearize}
+use Rattle.model.specs.Claims.{Claims}
 use Rattle.model.proofs.PlayLaws.{plays-all}
 use Rattle.model.proofs.Outcome.{claims}
 use Rattle.image.specs.declared.CheckRefusal.{CheckRefusal}
@@ -35,21 +29,7 @@ use Rattle.linearize.specs.Linearizes.{refusedWith, Linearizes}
 -- the claims of every run, said of the slices as they are left
 module _ (image : List ℕ) (depth : ℕ) (out trace : List ℕ) {r : Linearized} {out′ trace′ : List ℕ} where
   pub linearizes : promise.answerOutcome r out′ trace′ ≡ linearize image depth out trace → Linearizes image depth out trace r out′ trace′
-  linearizes e =
-      let c : Claims image depth out trace = claims image depth out trace in
-      let found : Outcome → List (List ℕ) = λ o. recordsIn (take (o .outputWords) (o .outputLeft)) in
-      record {
-        outcome = e;
-        tallied = λ k. subst (λ (o : Outcome). count k (found o) ≤ recordFigure image depth k) (sym e) (c .most k);
-        exactly = λ d k. subst (λ (o : Outcome). o .answer ≡ done → count k (found o) ≡ recordFigure image depth k) (sym e) (λ z. c .exactly z k) d;
-        number = subst (λ (o : Outcome). o .answer ≡ done → o .records ≡ sum (map (recordFigure image depth) (range 1 7)) + recordFigure image depth 7 + cond (eqb (mainStatements image) 0) 0 1) (sym e) (c .number);
-        read = subst (λ (o : Outcome). length (found o) ≡ o .records) (sym e) (c .read);
-        filled = subst (λ (o : Outcome). flatMap (λ x. x) (found o) ≡ take (o .outputWords) (o .outputLeft)) (sym e) (c .filled);
-        bounded = subst (λ (o : Outcome). o .outputWords ≤ wordBound image depth) (sym e) (c .bounded);
-        ample = λ h t. subst (λ (o : Outcome). ¬ (o .answer ≡ full t)) (sym e) (c .ample h t);
-        declares = subst (λ (o : Outcome). (x : List ℕ) → List·Memᴰ x (found o) → T (declared image x)) (sym e) (c .declares);
-        differs = subst (λ (o : Outcome). (x : List ℕ) → List·Memᴰ x (found o) → T (distinct image x)) (sym e) (c .differs);
-      }
+  linearizes e = record { outcome = e; claims = subst (Claims image depth out trace) (sym e) (claims image depth out trace) }
 
 -- a refusal's trace is the words that stand in front of the trace
 refusal-trace : (k : LinearizeErrorKind) (calls : List ℕ) → refusalAnswer k (traceOf (refusalAnswer k calls)) ≡ refusalAnswer k calls

@@ -11,7 +11,7 @@ use Rattle.model.specs.All.{All, nil, cons}
 use Rattle.model.specs.Accepted.{Accepted}
 use Rattle.model.proofs.All.{and-T, test, of-All, flat-All, range-All}
 use Rattle.model.specs.Image.{gates, gateParameters, gateArguments, quantumRegisters, classicalRegisters, quantumSize, classicalSize, qubits, bits, firstQubit, firstBit, scopeStatements, quantumRegisterAt, classicalRegisterAt}
-use Rattle.model.specs.Check.{Flaw, fine, bad, orElse, firstOf, firstBad, contentsOk, quantumRegisterFlaw, classicalRegisterFlaw, gateOk, gateFlaw, flaw, everyStatement, registers, gateEntries, statementEntries, check}
+use Rattle.model.specs.Check.{Flaw, fine, bad, orElse, firstOf, firstBad, contentsOk, registerFlaw, gateOk, gateFlaw, flaw, everyStatement, registers, gateEntries, statementEntries, check}
 
 -- tests that give a number each: where none is given the i-th passes
 abbrev pub numbered : List (Bool × ℕ) → Bool
@@ -51,14 +51,14 @@ in-all sizes zero h = omega arith
 in-all sizes (suc r) h = h r (omega arith)
 
 pub accepts : (w : List ℕ) → check w ≡ fine → Accepted w
-unfolding check registers gateEntries statementEntries everyStatement quantumRegisterFlaw classicalRegisterFlaw gateFlaw contentsOk firstQubit firstBit
+unfolding check registers gateEntries statementEntries everyStatement registerFlaw gateFlaw contentsOk firstQubit firstBit
 accepts w e =
     let a = pick (contentsOk w) (orElse (registers w) (orElse (gateEntries w) (statementEntries w))) 1 0 e in
     let b = or-else (registers w) (orElse (gateEntries w) (statementEntries w)) (a .1) in
     let c = or-else (gateEntries w) (statementEntries w) (b .1) in
-    let d = or-else (firstBad (quantumRegisterFlaw w) (quantumRegisterAt w) (range 0 (quantumRegisters w))) (firstBad (classicalRegisterFlaw w) (classicalRegisterAt w) (range 0 (classicalRegisters w))) (b .0) in
-    let q : (r : ℕ) → r < quantumRegisters w → quantumRegisterFlaw w r ≡ 0 = λ r h. range-All {P = λ r. quantumRegisterFlaw w r ≡ 0} 0 (quantumRegisters w) r (none-bad _ _ _ (d .0)) (omega arith) (omega arith) in
-    let k : (r : ℕ) → r < classicalRegisters w → classicalRegisterFlaw w r ≡ 0 = λ r h. range-All {P = λ r. classicalRegisterFlaw w r ≡ 0} 0 (classicalRegisters w) r (none-bad _ _ _ (d .1)) (omega arith) (omega arith) in
+    let d = or-else (firstBad (registerFlaw (quantumSize w)) (quantumRegisterAt w) (range 0 (quantumRegisters w))) (firstBad (registerFlaw (classicalSize w)) (classicalRegisterAt w) (range 0 (classicalRegisters w))) (b .0) in
+    let q : (r : ℕ) → r < quantumRegisters w → registerFlaw (quantumSize w) r ≡ 0 = λ r h. range-All {P = λ r. registerFlaw (quantumSize w) r ≡ 0} 0 (quantumRegisters w) r (none-bad _ _ _ (d .0)) (omega arith) (omega arith) in
+    let k : (r : ℕ) → r < classicalRegisters w → registerFlaw (classicalSize w) r ≡ 0 = λ r h. range-All {P = λ r. registerFlaw (classicalSize w) r ≡ 0} 0 (classicalRegisters w) r (none-bad _ _ _ (d .1)) (omega arith) (omega arith) in
     record {
       fewGates = leb→le (gates w) 128 (test 4 _ (a .0));
       qsizes = λ r h. leb→le 1 (quantumSize w r) (test 0 _ (passes 0 _ (q r h) tt));

@@ -72,7 +72,7 @@ bodily-plays room (writes {t} {x} {ss} p h) = go (leb (length (encode x)) room) 
 
 module _ (image : List ℕ) (acc : Accepted image) where
   pub record Opens (op : Opening) : Type 0 where
-    pub opens : (t : List ℕ) (h : ℕ) (vs : List Value) (qs : List ℕ) → h < gates image → Bodily (openGate image op (bodyFrame t h vs qs) h)
+    pub opens : (t : List ℕ) (h : ℕ) (vs : List Value) (qs : List ℕ) → h < gates image → Bodily (openGate op (bodyFrame t h vs qs) h)
 
   module _ (t : List ℕ) (g : ℕ) (vs : List Value) (qs : List ℕ) where
     abbrev fr : Frame

@@ -8,7 +8,7 @@ use mathlib.Core.List.{List, [], _∷_, List·Memᴰ·not-nil, List·Memᴰ·cas
 use borrow.Author.Tests.{eqb-true, eqb-false}
 use lib.Dec.{eqb}
 use Rattle.model.specs.Check.{Flaw, fine, bad, orElse, firstBad, contentsOk, registers, gateEntries, statementEntries, check}
-use Rattle.model.specs.Claims.{FirstOfList, CheckClaims}
+use Rattle.model.specs.Claims.{FirstOfList, FirstFlaw}
 
 -- the first of a list whose number is not 0
 pub first-bad : {A : Type 0} (number place : A → ℕ) (l : List A) (n p : ℕ) → firstBad number place l ≡ bad n p → FirstOfList number place l n p
@@ -46,11 +46,11 @@ or-bad : (u v : Flaw) (n p : ℕ) → orElse u v ≡ bad n p → (u ≡ bad n p)
 or-bad fine v n p e = inr (refl, e)
 or-bad (bad m q) v n p e = inl e
 
-pub check-claims : (image : List ℕ) (n p : ℕ) → check image ≡ bad n p → CheckClaims image n p
+pub check-first : (image : List ℕ) (n p : ℕ) → check image ≡ bad n p → FirstFlaw image n p
 unfolding check registers gateEntries statementEntries
-check-claims image n p e = go (contentsOk image) refl e
+check-first image n p e = go (contentsOk image) refl e
   where
-    go : (b : Bool) → contentsOk image ≡ b → cond b (orElse (registers image) (orElse (gateEntries image) (statementEntries image))) (bad 1 0) ≡ bad n p → CheckClaims image n p
+    go : (b : Bool) → contentsOk image ≡ b → cond b (orElse (registers image) (orElse (gateEntries image) (statementEntries image))) (bad 1 0) ≡ bad n p → FirstFlaw image n p
     go false c e = inl (c, cc, cc)
     go true c e =
         inr (

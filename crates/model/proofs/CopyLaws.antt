@@ -100,15 +100,15 @@ part-new at ws l h =
 pub record Kept (image out : List ℕ) (at g n : ℕ) (vs : List Value) (qs : List ℕ) (from words records : ℕ) : Type 0 where
   pub ahead : ℕ
   pub trace : List ℕ
-  pub finished : play ahead (openGate image (opening image n) (bodyFrame trace g vs qs) g) .answer ≡ done
-  pub long : words ≡ length (output (play ahead (openGate image (opening image n) (bodyFrame trace g vs qs) g)))
-  pub stands : take words (drop from out) ≡ output (play ahead (openGate image (opening image n) (bodyFrame trace g vs qs) g))
-  pub counted : records ≡ length (play ahead (openGate image (opening image n) (bodyFrame trace g vs qs) g) .written)
+  pub finished : play ahead (openGate (opening image n) (bodyFrame trace g vs qs) g) .answer ≡ done
+  pub long : words ≡ length (output (play ahead (openGate (opening image n) (bodyFrame trace g vs qs) g)))
+  pub stands : take words (drop from out) ≡ output (play ahead (openGate (opening image n) (bodyFrame trace g vs qs) g))
+  pub counted : records ≡ length (play ahead (openGate (opening image n) (bodyFrame trace g vs qs) g) .written)
   pub before : from + words ≤ at
 
 -- the records that stand there
 abbrev pub keptRecords : {image out : List ℕ} {at g n : ℕ} {vs : List Value} {qs : List ℕ} {from words records : ℕ} → Kept image out at g n vs qs from words records → List Record
-keptRecords {image} {g = g} {n = n} {vs = vs} {qs = qs} k = play (k .ahead) (openGate image (opening image n) (bodyFrame (k .trace) g vs qs) g) .written
+keptRecords {image} {g = g} {n = n} {vs = vs} {qs = qs} k = play (k .ahead) (openGate (opening image n) (bodyFrame (k .trace) g vs qs) g) .written
 
 module _ {image out : List ℕ} {at g n : ℕ} {vs : List Value} {qs : List ℕ} {from words records : ℕ} (k : Kept image out at g n vs qs from words records) where
   -- what is written later leaves it
@@ -125,11 +125,11 @@ module _ {image out : List ℕ} {at g n : ℕ} {vs : List Value} {qs : List ℕ}
       }
 
 -- a body that has just been played to its end
-pub kept-new : (image : List ℕ) (g n : ℕ) (t : List ℕ) (vs : List Value) (qs : List ℕ) {p q : OutputState} → Plays (openGate image (opening image n) (bodyFrame t g vs qs) g) p q done
+pub kept-new : (image : List ℕ) (g n : ℕ) (t : List ℕ) (vs : List Value) (qs : List ℕ) {p q : OutputState} → Plays (openGate (opening image n) (bodyFrame t g vs qs) g) p q done
     → p .words ≤ length (p .out) → Kept image (q .out) (q .words) g n vs qs (p .words) (q .words - p .words) (q .records - p .records)
 kept-new image g n t vs qs {p} {q} h f =
-    let fits = output-fits (room p) (openGate image (opening image n) (bodyFrame t g vs qs) g) in
-    let long : q .words - p .words ≡ length (output (play (room p) (openGate image (opening image n) (bodyFrame t g vs qs) g))) = omega (arith, h .position) in
+    let fits = output-fits (room p) (openGate (opening image n) (bodyFrame t g vs qs) g) in
+    let long : q .words - p .words ≡ length (output (play (room p) (openGate (opening image n) (bodyFrame t g vs qs) g))) = omega (arith, h .position) in
     record {
       ahead = room p;
       trace = t;
@@ -174,7 +174,7 @@ copied-plays r ahead {ss} {ss′} h d p f =
 -- The law that the code's copy rests on: the table's entry, the same values, levels as before or enough in both, the formals renamed, and room for the words.
 pub kept-copies : {image : List ℕ} → Accepted image → (r : ℕ → ℕ) (p : OutputState) (g n n′ : ℕ) (vs : List Value) (qs qs′ t′ : List ℕ) {from words records : ℕ} (k : Kept image (p .out) (p .words) g n vs qs from words records)
     → g < gates image → Levels r g n n′ → Formals r (gateArguments image g) qs qs′ → p .words + words ≤ length (p .out)
-    → Plays (openGate image (opening image n′) (bodyFrame t′ g vs qs′) g) p (copiedPlace r (keptRecords k) p) done
+    → Plays (openGate (opening image n′) (bodyFrame t′ g vs qs′) g) p (copiedPlace r (keptRecords k) p) done
 kept-copies {image} acc r p g n n′ vs qs qs′ t′ k h l f fits =
     copied-plays r (k .ahead) (gate-renamed r image acc n n′ (k .trace) t′ g vs qs qs′ h l f) (k .finished) p (omega (arith, k .long))
 
@@ -248,6 +248,6 @@ silent-stays {ss} h p f =
     }
 
 -- The law of a table of silent bodies: with the same values, as many levels or more, and any qubits, nothing is to be done.
-pub hushed-plays : (image : List ℕ) (g n n′ : ℕ) (vs : List Value) (t t′ qs qs′ : List ℕ) → Silent (openGate image (opening image n) (bodyFrame t g vs qs) g) → n ≤ n′
-    → (p : OutputState) → p .words ≤ length (p .out) → Plays (openGate image (opening image n′) (bodyFrame t′ g vs qs′) g) p p done
+pub hushed-plays : (image : List ℕ) (g n n′ : ℕ) (vs : List Value) (t t′ qs qs′ : List ℕ) → Silent (openGate (opening image n) (bodyFrame t g vs qs) g) → n ≤ n′
+    → (p : OutputState) → p .words ≤ length (p .out) → Plays (openGate (opening image n′) (bodyFrame t′ g vs qs′) g) p p done
 hushed-plays image g n n′ vs t t′ qs qs′ h l p f = silent-stays (openings-hushed image n n′ l .hushed t t′ g vs qs qs′ h) p f

@@ -19,7 +19,7 @@ pairs-back (x ∷ l) = ap (λ (m : List (ℕ × ℕ)). x ∷ m) (pairs-back l)
 
 module _ (image : List ℕ) where
   -- the qubits stand behind a kind 3's angles
-  behind-angles : (g n : ℕ) (xs : List Value) (qs : List ℕ) → opaqueQubits image (3 ∷ g ∷ length xs ∷ n ∷ (flatMap angleWords xs ++ qs)) ≡ qs
+  behind-angles : (g n : ℕ) (xs : List Value) (qs : List ℕ) → opaqueQubits (3 ∷ g ∷ length xs ∷ n ∷ (flatMap angleWords xs ++ qs)) ≡ qs
   behind-angles g n xs qs = drop-at (3 ∷ g ∷ length xs ∷ n ∷ flatMap angleWords xs) qs (4 + 4 * length xs) (omega (arith, length-words xs))
 
   pub declared-encode : (r : Record) → declared image (encode r) ≡ declaredRecord image r

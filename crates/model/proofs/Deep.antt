@@ -38,7 +38,7 @@ module _ (image : List ℕ) where
   calls-below-few zero h = omega arith
   calls-below-few (suc g) h = omega arith
 
-  pub called-below : (scope g : ℕ) → g < gates image → T (downward image scope g) → g < callsBelow image scope
+  pub called-below : (scope g : ℕ) → g < gates image → T (downward scope g) → g < callsBelow image scope
   unfolding downward
   called-below zero g h t = h
   called-below (suc k) g h t = ltb→lt g k t
@@ -53,7 +53,7 @@ module _ (image : List ℕ) where
   abbrev Alike : ℕ → Opening → Opening → Type 0
   Alike n o o′ =
       (g : ℕ) → g < n → (t : List ℕ) (values : List Value) (qubits : List ℕ) → let new : Frame = record { scope = suc g; trace = t; values = values; qubits = qubits } in
-      openGate image o new g ≡ openGate image o′ new g
+      openGate o new g ≡ openGate o′ new g
 
   module _ (n : ℕ) (o o′ : Opening) (alike : Alike n o o′) (frame : Frame) (below : callsBelow image (frame .scope) ≤ n) where
     gate-same : (s g : ℕ) (al : List ℕ) (xs : List Value) (i : ℕ) → g < n → visitGate image o frame s g al xs i ≡ visitGate image o′ frame s g al xs i

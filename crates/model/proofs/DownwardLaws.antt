@@ -3,16 +3,14 @@ use Prim.Native.Nat.{ℕ, zero, suc, _-_}
 use native.Mathlib.Omega.{arith}
 use mathlib.Core.Path.{_≡_, refl, ap}
 use mathlib.Core.Bool.{true}
-use mathlib.Core.List.{List}
 use lib.Dec.{ltb}
 use Rattle.model.specs.Check.{downward}
 
-module _ (image : List ℕ) where
-  pub down-main : (scope g : ℕ) → scope ≡ 0 → true ≡ downward image scope g
-  unfolding downward
-  down-main scope g z = rw z refl
+pub down-main : (scope g : ℕ) → scope ≡ 0 → true ≡ downward scope g
+unfolding downward
+down-main scope g z = rw z refl
 
-  pub down-body : (scope g : ℕ) → ¬ (scope ≡ 0) → ltb g (scope - 1) ≡ downward image scope g
-  unfolding downward
-  down-body zero g z = absurd (z refl)
-  down-body (suc h) g z = let e : suc h - 1 ≡ h = omega arith in ap (ltb g) e
+pub down-body : (scope g : ℕ) → ¬ (scope ≡ 0) → ltb g (scope - 1) ≡ downward scope g
+unfolding downward
+down-body zero g z = absurd (z refl)
+down-body (suc h) g z = let e : suc h - 1 ≡ h = omega arith in ap (ltb g) e

@@ -1,4 +1,4 @@
--- The check gives the number 1, or one from 2 to 8 where the contents add up.
+-- A refusal of check has the number 1, or one from 2 to 8 where the contents add up, and is that of the first bad entry: its claims.
 use Prim.Native.Nat.{ℕ, _≤_}
 use native.Mathlib.Omega.{arith}
 use mathlib.Core.Path.{_≡_, subst}
@@ -6,10 +6,11 @@ use mathlib.Core.Bool.{Bool, true, false, cond}
 use mathlib.Core.Logic.{⊎-elim}
 use mathlib.Core.List.{List, [], _∷_}
 use Rattle.model.specs.Image.{Statement, U, CX, Gate, Barrier, Measure, Reset, Conditional, Unknown, statement}
-use Rattle.model.specs.Check.{bad, firstOf, contentsOk, quantumRegisterFlaw, classicalRegisterFlaw, gateFlaw, plainFlaw, conditionalOk, conditionalFlaw, flaw, check}
+use Rattle.model.specs.Check.{bad, firstOf, contentsOk, registerFlaw, gateFlaw, plainFlaw, conditionalOk, conditionalFlaw, flaw, check}
 use Rattle.model.proofs.All.{head-All, tail-All}
 use Rattle.model.specs.All.{All, nil, cons}
-use Rattle.model.proofs.CheckLaws.{check-claims}
+use Rattle.model.specs.Claims.{FirstFlaw, CheckClaims}
+use Rattle.model.proofs.CheckLaws.{check-first}
 
 -- nothing, or a number from 2 to 8
 abbrev pub Known : ℕ → Type 0
@@ -50,11 +51,26 @@ module _ (image : List ℕ) where
 
   -- whatever the check refuses with where the contents add up
   pub check-known : (n p : ℕ) → contentsOk image ≡ true → check image ≡ bad n p → Known n
-  unfolding quantumRegisterFlaw classicalRegisterFlaw gateFlaw
+  unfolding registerFlaw gateFlaw
   check-known n p c e =
       ⊎-elim (λ w. absurd (let z : _≡_ {A = ℕ} 0 1 = cc in omega arith))
       (λ w. ⊎-elim (λ f. subst Known (f .its-number) (first-of _ (cons (known 2 (omega arith) (omega arith)) nil)))
       (λ v. ⊎-elim (λ f. subst Known (f .its-number) (first-of _ (cons (known 2 (omega arith) (omega arith)) nil)))
       (λ u. ⊎-elim (λ f. subst Known (f .its-number) (first-of _ (cons (known 3 (omega arith) (omega arith)) nil)))
       (λ t. subst Known (t .1 .its-number) (flaw-known (t .1 .entry .0) (t .1 .entry .1))) (u .1)) v) (w .1))
-      (check-claims image n p e)
+      (check-first image n p e)
+
+  not-zero : (n p : ℕ) → FirstFlaw image n p → ¬ (n ≡ 0)
+  not-zero n p =
+      ⊎-elim (λ w z. omega (arith, w .1))
+      (λ w. ⊎-elim (λ f. f .is-bad) (λ v. ⊎-elim (λ f. f .is-bad) (λ u. ⊎-elim (λ f. f .is-bad) (λ t. t .1 .is-bad) (u .1)) v) (w .1))
+
+  -- all that is claimed of a refusal of check
+  pub check-claims : (n p : ℕ) → check image ≡ bad n p → CheckClaims image n p
+  check-claims n p e =
+      let f = check-first image n p e in
+      let z : ¬ (n ≡ 0) = not-zero n p f in
+      record {
+        number = ⊎-elim (λ w. omega (arith, w .1)) (λ w. let k = check-known n p (w .0) e in omega (arith, k .0, z)) f;
+        first = f;
+      }

@@ -107,12 +107,12 @@ module _ (image : List ℕ) (depth : ℕ) where
     unfolding visitGate openGate opening
     gate-from {s} {g} {a} {xs} {i} call = go (eqb (gateBody image g) 0) refl
       where
-        opened : (m : ℕ) → Deeper m → Reached m frame → eqb (gateBody image g) 0 ≡ false → All Origin (openGate image (opening image m) (calledFrame image frame s g a xs i) g)
+        opened : (m : ℕ) → Deeper m → Reached m frame → eqb (gateBody image g) 0 ≡ false → All Origin (openGate (opening image m) (calledFrame image frame s g a xs i) g)
         opened zero d r e = cons (cuts r call e) nil
         opened (suc m) d r e = cons (enters r call) (d (calledFrame image frame s g a xs i) (called r call))
 
         go : (b : Bool) → eqb (gateBody image g) 0 ≡ b
-            → All Origin (cond b (writeOpaque image frame g (range a (gateArguments image g)) xs i) (openGate image (opening image n) (calledFrame image frame s g a xs i) g))
+            → All Origin (cond b (writeOpaque image frame g (range a (gateArguments image g)) xs i) (openGate (opening image n) (calledFrame image frame s g a xs i) g))
         go true e = opaque-from call e
         go false e = opened n deeper reached e
 

@@ -22,6 +22,7 @@ use Rattle.model.proofs.All.{head-All, tail-All, All-front, All-of, mem
 use Rattle.model.specs.All.{All, nil, cons}
 use Rattle.model.proofs.Accepted.{accepts}
 use Rattle.model.specs.Accepted.{Accepted}
+use Rattle.model.proofs.FlawLaws.{check-claims}
 use Rattle.model.proofs.Counts.{weighs, clean, steps-tallied}
 use Rattle.model.proofs.TypedRecords.{declaredRecord, distinctRecord}
 use Rattle.model.proofs.StepsSound.{Good, steps-good}
@@ -76,21 +77,23 @@ unfolding weighsRecords flatMap
 length-output [] = refl
 length-output (r ∷ rs) = length-append (encode r) (flatMap encode rs) ∙ ap (λ n. length (encode r) + n) (length-output rs)
 
--- ---- playing steps: what is played is a front of the records; all of them and all entries, with no refusal, where it is done; and it is never full with room for all
+-- ---- playing steps: what is played is a front of the records; no more bodies are entered than the steps enter; all of them and all records, with no refusal, where it is done; it is never full with room for all, and never refused for a flaw
 pub record Fair (room : ℕ) (ss : List Step) (p : Played) : Type 0 where
   pub rest : List Record
   pub front : p .written ++ rest ≡ recordsOf ss
+  pub entries-most : p .entered ≤ entriesOf ss
   pub whole : p .answer ≡ done → (p .written ≡ recordsOf ss) × T (clean ss) × (p .entered ≡ entriesOf ss)
   pub ample : weighsRecords theWords (recordsOf ss) ≤ room → (t : List ℕ) → ¬ (p .answer ≡ full t)
+  pub unflawed : (n q : ℕ) → ¬ (p .answer ≡ flawed n q)
 
 pub plays-fair : (room : ℕ) (ss : List Step) → Fair room ss (play room ss)
 unfolding play recordsOf entriesOf clean weighsRecords
-plays-fair room [] = record { rest = []; front = refl; whole = λ e. (refl, tt, refl); ample = λ h t e. absurd (let z : _≡_ {A = ℕ} 0 1 = cc in omega arith) }
+plays-fair room [] = record { rest = []; front = refl; entries-most = zero-le; whole = λ e. (refl, tt, refl); ample = λ h t e. absurd (let z : _≡_ {A = ℕ} 0 1 = cc in omega arith); unflawed = λ n q e. absurd (let z : _≡_ {A = ℕ} 0 1 = cc in omega arith) }
 plays-fair room (refuse t x ∷ ss) =
-    record { rest = recordsOf ss; front = refl; whole = λ e. absurd (let z : _≡_ {A = ℕ} 0 1 = cc in omega arith); ample = λ h u e. absurd (let z : _≡_ {A = ℕ} 0 1 = cc in omega arith) }
+    record { rest = recordsOf ss; front = refl; entries-most = zero-le; whole = λ e. absurd (let z : _≡_ {A = ℕ} 0 1 = cc in omega arith); ample = λ h u e. absurd (let z : _≡_ {A = ℕ} 0 1 = cc in omega arith); unflawed = λ n q e. absurd (let z : _≡_ {A = ℕ} 0 1 = cc in omega arith) }
 plays-fair room (enter t g ∷ ss) =
     let h = plays-fair room ss in
-    record { rest = h .rest; front = h .front; whole = λ d. let x = h .whole d in (x .0, x .1, ap suc (x .2)); ample = h .ample }
+    record { rest = h .rest; front = h .front; entries-most = omega (arith, h .entries-most); whole = λ d. let x = h .whole d in (x .0, x .1, ap suc (x .2)); ample = h .ample; unflawed = h .unflawed }
 plays-fair room (write t r ∷ ss) = go (leb (length (encode r)) room) refl (plays-fair (room - length (encode r)) ss)
   where
     go : (b : Bool) → leb (length (encode r)) room ≡ b → Fair (room - length (encode r)) ss (play (room - length (encode r)) ss)
@@ -99,15 +102,19 @@ plays-fair room (write t r ∷ ss) = go (leb (length (encode r)) room) refl (pla
         record {
           rest = h .rest;
           front = ap (λ (rs : List Record). r ∷ rs) (h .front);
+          entries-most = h .entries-most;
           whole = λ d. let x = h .whole d in (ap (λ (rs : List Record). r ∷ rs) (x .0), x .1, x .2);
           ample = λ q u. h .ample (omega arith) u;
+          unflawed = h .unflawed;
         }
     go false e h =
         record {
           rest = r ∷ recordsOf ss;
           front = refl;
+          entries-most = zero-le;
           whole = λ d. absurd (let z : _≡_ {A = ℕ} 0 1 = cc in omega arith);
           ample = λ q u d. omega (arith, nleb→lt (length (encode r)) room (subst (λ c. T (not c)) (sym e) tt));
+          unflawed = λ n q d. absurd (let z : _≡_ {A = ℕ} 0 1 = cc in omega arith);
         }
 
 -- ---- kinds
@@ -210,7 +217,17 @@ module _ (w : List ℕ) (depth outWords traceWords : ℕ) where
       go (none a x y z) e = absurd (x e)
       go (plays c l) e = weighs-done (ofKind k) (λ j a b h. le-refl _) _ (plays-fair outWords (steps w depth)) (λ j a b. refl) e
 
-  -- as many bodies are entered as figure 8 says, where the run is done
+  -- no more bodies are entered than figure 8 says, and as many where the run is done
+  entries-most : ran .entered ≤ entryFigure w depth
+  unfolding entryFigure
+  entries-most = go ran-either
+    where
+      go : {p : Played} → Ran p → p .entered ≤ weightTally w (λ kind n. 0) 1 depth
+      go (none a x y z) = zero-le
+      go (plays c l) =
+          let x = plays-fair outWords (steps w depth) .entries-most in
+          omega (arith, x, by-entries (steps w depth), steps-tallied (λ kind n. 0) 1 (λ j a b h. le-refl 0) w depth .most)
+
   entries-done : ran .answer ≡ done → ran .entered ≡ entryFigure w depth
   unfolding entryFigure
   entries-done d = go ran-either d
@@ -270,6 +287,16 @@ module _ (w : List ℕ) (depth outWords traceWords : ℕ) where
       go (none a x y z) = omega arith
       go (plays c l) = let h = traced w (accepts w c) outWords (steps w depth) (steps-good w (accepts w c) depth) in omega (arith, ltb-false traceWords 256 l)
 
+  -- a flaw that a run refuses for is check's
+  flaw-number : (n p : ℕ) → ran .answer ≡ flawed n p → (1 ≤ n) × (n ≤ 8)
+  unfolding runs accepted
+  flaw-number n p = go (ltb traceWords 256) (check w) refl
+    where
+      go : (b : Bool) (v : Flaw) → check w ≡ v → cond b (stop shortTrace) (accepted v (play outWords (steps w depth))) .answer ≡ flawed n p → (1 ≤ n) × (n ≤ 8)
+      go true v c e = absurd (let z : _≡_ {A = ℕ} 0 1 = cc in omega arith)
+      go false fine c e = absurd (plays-fair outWords (steps w depth) .unflawed n p e)
+      go false (bad m q) c e = let d : m ≡ n = cc in subst (λ (k : ℕ). (1 ≤ k) × (k ≤ 8)) d (check-claims w m q c .number)
+
   -- what is written fits the output lent
   room-enough : length (output ran) ≤ outWords
   unfolding output flatMap
@@ -286,11 +313,11 @@ module _ (image : List ℕ) (depth : ℕ) (out trace : List ℕ) where
   played = runs image depth (length out) (length trace)
 
   -- the words written stand in front of the output, and the record reader finds the records in them
-  front : written image depth out trace ≡ output played
+  front : written (linearize image depth out trace) ≡ output played
   unfolding linearize
   front = take-append-seam (output played) (drop (length (output played)) out)
 
-  records-read : recordsFound image depth out trace ≡ map encode (played .written)
+  records-read : recordsFound (linearize image depth out trace) ≡ map encode (played .written)
   unfolding output
   records-read = ap recordsIn front ∙ reads-back (played .written)
 
@@ -303,7 +330,7 @@ module _ (image : List ℕ) (depth : ℕ) (out trace : List ℕ) where
   joined (r ∷ rs) = ap (λ (l : List ℕ). encode r ++ l) (joined rs)
 
   -- each record found is the words of one written
-  found-all : (P : List ℕ → Type 0) → All (λ r. P (encode r)) (played .written) → (r : List ℕ) → List·Memᴰ r (recordsFound image depth out trace) → P r
+  found-all : (P : List ℕ → Type 0) → All (λ r. P (encode r)) (played .written) → (r : List ℕ) → List·Memᴰ r (recordsFound (linearize image depth out trace)) → P r
   found-all P h r m = members-All (subst (All P) (sym records-read) (All-of encode h)) r m
 
   sound-step : (acc : Accepted image) (t : List ℕ) (r : Record) → List·Memᴰ (write t r) (steps image depth) → T (declaredRecord image r) × T (distinctRecord image r)
@@ -319,7 +346,7 @@ module _ (image : List ℕ) (depth : ℕ) (out trace : List ℕ) where
       (steps-words image acc h depth (λ u q k. let g = sound-step acc u q k in (g .0, g .1, step-claims image depth .angles u q k)))
       (write t r) m))
 
-  pub claims : Claims image depth out trace
+  pub claims : Claims image depth out trace (linearize image depth out trace)
   unfolding linearize output
   claims =
       record {
@@ -330,9 +357,11 @@ module _ (image : List ℕ) (depth : ℕ) (out trace : List ℕ) where
         number = record-count image depth (length out) (length trace);
         read = ap length records-read ∙ length-map (played .written) encode;
         filled = ap (flatMap (λ r. r)) records-read ∙ joined (played .written) ∙ sym front;
+        entries-most = entries-most image depth (length out) (length trace);
         entries = entries-done image depth (length out) (length trace);
         declares = found-all (λ r. T (declared image r)) (all-written image depth (length out) (length trace) (λ acc t r m. declared-words image r (sound-step acc t r m .0)));
         differs = found-all (λ r. T (distinct image r)) (all-written image depth (length out) (length trace) (λ acc t r m. distinct-words image r (sound-step acc t r m .1)));
+        flaws = flaw-number image depth (length out) (length trace);
         traces = trace-fits image depth (length out) (length trace) .0;
         lengths = (kept (output played) out (room-enough image depth (length out) (length trace)), kept (traceOf (played .answer)) trace (trace-fits image depth (length out) (length trace) .1));
         fits = λ h. subst (λ (l : List ℕ). T (all (λ x. ltb x (2 ^ 64)) l)) (sym front) (words-written h);

@@ -179,7 +179,7 @@ module _ (w : List ℕ) (acc : Accepted w) where
     sound h = flawless (bounds .0) h
 
     call-below : {s g p a : ℕ} {xs : List Value} {i : ℕ} → Call w frame s g p a xs i
-        → (g < gates w) × T (downward w (frame .scope) g) × Declared w (map (qubitIn w frame i) (range a (gateArguments w g)))
+        → (g < gates w) × T (downward (frame .scope) g) × Declared w (map (qubitIn w frame i) (range a (gateArguments w g)))
     unfolding plainFlaw
     call-below {g} {a} {i} c =
         let e = sound (c .runs) .1 in
@@ -220,7 +220,7 @@ module _ (w : List ℕ) (acc : Accepted w) where
         let k = call-below c in
         (k .0, rw length-append (shorter (frame .scope) ready (k .0) (k .1)), length-map (range a (gateArguments w g)) (qubitIn w frame i) ∙ length-range a (gateArguments w g), k .2)
       where
-        shorter : (scope : ℕ) → FrameOk w scope (frame .trace) (frame .qubits) → g < gates w → T (downward w scope g) → length (frame .trace) + 2 ≤ 2 * (gates w - g)
+        shorter : (scope : ℕ) → FrameOk w scope (frame .trace) (frame .qubits) → g < gates w → T (downward scope g) → length (frame .trace) + 2 ≤ 2 * (gates w - g)
         shorter zero ok h d = omega arith
         shorter (suc f) ok h d = let q : g < f = ltb→lt g f d in omega arith
 

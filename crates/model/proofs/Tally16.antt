@@ -1,4 +1,4 @@
--- The tally of an accepted image is refused with 16 exactly if a figure passes 4,294,967,295, and what a tally tells is the figures.
+-- The tally of an accepted image is refused with 16 exactly if a figure passes 4,294,967,295, and what it answers otherwise is the figures.
 use Prim.Native.Nat.{ℕ, _<_}
 use native.Mathlib.Omega.{arith}
 use mathlib.Core.Path.{_≡_, refl, sym, subst}

@@ -78,7 +78,7 @@ module _ (u : List ℕ) where
 
   module _ (image : List ℕ) where
     abbrev Moves : Opening → Type 0
-    Moves o = (new : Frame) (g : ℕ) → openGate image o (deeper new) g ≡ map under (openGate image o new g)
+    Moves o = (new : Frame) (g : ℕ) → openGate o (deeper new) g ≡ map under (openGate o new g)
 
     module _ (o : Opening) (moves : Moves o) (f : Frame) where
       values-under : (es : List ℕ) (next next′ : List Value → List Step) → ((xs : List Value) → next xs ≡ map under (next′ xs))
@@ -102,7 +102,7 @@ module _ (u : List ℕ) where
       gate-under : (s g : ℕ) (al : List ℕ) (xs : List Value) (i : ℕ) → visitGate image o (deeper f) s g al xs i ≡ map under (visitGate image o f s g al xs i)
       unfolding visitGate writeOpaque pushFrame qubitIn
       gate-under s g al xs i =
-          map-cond under (eqb (gateBody image g) 0) (writeOpaque image f g al xs i) (openGate image o (pushFrame image f s g al xs i) g)
+          map-cond under (eqb (gateBody image g) 0) (writeOpaque image f g al xs i) (openGate o (pushFrame image f s g al xs i) g)
           (opaque-under (f .trace) _ _)
           (rw (append-assoc u (f .trace) (f .scope ∷ statementAt image s ∷ [])) (moves _ g))
 

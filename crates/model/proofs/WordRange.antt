@@ -184,7 +184,7 @@ module _ (image : List ℕ) (acc : Accepted image) (words : T (all (λ x. ltb x 
       opaque (some ab) = cons tt nil
       opaque none = cons (All-every (cons (subst Word (sym e) (word-word (gateAt image g))) (cons many nil))) nil
 
-      body : {p : Opening} → Ways p → All Counted (openGate image p (pushFrame image frame s g al xs i) g)
+      body : {p : Opening} → Ways p → All Counted (openGate p (pushFrame image frame s g al xs i) g)
       body shut = cons (All-every (cons tt (cons many nil))) nil
       body (opened h) = cons tt (h (pushFrame image frame s g al xs i))
 

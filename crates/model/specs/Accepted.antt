@@ -29,7 +29,7 @@ module _ (image : List ℕ) where
   PlainFacts scope (CX a b) =
       (a < arguments image) × (b < arguments image) × T (argumentOk image scope a) × T (argumentOk image scope b) × T (matching (argumentSize image scope a ∷ argumentSize image scope b ∷ []))
   PlainFacts scope (Gate g p a) =
-      (g < gates image) × (p + gateParameters image g ≤ parameters image) × (a + gateArguments image g ≤ arguments image) × T (downward image scope g)
+      (g < gates image) × (p + gateParameters image g ≤ parameters image) × (a + gateArguments image g ≤ arguments image) × T (downward scope g)
       × T (all (λ i. expressionOk image (variables image scope) mostLevels (parameter image i)) (range p (gateParameters image g)))
       × T (all (argumentOk image scope) (range a (gateArguments image g))) × T (matching (map (argumentSize image scope) (range a (gateArguments image g))))
   PlainFacts scope (Barrier a n) = (a + n ≤ arguments image) × T (all (argumentOk image scope) (range a n))
@@ -42,7 +42,7 @@ module _ (image : List ℕ) where
   -- any statement: an if with what it holds
   abbrev pub Facts : ℕ → Statement → Type 0
   Facts scope (Conditional r v t) =
-      (scope ≡ 0) × (r < classicalRegisters image) × (mainStatements image ≤ t) × (t < allStatements image) × T (inConditional image (statement image t)) × PlainFacts scope (statement image t)
+      (scope ≡ 0) × (r < classicalRegisters image) × (mainStatements image ≤ t) × (t < allStatements image) × T (inConditional (statement image t)) × PlainFacts scope (statement image t)
   Facts scope (U a b c d) = PlainFacts scope (U a b c d)
   Facts scope (CX a b) = PlainFacts scope (CX a b)
   Facts scope (Gate g p a) = PlainFacts scope (Gate g p a)

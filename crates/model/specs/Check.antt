@@ -4,11 +4,11 @@ use mathlib.Core.Bool.{Bool, true, false, _||_, cond}
 use mathlib.Core.List.{List, [], _∷_, map, flatMap}
 use lib.ListN.{length}
 use lib.Dec.{leb, ltb, eqb}
-use Rattle.model.specs.Lists.{range, largest, every, all}
+use Rattle.model.specs.Lists.{range, sum, largest, every, all}
 use Rattle.model.specs.Limits.{contentsWords, statementWords, mostWords, mostGates, mostParameters, mostArguments, mostElements, mostLevels}
 use Rattle.model.specs.Refusals as refusal
 use Rattle.model.specs.Image.{Statement, U, CX, Gate, Barrier, Measure, Reset, Conditional, Unknown, statement, Expr, Pi, Real, Int, Var, Binary, Unary, expression}
-use Rattle.model.specs.Image.{word, quantumRegisters, classicalRegisters, gates, mainStatements, allStatements, arguments, parameters, expressions, quantumRegisterAt, classicalRegisterAt, gateAt, statementAt, expressionAt, quantumSize, classicalSize, firstQubit, firstBit, gateParameters, gateArguments, gateBody, bodyStart, bodyLength, parameter, argumentRegister, argumentIndex, variables, scopeStatements, argumentSize, classicalArgumentSize}
+use Rattle.model.specs.Image.{word, quantumRegisters, classicalRegisters, gates, mainStatements, allStatements, arguments, parameters, expressions, quantumRegisterAt, classicalRegisterAt, gateAt, statementAt, expressionAt, quantumSize, classicalSize, gateParameters, gateArguments, gateBody, bodyStart, bodyLength, parameter, argumentRegister, argumentIndex, variables, scopeStatements, argumentSize, classicalArgumentSize}
 
 -- nothing wrong, or a number with its place
 pub data Flaw : Type 0 where
@@ -33,6 +33,30 @@ orElse (bad n p) v = bad n p
 unfoldable pub matching : List ℕ → Bool
 matching l = all (λ x. eqb x 1 || eqb x (largest l)) l
 
+-- "2 for a register": "sizes 1 to 4,096; 4,096 qubits and 4,096 bits in all (the register that passes a total is the bad one)". Register r of some sizes:
+unfoldable pub registerFlaw : (ℕ → ℕ) → ℕ → ℕ
+registerFlaw size r = firstOf ((every (leb 1 (size r) ∷ leb (size r) mostElements ∷ leb (sum (map size (range 0 (suc r)))) mostElements ∷ []), refusal.register) ∷ [])
+
+-- n entries from a on, in a list of m: "An empty run of statements, parameters or arguments starts at most at its list's count."
+abbrev pub fits : ℕ → ℕ → ℕ → Bool
+fits a n m = leb (a + n) m
+
+-- "8 call not downward": bodies "call only gates of smaller number"
+unfoldable pub downward : ℕ → ℕ → Bool
+downward zero g = true
+downward (suc h) g = ltb g h
+
+-- "An if takes one further statement of kind 1, 2, 3, 5 or 6."
+unfoldable pub inConditional : Statement → Bool
+inConditional (U a b c d) = true
+inConditional (CX a b) = true
+inConditional (Gate g p a) = true
+inConditional (Barrier a n) = false
+inConditional (Measure q c) = true
+inConditional (Reset q) = true
+inConditional (Conditional r v t) = false
+inConditional Unknown = false
+
 module _ (image : List ℕ) where
   -- "1, place 0, for a wrong length, contents that don't add up, or over 128 gates": "9 to 8,192 words"
   unfoldable pub contentsOk : Bool
@@ -40,17 +64,6 @@ module _ (image : List ℕ) where
       every
       (leb contentsWords (length image) ∷ leb (length image) mostWords ∷ eqb (word image 0) (length image)
       ∷ eqb (expressionAt image (expressions image)) (length image) ∷ leb (gates image) mostGates ∷ [])
-
-  -- "2 for a register": "sizes 1 to 4,096; 4,096 qubits and 4,096 bits in all (the register that passes a total is the bad one)"
-  unfoldable pub quantumRegisterFlaw : ℕ → ℕ
-  quantumRegisterFlaw r = firstOf ((every (leb 1 (quantumSize image r) ∷ leb (quantumSize image r) mostElements ∷ leb (firstQubit image (suc r)) mostElements ∷ []), refusal.register) ∷ [])
-
-  unfoldable pub classicalRegisterFlaw : ℕ → ℕ
-  classicalRegisterFlaw r = firstOf ((every (leb 1 (classicalSize image r) ∷ leb (classicalSize image r) mostElements ∷ leb (firstBit image (suc r)) mostElements ∷ []), refusal.register) ∷ [])
-
-  -- n entries from a on, in a list of m: "An empty run of statements, parameters or arguments starts at most at its list's count."
-  abbrev pub fits : ℕ → ℕ → ℕ → Bool
-  fits a n m = leb (a + n) m
 
   -- "3 for a gate entry (also a nonempty body not all of further statements)": "16 parameters and 16 arguments a gate", "1 with body or 0 opaque", "An opaque gate's last two are 0."
   unfoldable pub gateOk : ℕ → Bool
@@ -92,11 +105,6 @@ module _ (image : List ℕ) where
   unfoldable pub unused : ℕ → ℕ → Bool
   unused s n = all (λ i. eqb (word image (statementAt image s + i)) 0) (range n (statementWords - n))
 
-  -- "8 call not downward": bodies "call only gates of smaller number"
-  unfoldable pub downward : ℕ → ℕ → Bool
-  downward zero g = true
-  downward (suc h) g = ltb g h
-
   -- What is wrong with statement s in a scope: "4 a kind not allowed there, an unused word, or a number or run of its own out of range, 8 call not downward, 6 expression or a parameter's number, 5 argument entry, 7 sizes, in this order". "Bodies hold kinds 1 to 4". 0 is nothing. What is wrong with an if is handed in.
   unfoldable pub plainFlaw : (ℕ → ℕ → ℕ → ℕ) → ℕ → ℕ → Statement → ℕ
   plainFlaw ifFlaw scope s (U theta phi lambda q) =
@@ -128,17 +136,6 @@ module _ (image : List ℕ) where
   plainFlaw ifFlaw scope s (Conditional r v t) = ifFlaw r v t
   plainFlaw ifFlaw scope s Unknown = refusal.form
 
-  -- "An if takes one further statement of kind 1, 2, 3, 5 or 6."
-  unfoldable pub inConditional : Statement → Bool
-  inConditional (U a b c d) = true
-  inConditional (CX a b) = true
-  inConditional (Gate g p a) = true
-  inConditional (Barrier a n) = false
-  inConditional (Measure q c) = true
-  inConditional (Reset q) = true
-  inConditional (Conditional r v t) = false
-  inConditional Unknown = false
-
   unfoldable pub conditionalOk : ℕ → ℕ → ℕ → ℕ → Bool
   conditionalOk scope s r t =
       every (eqb scope 0 ∷ unused s 4 ∷ ltb r (classicalRegisters image) ∷ leb (mainStatements image) t ∷ ltb t (allStatements image) ∷ inConditional (statement image t) ∷ [])
@@ -157,8 +154,8 @@ module _ (image : List ℕ) where
   -- "quantum registers first"
   unfoldable pub registers : Flaw
   registers =
-      orElse (firstBad quantumRegisterFlaw (quantumRegisterAt image) (range 0 (quantumRegisters image)))
-      (firstBad classicalRegisterFlaw (classicalRegisterAt image) (range 0 (classicalRegisters image)))
+      orElse (firstBad (registerFlaw (quantumSize image)) (quantumRegisterAt image) (range 0 (quantumRegisters image)))
+      (firstBad (registerFlaw (classicalSize image)) (classicalRegisterAt image) (range 0 (classicalRegisters image)))
 
   unfoldable pub gateEntries : Flaw
   gateEntries = firstBad gateFlaw (gateAt image) (range 0 (gates image))

@@ -1,4 +1,4 @@
--- What is claimed of every image, depth, lent output and lent trace, and proved in proofs/: demand 3, over the words that stand in the output (Outcome), the depth rule and the angles (Depth, AnglesSound), and what document 01 says of results that it leaves open (BarrierLaws, CheckLaws).
+-- What is claimed of every run, and proved in proofs/: demand 3, over the words that stand in the output when it ends (Outcome), the depth rule and the angles (Depth, AnglesSound), and what document 01 says of results that it leaves open (BarrierLaws, FlawLaws).
 use Prim.Native.Nat.{ℕ, _+_, _*_, _/_, _^_, _≤_}
 use mathlib.Core.Path.{_≡_}
 use mathlib.Core.Bool.{Bool, true, false, not, _||_, cond}
@@ -8,12 +8,13 @@ use lib.Dec.{T, leb, ltb, eqb}
 use lib.ListN.{length, getD, take, drop}
 use Rattle.value.specs.declared.Value.{Value}
 use Rattle.value.specs.Value.{Sound}
+use Rattle.model.specs.Refusals as refusal
 use Rattle.model.specs.Lists.{range, sum, every, all, rising}
 use Rattle.model.specs.Image.{mainStatements, quantumRegisters, classicalRegisters, gates, quantumSize, classicalSize, qubits, bits, gateBody, quantumRegisterAt, classicalRegisterAt, gateAt, statementAt}
-use Rattle.model.specs.Check.{fine, contentsOk, quantumRegisterFlaw, classicalRegisterFlaw, registers, gateFlaw, gateEntries, flaw, everyStatement}
+use Rattle.model.specs.Check.{fine, contentsOk, registerFlaw, registers, gateFlaw, gateEntries, flaw, everyStatement}
 use Rattle.model.specs.Records.{Record, kind, encode}
 use Rattle.model.specs.Steps.{Step, write, enter, refuse, steps}
-use Rattle.model.specs.Run.{Outcome, done, full, runs, linearize}
+use Rattle.model.specs.Run.{Outcome, done, full, flawed, runs}
 use Rattle.model.specs.Tally.{recordFigure, entryFigure, wordBound}
 use Rattle.model.specs.RecordReader.{recordsIn}
 
@@ -44,39 +45,55 @@ unfoldable pub rises : List ℕ → Bool
 rises [] = true
 rises (x ∷ xs) = every (all (ltb x) xs ∷ rises xs ∷ [])
 
+-- the qubits of a kind 3, behind its angles
+abbrev pub opaqueQubits : List ℕ → List ℕ
+opaqueQubits r = drop (4 + 4 * getD r 2 0) r
+
 module _ (image : List ℕ) where
   abbrev pub isQubit : ℕ → Bool
   isQubit q = ltb q (qubits image)
-
-  -- the qubits of a kind 3, behind its angles
-  abbrev pub opaqueQubits : List ℕ → List ℕ
-  opaqueQubits r = drop (4 + 4 * getD r 2 0) r
 
   -- "Declared: a qubit, bit or gate below its count; a conditional's first bit plus size at most the bits; in a head, a register of its sort with an offset below its size." By the record's kind:
   unfoldable pub declared : List ℕ → Bool
   declared r =
       getD
+      -- kind 0, a head: register and offset of each qubit, then of each bit
       (every
       (all (inRegister (quantumSize image) (quantumRegisters image)) (pairsOf (take (2 * getD r 1 0) (drop 3 r)))
       ∷ all (inRegister (classicalSize image) (classicalRegisters image)) (pairsOf (drop (3 + 2 * getD r 1 0) r)) ∷ [])
+      -- kind 1, a U: its qubit, behind twelve words of angles
       ∷ isQubit (getD r 13 0)
+      -- kind 2, a CX: both qubits
       ∷ every (isQubit (getD r 1 0) ∷ isQubit (getD r 2 0) ∷ [])
+      -- kind 3, an opaque gate: the gate, and its qubits
       ∷ every (ltb (getD r 1 0) (gates image) ∷ all isQubit (opaqueQubits r) ∷ [])
+      -- kind 4, a barrier: its qubits
       ∷ all isQubit (drop 2 r)
+      -- kind 5, a measure: a qubit, and a bit
       ∷ every (isQubit (getD r 1 0) ∷ ltb (getD r 2 0) (bits image) ∷ [])
+      -- kind 6, a reset: its qubit
       ∷ isQubit (getD r 1 0)
+      -- kind 7, a conditional start: first bit plus size
       ∷ leb (getD r 1 0 + getD r 2 0) (bits image)
+      -- kind 8, its end, has no index
       ∷ true ∷ [])
       (getD r 0 0) false
 
-  -- a CX has two qubits, a declared opaque gate no qubit twice, a barrier each once and rising
+  -- where an operation may not have a qubit twice, by the record's kind
   unfoldable pub distinct : List ℕ → Bool
   distinct r =
       getD
-      (true ∷ true
+      -- kind 0, a head
+      (true
+      -- kind 1, a U
+      ∷ true
+      -- kind 2: a CX has two different qubits
       ∷ not (eqb (getD r 1 0) (getD r 2 0))
+      -- kind 3: a declared opaque gate has no qubit twice
       ∷ cond (eqb (gateBody image (getD r 1 0)) 0) (differ (opaqueQubits r)) true
+      -- kind 4: a barrier has each qubit once, and rising
       ∷ rises (drop 2 r) ∷ [])
+      -- kinds 5 to 8
       (getD r 0 0) true
 
 -- ---- the depth
@@ -100,39 +117,44 @@ atDepth image depth (write t r) = cond (isCut image r) (leb depth (frames t)) (w
 
 -- ---- demand 3
 
-module _ (image : List ℕ) (depth : ℕ) (out trace : List ℕ) where
-  abbrev pub ran : Outcome
-  ran = linearize image depth out trace
-
+module _ (o : Outcome) where
   -- the output words written, and the records that the record reader finds in them
   abbrev pub written : List ℕ
-  written = take (ran .outputWords) (ran .outputLeft)
+  written = take (o .outputWords) (o .outputLeft)
 
   abbrev pub recordsFound : List (List ℕ)
   recordsFound = recordsIn written
 
-  pub record Claims : Type 0 where
-    -- "kind by kind": no more than the tally said, and as many where the run finished
-    pub most : (k : ℕ) → count k recordsFound ≤ recordFigure image depth k
-    pub exactly : ran .answer ≡ done → (k : ℕ) → count k recordsFound ≡ recordFigure image depth k
-    -- "and in words": no more than the word bound, and an output that long is never full
-    pub bounded : ran .outputWords ≤ wordBound image depth
-    pub ample : wordBound image depth ≤ length out → (t : List ℕ) → ¬ (ran .answer ≡ full t)
-    -- "The number of records that a finished run tells is the figures of kinds 1 to 7 added up, kind 7's once more for the ends, and 1 for a head if any."
-    pub number : ran .answer ≡ done → ran .records ≡ sum (map (recordFigure image depth) (range 1 7)) + recordFigure image depth 7 + cond (eqb (mainStatements image) 0) 0 1
-    -- the records told are those that the record reader finds, and they fill the words written
-    pub read : length recordsFound ≡ ran .records
-    pub filled : flatMap (λ r. r) recordsFound ≡ written
-    -- "body entries": those of a finished run
-    pub entries : ran .answer ≡ done → runs image depth (length out) (length trace) .entered ≡ entryFigure image depth
-    -- "every index written is a declared one"; distinct where document 01 says so
-    pub declares : (r : List ℕ) → List·Memᴰ r recordsFound → T (declared image r)
-    pub differs : (r : List ℕ) → List·Memᴰ r recordsFound → T (distinct image r)
-    -- the trace fits the 256 words asked for; both slices keep their length
-    pub traces : ran .traceWords ≤ 256
-    pub lengths : (length (ran .outputLeft) ≡ length out) × (length (ran .traceLeft) ≡ length trace)
-    -- an image of words gives words
-    pub fits : T (all (λ x. ltb x (2 ^ 64)) image) → T (all (λ x. ltb x (2 ^ 64)) written)
+-- how many bodies the run of an image at a depth enters, on a lent output and a lent trace
+abbrev pub bodiesEntered : List ℕ → ℕ → List ℕ → List ℕ → ℕ
+bodiesEntered image depth out trace = runs image depth (length out) (length trace) .entered
+
+-- of a run of an image at a depth, on an output and a trace as they were lent, and of its outcome
+pub record Claims (image : List ℕ) (depth : ℕ) (out trace : List ℕ) (o : Outcome) : Type 0 where
+  -- records of each kind: no more than the tally said, and as many where the run finished
+  pub most : (k : ℕ) → count k (recordsFound o) ≤ recordFigure image depth k
+  pub exactly : o .answer ≡ done → (k : ℕ) → count k (recordsFound o) ≡ recordFigure image depth k
+  -- "body entries": no more, and as many where the run finished
+  pub entries-most : bodiesEntered image depth out trace ≤ entryFigure image depth
+  pub entries : o .answer ≡ done → bodiesEntered image depth out trace ≡ entryFigure image depth
+  -- words: no more than "the word bound", and an output that long is never full
+  pub bounded : o .outputWords ≤ wordBound image depth
+  pub ample : wordBound image depth ≤ length out → (t : List ℕ) → ¬ (o .answer ≡ full t)
+  -- "The number of records that a finished run tells is the figures of kinds 1 to 7 added up, kind 7's once more for the ends, and 1 for a head if any."
+  pub number : o .answer ≡ done → o .records ≡ sum (map (recordFigure image depth) (range 1 7)) + recordFigure image depth 7 + cond (eqb (mainStatements image) 0) 0 1
+  -- the record reader finds as many records as the answer says, and they fill the words written
+  pub read : length (recordsFound o) ≡ o .records
+  pub filled : flatMap (λ r. r) (recordsFound o) ≡ written o
+  -- every index written is a declared one; a CX has two different qubits, a declared opaque gate no qubit twice, a barrier each once
+  pub declares : (r : List ℕ) → List·Memᴰ r (recordsFound o) → T (declared image r)
+  pub differs : (r : List ℕ) → List·Memᴰ r (recordsFound o) → T (distinct image r)
+  -- a refusal of check's has one of the numbers 1 to 8
+  pub flaws : (n p : ℕ) → o .answer ≡ flawed n p → (refusal.contents ≤ n) × (n ≤ refusal.upward)
+  -- the trace fits the 256 words asked for; both slices keep their length
+  pub traces : o .traceWords ≤ 256
+  pub lengths : (length (o .outputLeft) ≡ length out) × (length (o .traceLeft) ≡ length trace)
+  -- an image of words gives words
+  pub fits : T (all (λ x. ltb x (2 ^ 64)) image) → T (all (λ x. ltb x (2 ^ 64)) (written o))
 
 -- every angle that a step writes is in lowest terms and in range
 unfoldable pub anglesOf : Record → List Value
@@ -168,12 +190,19 @@ pub record FirstOfList {A : Type 0} (number place : A → ℕ) (l : List A) (n p
   pub its-place : place entry ≡ p
   pub is-bad : ¬ (n ≡ 0)
 
-abbrev pub CheckClaims : List ℕ → ℕ → ℕ → Type 0
-CheckClaims image n p =
-    ((contentsOk image ≡ false) × (n ≡ 1) × (p ≡ 0))
+-- which entry that is: the contents, or the first bad register, gate entry or statement, where nothing before it is bad
+abbrev pub FirstFlaw : List ℕ → ℕ → ℕ → Type 0
+FirstFlaw image n p =
+    ((contentsOk image ≡ false) × (n ≡ refusal.contents) × (p ≡ 0))
     ⊎ (contentsOk image ≡ true)
-    × (FirstOfList (quantumRegisterFlaw image) (quantumRegisterAt image) (range 0 (quantumRegisters image)) n p
-    ⊎ FirstOfList (classicalRegisterFlaw image) (classicalRegisterAt image) (range 0 (classicalRegisters image)) n p
+    × (FirstOfList (registerFlaw (quantumSize image)) (quantumRegisterAt image) (range 0 (quantumRegisters image)) n p
+    ⊎ FirstOfList (registerFlaw (classicalSize image)) (classicalRegisterAt image) (range 0 (classicalRegisters image)) n p
     ⊎ (registers image ≡ fine)
     × (FirstOfList (gateFlaw image) (gateAt image) (range 0 (gates image)) n p
     ⊎ (gateEntries image ≡ fine) × FirstOfList (λ x. flaw image (x .0) (x .1)) (λ x. statementAt image (x .1)) (everyStatement image) n p))
+
+-- of an image that check refuses with a number and a place
+pub record CheckClaims (image : List ℕ) (n p : ℕ) : Type 0 where
+  -- one of the numbers 1 to 8
+  pub number : (refusal.contents ≤ n) × (n ≤ refusal.upward)
+  pub first : FirstFlaw image n p

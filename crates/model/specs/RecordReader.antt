@@ -9,7 +9,24 @@ use lib.Dec.{leb, ltb}
 unfoldable pub recordLength : List ℕ → ℕ
 recordLength ws =
     getD
-    ((3 + 2 * (getD ws 1 0 + getD ws 2 0)) ∷ 14 ∷ 3 ∷ (4 + 4 * getD ws 2 0 + getD ws 3 0) ∷ (2 + getD ws 1 0) ∷ 3 ∷ 2 ∷ 4 ∷ 1 ∷ [])
+    -- kind 0, a head: "qubits, bits, then register and offset for each qubit, then for each bit"
+    ((3 + 2 * (getD ws 1 0 + getD ws 2 0))
+    -- kind 1, a U: "three angles (four words each: a's n, d, b's n, d, signed in two's complement), qubit"
+    ∷ 14
+    -- kind 2, a CX: control, target
+    ∷ 3
+    -- kind 3, an opaque gate: "gate, p, q, p angles, q qubits"
+    ∷ (4 + 4 * getD ws 2 0 + getD ws 3 0)
+    -- kind 4, a barrier: "count, qubits"
+    ∷ (2 + getD ws 1 0)
+    -- kind 5, a measure: "qubit, bit"
+    ∷ 3
+    -- kind 6, a reset: qubit
+    ∷ 2
+    -- kind 7, a conditional start: "first bit, size, value"
+    ∷ 4
+    -- kind 8, its end
+    ∷ 1 ∷ [])
     (getD ws 0 0) 0
 
 -- the words of the next record, the end, or 17

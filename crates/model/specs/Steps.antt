@@ -87,6 +87,11 @@ offsetsOf sizes r = map (λ o. (r, o)) (range 0 (sizes r))
 unfoldable pub offsets : (ℕ → ℕ) → ℕ → List (ℕ × ℕ)
 offsets sizes n = flatMap (offsetsOf sizes) (range 0 n)
 
+-- a gate with a body: opened, or "A body not opened is written as kind 3 with p = 0 and no distinctness test."
+unfoldable pub openGate : Opening → Frame → ℕ → List Step
+openGate none new g = write (new .trace) (Record.Opaque g [] (new .qubits)) ∷ []
+openGate (some body) new g = enter (new .trace) g ∷ body new
+
 module _ (image : List ℕ) where
   -- ---- arguments
 
@@ -146,11 +151,6 @@ module _ (image : List ℕ) where
   unfoldable pub pushFrame : Frame → ℕ → ℕ → List ℕ → List Value → ℕ → Frame
   pushFrame frame s g al xs i =
       record { scope = suc g; trace = frame .trace ++ frame .scope ∷ statementAt image s ∷ []; values = xs; qubits = map (qubitIn frame i) al }
-
-  -- a gate with a body: opened, or "A body not opened is written as kind 3 with p = 0 and no distinctness test."
-  unfoldable pub openGate : Opening → Frame → ℕ → List Step
-  openGate none new g = write (new .trace) (Record.Opaque g [] (new .qubits)) ∷ []
-  openGate (some body) new g = enter (new .trace) g ∷ body new
 
   unfoldable pub visitGate : Opening → Frame → ℕ → ℕ → List ℕ → List Value → ℕ → List Step
   visitGate opened frame s g al xs i = cond (eqb (gateBody image g) 0) (writeOpaque frame g al xs i) (openGate opened (pushFrame frame s g al xs i) g)

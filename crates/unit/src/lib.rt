@@ -17,7 +17,7 @@ ghost use Rattle.record_writer.specs.Promise.{positionOf};
 ghost use Rattle.linearize.specs.Linearizes.{Linearizes};
 ghost use Rattle.unit.specs.AnswerNumbers.{RefusalNumbers, RunNumbers};
 
-// Whether an image can be run: accepted, or what is wrong with it, and at which place.
+// Whether an image can be run: accepted, or what is wrong with it, and at which place. What holds of every refusal, a number from 1 to 8 among it, is `CheckClaims`.
 pub fn check(image: &[u64]) -> CheckAnswer
     ensures { λ r. ⌜ answerFlaw r ≡ check (now (image .entry)) ⌝ }
 {

@@ -21,8 +21,8 @@ use Rattle.image_check.proofs.call_flaw.Tie as tie
 fit : (c : tie.Else1) → (let a = c .before .before .before .before .before .args in callFits (now (a .image)) (a .s) (a .g) (a .p) (a .a)) ≡ true
 fit c = sym (c .before .call-fits .ensures) ∙ not-false _ (c .if1 .left)
 
-down : (c : tie.After-calls-down) → (let a = c .before .before .before .before .before .before .args in downward (now (a .image)) (a .scope) (a .g)) ≡ c .calls-down .result
-down c = sym (c .calls-down .ensures (now (c .before .before .before .before .before .before .args .image)))
+down : (c : tie.After-calls-down) → (let a = c .before .before .before .before .before .before .args in downward (a .scope) (a .g)) ≡ c .calls-down .result
+down c = sym (c .calls-down .ensures)
 
 parameters-is : (c : tie.After-word2)
     → (let a = c .before .before .before .before .before .before .before .before .before .before .args in c .before .word .result ≡ gateParameters (now (a .image)) (a .g))

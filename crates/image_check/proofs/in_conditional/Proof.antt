@@ -24,34 +24,34 @@ word-requires c κs = search needs
 returns : tie.Need-returns
 returns c =
     let s = c .before .before .before .before in
-    allowed-is (now (s .args .image)) (s .args .t) (statement-is (c .before)) (allowed-1 _ _ _ _ _ _ (c .match .keys1))
+    allowed-is (now (s .args .image)) (s .args .t) (statement-is (c .before)) (allowed-1 _ _ _ _ _ (c .match .keys1))
 
 returns-2 : tie.Need-returns-2
 returns-2 c =
     let s = c .before .before .before .before in
-    allowed-is (now (s .args .image)) (s .args .t) (statement-is (c .before)) (allowed-2 _ _ _ _ _ _ (c .match .keys2))
+    allowed-is (now (s .args .image)) (s .args .t) (statement-is (c .before)) (allowed-2 _ _ _ _ _ (c .match .keys2))
 
 returns-3 : tie.Need-returns-3
 returns-3 c =
     let s = c .before .before .before .before in
-    allowed-is (now (s .args .image)) (s .args .t) (statement-is (c .before)) (allowed-3 _ _ _ _ _ _ (c .match .keys3))
+    allowed-is (now (s .args .image)) (s .args .t) (statement-is (c .before)) (allowed-3 _ _ _ _ _ (c .match .keys3))
 
 returns-4 : tie.Need-returns-4
 returns-4 c =
     let s = c .before .before .before .before in
-    allowed-is (now (s .args .image)) (s .args .t) (statement-is (c .before)) (allowed-5 _ _ _ _ _ _ (c .match .keys4))
+    allowed-is (now (s .args .image)) (s .args .t) (statement-is (c .before)) (allowed-5 _ _ _ _ _ (c .match .keys4))
 
 returns-5 : tie.Need-returns-5
 returns-5 c =
     let s = c .before .before .before .before in
-    allowed-is (now (s .args .image)) (s .args .t) (statement-is (c .before)) (allowed-6 _ _ _ _ _ _ (c .match .keys5))
+    allowed-is (now (s .args .image)) (s .args .t) (statement-is (c .before)) (allowed-6 _ _ _ _ _ (c .match .keys5))
 
 returns-6 : tie.Need-returns-6
 returns-6 c =
     let s = c .before .before .before .before in
     let r = c .match .rest in
     allowed-is (now (s .args .image)) (s .args .t) (statement-is (c .before))
-    (allowed-rest _ _ _ _ _ _ (r .0 .0 .0 .0 .1) (r .0 .0 .0 .1) (r .0 .0 .1) (r .0 .1) (r .1))
+    (allowed-rest _ _ _ _ _ (r .0 .0 .0 .0 .1) (r .0 .0 .0 .1) (r .0 .0 .1) (r .0 .1) (r .1))
 
 pub in-conditional-spec : {M : Type 1} → statement M
 in-conditional-spec =

@@ -3,8 +3,7 @@ use borrow.Author.Needs.{needs}
 use Prim.Native.Nat.{ℕ, _+_, _-_, _≤_}
 use mathlib.Core.Path.{_≡_, _∙_, ap, refl, sym}
 use mathlib.Core.List.{map}
-use Rattle.model.specs.Check.{firstBad}
-use Rattle.image_entries.specs.Flaws.{registerFlaw}
+use Rattle.model.specs.Check.{firstBad, registerFlaw}
 use native.Mathlib.Omega.{arith}
 use Rattle.image_entries.proofs.RegisterFlawLaws.{bad-all, register-fine, register-over, register-zero}
 use Rattle.image.proofs.RegisterStartsLaws.{total-next}

@@ -90,12 +90,13 @@ call-figure-requires : tie.Need-call-figure-requires
 call-figure-requires c κs =
     let w = c .before in
     let pre = w .before .before .before .before .before .before .before .pre in
+    let image = now (w .before .before .before .before .before .before .before .args .image) in
     let laid = pre .0 .ready .laid in
     let few = arguments-few _ _ laid in
     let f = known-as w (gate-is _ _ _ _ _ (c .match .keys3)) in (
       record {
         ready = pre .0 .ready;
-        rows = tabled-fewer _ _ _ _ _ (called-below _ _ _ (f .0) (f .3)) (pre .0 .rows);
+        rows = tabled-fewer _ _ _ _ _ (called-below image _ _ (f .0) (f .3)) (pre .0 .rows);
         gate = omega (arith, laid .gates-is, f .0);
         figure = pre .0 .figure;
       },
