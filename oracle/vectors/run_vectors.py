@@ -42,7 +42,7 @@ WORD_MAX = 2**64 - 1
 # What the replaying program can lend at most.
 OUTPUT_ROOM = 81920
 TRACE_ROOM = 300
-IMAGE_ROOM = 8200
+IMAGE_ROOM = 65600
 
 lines = []
 stored = []  # each case with the numbers of its line
