@@ -30,6 +30,7 @@ from oracle.reference.reference import (
 )
 from oracle.vectors import random_images
 from oracle.vectors.entries import K1, NOTHING, PI_ENTRY, changed, decimal_words, gate, image, integer, opaque, variable
+from oracle.vectors.hundred_images import hundred_cases
 from oracle.vectors.random_images import (
     COS, DIVIDE, EXP, F32_PI, LN, MINUS, NEAR_PI, NEGATE, PI_TREE, PLUS, POWER, SIN, SQRT, TAN, TIMES, Case, Scale,
     pi_times, ratio, whole,
@@ -41,7 +42,7 @@ WORD_MAX = 2**64 - 1
 # What the replaying program can lend at most.
 OUTPUT_ROOM = 81920
 TRACE_ROOM = 300
-IMAGE_ROOM = 8200
+IMAGE_ROOM = 65600
 
 lines = []
 stored = []  # each case with the numbers of its line
@@ -1144,6 +1145,12 @@ def random_broadcasts(count):
                 vector(words, depth, min(max(lent, 0), 20000))
 
 
+def random_hundred():
+    heading("A hundred small random images, which the tallies have too")
+    for case in hundred_cases():
+        vector(*case)
+
+
 SECTIONS = (
     examples, example_lengths,
     angle_kinds, angle_orders, angle_refusals, first_refusals, shared_expressions,
@@ -1166,6 +1173,7 @@ def make():
     random_programs(170)
     random_cases(300)
     random_broadcasts(50)
+    random_hundred()
 
 
 def main():

@@ -26,6 +26,7 @@ from oracle.reference import reference
 from oracle.reference.reference import BARRIER, CALL, CX, IF, MEASURE, RESET, U
 from oracle.vectors import random_images
 from oracle.vectors.entries import K1, NOTHING, PI_ENTRY, changed, decimal_words, gate, image, opaque, variable
+from oracle.vectors.hundred_images import hundred_cases
 
 WORD_MAX = 2**64 - 1
 LIMIT = 4294967295
@@ -670,6 +671,12 @@ def random_vectors(count):
             vector(words, rng.choice(depths))
 
 
+def random_hundred():
+    heading("A hundred small random images, which the runs have too")
+    for case in hundred_cases():
+        vector(case.words, case.depth)
+
+
 def main():
     entries_at_the_limit()
     entries_that_wrap()
@@ -690,6 +697,7 @@ def main():
     everything()
     refusals()
     random_vectors(100)
+    random_hundred()
     print("\n".join(lines))
     print(*(f"{number}: {counts[number]}" for number in range(17) if counts[number]), file=sys.stderr)
 

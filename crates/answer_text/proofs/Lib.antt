@@ -1,3 +1,2 @@
 pub mod AnswersLaws
 pub mod LongInputLaws
-pub mod Samples

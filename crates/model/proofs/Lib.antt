@@ -1,7 +1,5 @@
 pub mod Compute
 pub mod CaseLaws
-pub mod Sampled
-pub mod Samples
 pub mod All
 pub mod Accepted
 pub mod ListLaws

@@ -1,4 +1,3 @@
 pub mod ReadFrontLaws
 pub mod ReadBackLaws
 pub mod LongInputLaws
-pub mod Samples

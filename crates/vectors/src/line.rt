@@ -4,8 +4,8 @@ ghost use Prim.Native.Nat.{_+_, _≤_};
 ghost use lib.ListN.{length};
 ghost use Rattle.vectors.specs.Room.{InRoom};
 
-// Room for the words of a line: for more than an image may have.
-pub const WORDS_ROOM: usize = 8200;
+// Room for the words of a line: for more than an image may have, and for more records than are read back at once.
+pub const WORDS_ROOM: usize = 65600;
 
 // A number, and where its digits end.
 pub enum Decimal {

@@ -20,7 +20,7 @@ fn lists(input: &[u8], length: u64, sum: u64) -> bool {
 
 // Whether the listing of an image is as a line says.
 fn agrees(image: &[u64], leading: &[u64; 4]) -> bool
-    requires { ⌜ length (now image) ≤ 8200 ⌝ }
+    requires { ⌜ length (now image) ≤ 65600 ⌝ }
 {
     let mut input = bytes::byte_room();
     bytes::put_word_bytes(&mut input, 0, leading[1]);

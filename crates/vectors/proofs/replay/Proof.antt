@@ -10,7 +10,7 @@ use Rattle.vectors.proofs.replay.Tie as tie
 
 -- a line has at least its line feed
 abbrev Inv-loop : tie.InvT-loop
-Inv-loop sort input words₀ vectors₀ agree₀ line-number₀ at₀ words vectors agree line-number at = (agree ≤ vectors) × ((vectors ≤ line-number) × ((line-number ≤ at) × ((at ≤ length input) × (length words ≡ 8200))))
+Inv-loop sort input words₀ vectors₀ agree₀ line-number₀ at₀ words vectors agree line-number at = (agree ≤ vectors) × ((vectors ≤ line-number) × ((line-number ≤ at) × ((at ≤ length input) × (length words ≡ 65600))))
 
 abbrev μ-loop : tie.MeasureT-loop
 μ-loop sort input words₀ vectors₀ agree₀ line-number₀ at₀ words vectors agree line-number at = length input - at
