@@ -12,7 +12,9 @@ ghost use mathlib.Core.Bool.{true};
 ghost use Prim.Native.Nat.{_+_, _*_, _<_, _≤_, _^_};
 ghost use lib.ListN.{length};
 ghost use Rattle.value.specs.Value.{Sound};
-ghost use Rattle.value.specs.Promise.{EvaluatesTo};
+ghost use Rattle.value.specs.Promise.{EvaluatesTo, SoundEvaluation};
+ghost use Rattle.value.specs.declared.Value.{Value};
+ghost use mathlib.Core.List.{List};
 ghost use Rattle.model.specs.Evaluate.{evaluate, zeroValue};
 ghost use Rattle.model.specs.Steps.{parameterValues};
 ghost use Rattle.record_writer.specs.Promise.{SoundAngles};
@@ -183,45 +185,34 @@ fn is_constant(image: &[u64], l: Layout, kept_values: &[u64], e: u64) -> bool
     kept_values[7 * b] == 1
 }
 
-// The angle of an expression, or why it has none. An operand has a smaller number than its user.
-fn worked_out(
+// Keeps what an entry is evaluated to, if it is a value, marks a constant, and hands the evaluation on.
+fn keep_evaluation(
     image: &[u64],
     l: Layout,
-    angles: &[u64; FRAME_ANGLE_WORDS],
     known: &mut [bool; image::MOST_EXPRESSIONS],
     kept_values: &mut [u64],
     e: u64,
+    r: Evaluation,
 ) -> Evaluation
-    requires { ⌜
-        LayoutOf (now image) l
-        × SoundAngles (anglesIn (now angles))
-        × AcceptedExpression (now image) e
-        × ValuesKept (now image) (anglesIn (now angles)) (now known) (now «kept_values»)
+    requires { ⌜ LayoutOf (now image) l × AcceptedExpression (now image) e × ConstantsKept (now image) (now «kept_values») × SoundEvaluation r ⌝ }
+    ensures { λ answer. ⌜
+        ((angles : List Value)
+        → Evaluated (now (image .entry)) angles e r (now (known .entry)) (now («kept_values» .entry))
+        → Evaluated (now (image .entry)) angles e answer (now (known .exit)) (now («kept_values» .exit)))
         ⌝ }
-    ensures { λ r. ⌜ Evaluated (now (image .entry)) (anglesIn (now (angles .entry))) e r (now (known .exit)) (now («kept_values» .exit)) ⌝ }
 {
-    let at = l.expression_at(e);
-    let kind = image::word(image, at);
-    let a = image::word(image, at + 1);
-    if kind < 4 {
-        return nullary(angles, kind, a);
-    }
-    let left = evaluate(image, l, angles, known, kept_values, a);
-    let Evaluation::Value(x) = left else {
-        return left;
+    let Evaluation::Value(x) = r else {
+        return r;
     };
-    if 8 < kind {
-        return unary(kind, x);
+    let constant = is_constant(image, l, kept_values, e);
+    keep_value(known, kept_values, e, x);
+    if constant {
+        kept_values[(7 * e) as usize] = 1;
     }
-    let b = image::word(image, at + 2);
-    let right = evaluate(image, l, angles, known, kept_values, b);
-    let Evaluation::Value(y) = right else {
-        return right;
-    };
-    binary(kind, x, y)
+    r
 }
 
-// The angle of an expression, read back if it is kept. A refusal ends the whole evaluation, so that only values are kept.
+// The angle of an expression, read back if it is kept, or why it has none. An operand has a smaller number than its user. A refusal ends the whole evaluation, so that only values are kept.
 fn evaluate(
     image: &[u64],
     l: Layout,
@@ -238,22 +229,31 @@ fn evaluate(
         ⌝ }
     ensures { λ r. ⌜ Evaluated (now (image .entry)) (anglesIn (now (angles .entry))) e r (now (known .exit)) (now («kept_values» .exit)) ⌝ }
 {
-    let i = e as usize;
-    if known[i] {
+    if known[e as usize] {
         return Evaluation::Value(value_at(kept_values, 7 * e + 1));
     }
-    if kept_values[7 * i] == 1 {
+    if kept_values[(7 * e) as usize] == 1 {
         return Evaluation::Value(value_at(kept_values, 7 * e + 1));
     }
-    let r = worked_out(image, l, angles, known, kept_values, e);
-    let Evaluation::Value(x) = r else {
-        return r;
+    let at = l.expression_at(e);
+    let kind = image::word(image, at);
+    let a = image::word(image, at + 1);
+    if kind < 4 {
+        return keep_evaluation(image, l, known, kept_values, e, nullary(angles, kind, a));
+    }
+    let left = evaluate(image, l, angles, known, kept_values, a);
+    let Evaluation::Value(x) = left else {
+        return left;
     };
-    keep_value(known, kept_values, e, x);
-    if is_constant(image, l, kept_values, e) {
-        kept_values[7 * i] = 1;
+    if 8 < kind {
+        return keep_evaluation(image, l, known, kept_values, e, unary(kind, x));
     }
-    r
+    let b = image::word(image, at + 2);
+    let right = evaluate(image, l, angles, known, kept_values, b);
+    let Evaluation::Value(y) = right else {
+        return right;
+    };
+    keep_evaluation(image, l, known, kept_values, e, binary(kind, x, y))
 }
 
 // The angle of an expression where no value is known but those of constants. A parameter alone is read straight away.
