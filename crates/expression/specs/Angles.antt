@@ -32,6 +32,10 @@ valueAt words p = record { a = fractionAt words p; b = fractionAt words (p + 3) 
 abbrev pub putValue : List ℕ → ℕ → Value → List ℕ
 putValue words p x = putFraction (putFraction words p (x .a)) (p + 3) (x .b)
 
--- the sixteen angles of a frame, in six words each
+-- the words of an angle
+abbrev pub valueWords : ℕ
+valueWords = 6
+
+-- the sixteen angles of a frame, one after another
 unfoldable pub anglesIn : List ℕ → List Value
-anglesIn words = map (λ i. valueAt words (6 * i)) (range 0 mostParameters)
+anglesIn words = map (λ i. valueAt words (valueWords * i)) (range 0 mostParameters)

@@ -20,15 +20,20 @@ ghost use Rattle.model.specs.Steps.{parameterValues};
 ghost use Rattle.record_writer.specs.Promise.{SoundAngles};
 ghost use Rattle.model.specs.Limits.{mostParameters, mostLevels, mostExpressions};
 ghost use Rattle.image.specs.Layout.{LayoutOf};
-ghost use Rattle.expression.specs.Angles.{denominatorOf, fractionAt, signWord, putFraction, valueAt, putValue, anglesIn};
-ghost use Rattle.expression.specs.KeptValues.{Constant, ConstantsKept, ValueStored, ValuesKept, AngleContext, Evaluated};
+ghost use Rattle.expression.specs.Angles.{denominatorOf, fractionAt, signWord, putFraction, valueAt, putValue, valueWords, anglesIn};
+ghost use Rattle.expression.specs.KeptValues.{keptValueWords, Constant, ConstantsKept, ValueStored, ValuesKept, AngleContext, Evaluated};
 ghost use Rattle.expression.specs.Operands.{BinaryResult, UnaryResult, NullaryResult, AcceptedExpression, NoValue, RefusalOf, ParametersGiven};
 ghost use Rattle.expression.specs.NamedExpressions.{namedAt, NamesExpressions};
 
 // ---- angles in words: an array of numbers can be lent, an array of angles cannot
 
-// The words of the angles of a frame, six for each.
-pub const FRAME_ANGLE_WORDS: usize = 6 * image::FRAME_ANGLES;
+// The words of an angle.
+pub const VALUE_WORDS: u64 = 6;
+// The words that are kept of an expression: whether it is a constant, and its angle.
+pub const KEPT_VALUE_WORDS: u64 = 7;
+
+// The words of the angles of a frame.
+pub const FRAME_ANGLE_WORDS: usize = (VALUE_WORDS as usize) * image::FRAME_ANGLES;
 
 // A denominator from its word: 0 stands for 1, so that words that are all 0 are angles 0.
 fn denominator(word: u64) -> u64
@@ -96,7 +101,7 @@ pub fn angles_in(words: &[u64; FRAME_ANGLE_WORDS]) -> [Value; image::FRAME_ANGLE
     let mut values = [zero(); image::FRAME_ANGLES];
     let mut i = 0;
     while i < image::MOST_PARAMETERS {
-        values[i as usize] = value_at(words, 6 * i);
+        values[i as usize] = value_at(words, VALUE_WORDS * i);
         i += 1;
     }
     values
@@ -113,7 +118,7 @@ fn nullary(angles: &[u64; FRAME_ANGLE_WORDS], kind: u64, a: u64) -> Evaluation
         0 => Evaluation::Value(Value::pi()),
         1 => Value::from_float(float::f32_from_bits(a)),
         2 => Value::int(a),
-        _ => Evaluation::Value(value_at(angles, 6 * a)),
+        _ => Evaluation::Value(value_at(angles, VALUE_WORDS * a)),
     }
 }
 
@@ -156,10 +161,10 @@ fn keep_value(
     e: u64,
     x: Value,
 )
-    requires { ⌜ (e < mostExpressions) × (7 * e + 6 < length (now «kept_values»)) × Sound x ⌝ }
+    requires { ⌜ (e < mostExpressions) × (keptValueWords * e + valueWords < length (now «kept_values»)) × Sound x ⌝ }
     ensures { λ r. ⌜ ValueStored (now (known .entry)) (now («kept_values» .entry)) e x (now (known .exit)) (now («kept_values» .exit)) ⌝ }
 {
-    put_value(kept_values, 7 * e + 1, x);
+    put_value(kept_values, KEPT_VALUE_WORDS * e + 1, x);
     let i = e as usize;
     known[i] = true;
 }
@@ -174,15 +179,15 @@ fn is_constant(image: &[u64], l: Layout, kept_values: &[u64], e: u64) -> bool
     if kind < 4 {
         return kind != 3;
     }
-    let a = image::word(image, at + 1) as usize;
-    if kept_values[7 * a] != 1 {
+    let a = image::word(image, at + 1);
+    if kept_values[(KEPT_VALUE_WORDS * a) as usize] != 1 {
         return false;
     }
     if kind >= 9 {
         return true;
     }
-    let b = image::word(image, at + 2) as usize;
-    kept_values[7 * b] == 1
+    let b = image::word(image, at + 2);
+    kept_values[(KEPT_VALUE_WORDS * b) as usize] == 1
 }
 
 // Keeps what an entry is evaluated to, if it is a value, marks a constant, and hands the evaluation on.
@@ -207,7 +212,7 @@ fn keep_evaluation(
     let constant = is_constant(image, l, kept_values, e);
     keep_value(known, kept_values, e, x);
     if constant {
-        kept_values[(7 * e) as usize] = 1;
+        kept_values[(KEPT_VALUE_WORDS * e) as usize] = 1;
     }
     r
 }
@@ -230,10 +235,10 @@ fn evaluate(
     ensures { λ r. ⌜ Evaluated (now (image .entry)) (anglesIn (now (angles .entry))) e r (now (known .exit)) (now («kept_values» .exit)) ⌝ }
 {
     if known[e as usize] {
-        return Evaluation::Value(value_at(kept_values, 7 * e + 1));
+        return Evaluation::Value(value_at(kept_values, KEPT_VALUE_WORDS * e + 1));
     }
-    if kept_values[(7 * e) as usize] == 1 {
-        return Evaluation::Value(value_at(kept_values, 7 * e + 1));
+    if kept_values[(KEPT_VALUE_WORDS * e) as usize] == 1 {
+        return Evaluation::Value(value_at(kept_values, KEPT_VALUE_WORDS * e + 1));
     }
     let at = l.expression_at(e);
     let kind = image::word(image, at);
@@ -267,9 +272,8 @@ fn evaluate_anew(
     requires { ⌜ AngleContext (now image) l (anglesIn (now angles)) (now «kept_values») × AcceptedExpression (now image) e ⌝ }
     ensures { λ r. ⌜ EvaluatesTo (evaluate (now (image .entry)) (anglesIn (now (angles .entry))) mostLevels e) r × ConstantsKept (now (image .entry)) (now («kept_values» .exit)) ⌝ }
 {
-    let i = e as usize;
-    if kept_values[7 * i] == 1 {
-        return Evaluation::Value(value_at(kept_values, 7 * e + 1));
+    if kept_values[(KEPT_VALUE_WORDS * e) as usize] == 1 {
+        return Evaluation::Value(value_at(kept_values, KEPT_VALUE_WORDS * e + 1));
     }
     let at = l.expression_at(e);
     if image::word(image, at) == 3 {
@@ -327,7 +331,7 @@ pub fn parameter_values(
         AngleContext (now image) l (anglesIn (now angles)) (now «kept_values»)
         × NamesExpressions (now image) place n
         × SoundAngles (anglesIn (now given))
-        × (6 * n ≤ length (now given))
+        × (valueWords * n ≤ length (now given))
         ⌝ }
     ensures { λ r. ⌜
         ParametersGiven (parameterValues (now (image .entry)) (anglesIn (now (angles .entry))) (namedAt (now (image .entry)) place n))
@@ -343,7 +347,7 @@ pub fn parameter_values(
             let kind = refusal(r, l.expression_at(e));
             return Linearized::Refused(LinearizeError { kind, at });
         };
-        put_value(given, 6 * i, x);
+        put_value(given, VALUE_WORDS * i, x);
         i += 1;
     }
     Linearized::Done(at)
