@@ -9,20 +9,21 @@ use value::Evaluation;
 use value::Value;
 ghost use mathlib.Core.Path.{_≡_};
 ghost use mathlib.Core.Bool.{true};
-ghost use Prim.Native.Nat.{_+_, _*_, _<_, _≤_, _^_};
+ghost use Prim.Native.Nat.{ℕ, _+_, _*_, _<_, _≤_, _^_};
 ghost use lib.ListN.{length};
 ghost use Rattle.value.specs.Value.{Sound};
 ghost use Rattle.value.specs.Promise.{EvaluatesTo, SoundEvaluation};
 ghost use Rattle.value.specs.declared.Value.{Value};
 ghost use mathlib.Core.List.{List};
 ghost use Rattle.model.specs.Evaluate.{evaluate, zeroValue};
+ghost use Rattle.model.specs.Image.{expressionAt};
 ghost use Rattle.model.specs.Steps.{parameterValues};
-ghost use Rattle.record_writer.specs.Promise.{SoundAngles};
+ghost use Rattle.record_writer.specs.Promise.{SoundAngles, AnglesGiven};
 ghost use Rattle.model.specs.Limits.{mostParameters, mostLevels, mostExpressions};
-ghost use Rattle.image.specs.Layout.{LayoutOf};
-ghost use Rattle.expression.specs.Angles.{denominatorOf, fractionAt, signWord, putFraction, valueAt, putValue, valueWords, anglesIn};
+ghost use Rattle.image.specs.Layout.{WithinLimits, Small, LayoutOf};
+ghost use Rattle.expression.specs.Angles.{denominatorOf, fractionAt, signWord, putFraction, valueAt, putValue, valueWords, AngleWords, anglesIn};
 ghost use Rattle.expression.specs.KeptValues.{keptValueWords, Constant, ConstantsKept, ValueStored, ValuesKept, AngleContext, Evaluated};
-ghost use Rattle.expression.specs.Operands.{BinaryResult, UnaryResult, NullaryResult, AcceptedExpression, NoValue, RefusalOf, ParametersGiven};
+ghost use Rattle.expression.specs.Operands.{BinaryResult, UnaryResult, NullaryResult, AcceptedExpression, NoValue, RefusalOf, RefusedAt, ParametersGiven};
 ghost use Rattle.expression.specs.NamedExpressions.{namedAt, NamesExpressions};
 
 // ---- angles in words: an array of numbers can be lent, an array of angles cannot
@@ -94,17 +95,19 @@ fn put_value(words: &mut [u64], at: u64, x: Value)
     put_fraction(words, at + 3, b);
 }
 
-// The sixteen angles of a frame, from its words.
-pub fn angles_in(words: &[u64; FRAME_ANGLE_WORDS]) -> [Value; image::FRAME_ANGLES]
-    ensures { λ r. ⌜ r ≡ anglesIn (now (words .entry)) ⌝ }
+// The words of the first n angles, so that they can be lent.
+pub fn angle_words(angles: [Value; image::FRAME_ANGLES], n: u64) -> [u64; FRAME_ANGLE_WORDS]
+    requires { ⌜ AnglesGiven angles n ⌝ }
+    ensures { λ r. ⌜ AngleWords angles n r ⌝ }
 {
-    let mut values = [zero(); image::FRAME_ANGLES];
+    let mut words = [0; FRAME_ANGLE_WORDS];
     let mut i = 0;
-    while i < image::MOST_PARAMETERS {
-        values[i as usize] = value_at(words, VALUE_WORDS * i);
+    while i < n {
+        let x = angles[i as usize];
+        put_value(&mut words, VALUE_WORDS * i, x);
         i += 1;
     }
-    values
+    words
 }
 
 // ---- expressions
@@ -262,7 +265,7 @@ fn evaluate(
 }
 
 // The angle of an expression where no value is known but those of constants. A parameter alone is read straight away.
-fn evaluate_anew(
+pub fn evaluate_anew(
     image: &[u64],
     l: Layout,
     angles: &[u64; FRAME_ANGLE_WORDS],
@@ -316,7 +319,22 @@ fn refusal(r: Evaluation, place: u64) -> LinearizeErrorKind
     }
 }
 
-// Puts the angles of the n expressions that the words from a place on name in front of those given, or answers the refusal of the first that has none.
+// The answer of a run that ends at an expression, whose evaluation came to no angle.
+pub fn refused(l: Layout, e: u64, r: Evaluation, at: Position) -> Linearized
+    requires { ⌜ WithinLimits l × Small e × NoValue r ⌝ }
+    ensures { λ answer. ⌜ ((image : List ℕ) → LayoutOf image l → RefusedAt r (expressionAt image e) at answer) ⌝ }
+{
+    let kind = refusal(r, l.expression_at(e));
+    Linearized::Refused(LinearizeError { kind, at })
+}
+
+// The angles of a call's parameters, the others 0, or the refusal of the first that has none.
+pub struct ParameterValues {
+    pub angles: [Value; image::FRAME_ANGLES],
+    pub answer: Linearized,
+}
+
+// The angles of the n expressions that the words from a place on name.
 pub fn parameter_values(
     image: &[u64],
     l: Layout,
@@ -324,31 +342,32 @@ pub fn parameter_values(
     kept_values: &mut [u64],
     place: u64,
     n: u64,
-    given: &mut [u64],
     at: Position,
-) -> Linearized
-    requires { ⌜
-        AngleContext (now image) l (anglesIn (now angles)) (now «kept_values»)
-        × NamesExpressions (now image) place n
-        × SoundAngles (anglesIn (now given))
-        × (valueWords * n ≤ length (now given))
-        ⌝ }
+) -> ParameterValues
+    requires { ⌜ AngleContext (now image) l (anglesIn (now angles)) (now «kept_values») × NamesExpressions (now image) place n ⌝ }
     ensures { λ r. ⌜
-        ParametersGiven (parameterValues (now (image .entry)) (anglesIn (now (angles .entry))) (namedAt (now (image .entry)) place n))
-        n at r (anglesIn (now (given .exit)))
+        ParametersGiven (parameterValues (now (image .entry)) (anglesIn (now (angles .entry))) (namedAt (now (image .entry)) place n)) n at (r .answer) (r .angles)
         × ConstantsKept (now (image .entry)) (now («kept_values» .exit))
         ⌝ }
 {
+    let mut values = [zero(); image::FRAME_ANGLES];
     let mut i = 0;
     while i < n {
         let e = image::word(image, place + i);
         let r = evaluate_anew(image, l, angles, kept_values, e);
         let Evaluation::Value(x) = r else {
-            let kind = refusal(r, l.expression_at(e));
-            return Linearized::Refused(LinearizeError { kind, at });
+            let answer = refused(l, e, r, at);
+            return ParameterValues {
+                angles: values,
+                answer,
+            };
         };
-        put_value(given, VALUE_WORDS * i, x);
+        values[i as usize] = x;
         i += 1;
     }
-    Linearized::Done(at)
+    let answer = Linearized::Done(at);
+    ParameterValues {
+        angles: values,
+        answer,
+    }
 }
