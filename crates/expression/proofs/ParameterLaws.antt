@@ -5,9 +5,6 @@ use native.Mathlib.Numerals.{add-one}
 use native.Mathlib.Omega.{arith}
 use mathlib.Core.Path.{_≡_, refl, sym, ap, _∙_, subst}
 use mathlib.Core.Logic.{⊎-elim}
-use mathlib.Core.Bool.{Bool, true, false}
-use lib.Dec.{eqb}
-use borrow.Author.Tests.{eqb-true, eqb-false}
 use mathlib.Core.List.{List, [], _∷_, _++_, map}
 use lib.ListN.{set, take}
 use lib.Seq.{take-suc-set}
@@ -18,15 +15,13 @@ use types.Run.{OneOf}
 use Rattle.value.specs.declared.Value.{Value}
 use Rattle.value.specs.declared.Evaluation.{Evaluation}
 use Rattle.value.specs.declared.Evaluation.the-variants as evaluation
-use Rattle.value.specs.Value.{Sound}
 use Rattle.value.specs.Promise.{EvaluatesTo}
 use Rattle.value.proofs.Evaluation.{the-type}
 use Rattle.model.specs.Lists.{range}
 use Rattle.model.specs.Image.{expressionAt}
-use Rattle.model.specs.Evaluate.{evaluate, zeroValue}
+use Rattle.model.specs.Evaluate.{evaluate}
 use Rattle.model.specs.Steps.{Values, have, lack, Refusal, DivideByZero, ApproximateFail, NumericalOverflow, FunctionOfFloats, also, parameterValues}
 use Rattle.record_writer.specs.declared.Position.{Position}
-use Rattle.record_writer.specs.declared.LinearizeErrorKind.{LinearizeErrorKind}
 use Rattle.record_writer.specs.declared.LinearizeErrorKind.the-variants as kind
 use Rattle.record_writer.specs.declared.Linearized.{Linearized}
 use Rattle.record_writer.specs.declared.Linearized.the-variants as linearized

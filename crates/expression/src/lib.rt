@@ -328,13 +328,13 @@ pub fn refused(l: Layout, e: u64, r: Evaluation, at: Position) -> Linearized
     Linearized::Refused(LinearizeError { kind, at })
 }
 
-// The angles of a call's parameters, the others 0, or the refusal of the first that has none.
+// The angles of a call's parameters, the others 0, beside the answer, since an enum cannot hold an array.
 pub struct ParameterValues {
     pub angles: [Value; image::FRAME_ANGLES],
     pub answer: Linearized,
 }
 
-// The angles of the n expressions that the words from a place on name.
+// The angles of the n expressions that the words from a place on name, or the refusal of the first that has none.
 pub fn parameter_values(
     image: &[u64],
     l: Layout,

@@ -32,7 +32,7 @@ keep-value-requires : tie.Need-keep-value-requires
 keep-value-requires c κs =
     let r = c .before .before .before .before .before .r in
     let s = c .before .before .before .before .before .before .before .before .before in
-    (few s, room s, rw (r .given .1) at (s .pre .3))
+    (omega (arith, few s), omega (arith, room s), rw (r .given .1) at (s .pre .3))
 
 mul-kept-values : tie.Need-mul-kept-values
 mul-kept-values c = record { fits = omega (arith, few (c .before .before .before .before .before .before .before .before .before .before .before .before .before)) }

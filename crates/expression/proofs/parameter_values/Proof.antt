@@ -1,5 +1,5 @@
 -- After i turns of the loop the angles of the first i expressions stand in front; the first that has none ends it.
-use Prim.Native.Nat.{_+_, _-_, _≤_, _<_}
+use Prim.Native.Nat.{_+_, _-_, _≤_}
 use native.Mathlib.Omega.{arith}
 use mathlib.Core.Path.{_≡_, refl, sym, subst}
 use lib.ListN.{length}
