@@ -1,13 +1,14 @@
 -- Angles put into words and read back, and the sixteen angles of a frame.
 use Prim.Native.Nat.{ℕ, zero, suc, _+_, _*_, _<_}
+use native.Mathlib.Numerals.{add-one}
 use native.Mathlib.Omega.{arith}
 use mathlib.Core.Path.{_≡_, refl, sym, ap, ap₂, _∙_}
 use mathlib.Core.Bool.{Bool, true, false, cond}
-use mathlib.Core.List.{List, [], _∷_}
+use mathlib.Core.List.{List, [], _∷_, _++_}
 use lib.Dec.{eqb, ltb}
 use borrow.Author.Tests.{eqb-true, eqb-false, ltb-true, ltb-false}
-use lib.ListN.{length, getD, set, length-set, length-map, replicate, take}
-use lib.Seq.{getD-set-same, getD-set-other, ext-getD}
+use lib.ListN.{length, getD, set, length-set, length-map, replicate, getD-replicate, take}
+use lib.Seq.{getD-set-same, getD-set-other, ext-getD, take-suc, take-suc-set}
 use Rattle.rational.specs.declared.Rational64.{Rational64}
 use Rattle.value.specs.declared.Value.{Value}
 use Rattle.value.specs.Value.{Sound, value}
@@ -18,7 +19,8 @@ use Rattle.model.proofs.ListLaws.{entry-of-map}
 use Rattle.model.proofs.Lengths.{length-range}
 use Rattle.model.proofs.AnglesSound.{zero-sound}
 use Rattle.record_writer.specs.Promise.{SoundAngles}
-use Rattle.expression.specs.Angles.{denominatorOf, fractionAt, signWord, putFraction, valueAt, putValue, anglesIn}
+use Rattle.record_writer.proofs.AngleWordsLaws.{angle-sound}
+use Rattle.expression.specs.Angles.{denominatorOf, fractionAt, signWord, putFraction, valueAt, putValue, anglesIn, AngleWords}
 
 -- ---- three words
 
@@ -176,19 +178,6 @@ zeros-sound n = record { sixteen = sixteen (replicate n 0); each = λ i h. rw (a
     value-zero : (p : ℕ) → valueAt (replicate n 0) p ≡ zeroValue
     value-zero p = rw (zero-word n p, zero-word n (p + 1), zero-word n (p + 2), zero-word n (p + 3), zero-word n (p + 3 + 1), zero-word n (p + 3 + 2)) refl
 
--- one more of some angles is that in the words
-pub front-put : (words : List ℕ) (values : List Value) (i : ℕ) (x : Value) → length values ≡ 16 → i < 16 → ((j : ℕ) → j < i → getD values j zeroValue ≡ valueAt words (6 * j)) → x ≡ valueAt words (6 * i)
-    → (length (set values i x) ≡ 16) × ((j : ℕ) → j < i + 1 → getD (set values i x) j zeroValue ≡ valueAt words (6 * j))
-front-put words values i x l h front q = (length-set values i x ∙ l, λ j m. go j m (eqb j i) refl)
-  where
-    go : (j : ℕ) → j < i + 1 → (b : Bool) → eqb j i ≡ b → getD (set values i x) j zeroValue ≡ valueAt words (6 * j)
-    go j m true b =
-        let e = eqb-true j i b in
-        ap (λ (k : ℕ). getD (set values i x) k zeroValue) e ∙ getD-set-same values i x zeroValue (omega (arith, l)) ∙ q ∙ ap (λ (k : ℕ). valueAt words (6 * k)) (sym e)
-    go j m false b =
-        let n = eqb-false j i b in
-        getD-set-other values i j x zeroValue n ∙ front j (omega arith)
-
 -- the first three angles that some words hold, as they were read
 pub three-angles : (words : List ℕ) {x y z : Value} → x ≡ valueAt words 0 → y ≡ valueAt words 6 → z ≡ valueAt words 12 → have (take 3 (anglesIn words)) ≡ have (x ∷ y ∷ z ∷ [])
 unfolding anglesIn range
@@ -196,3 +185,34 @@ three-angles words e f g = sym (rw (e, f, g) refl)
 
 pub read-angle-sound : (words : List ℕ) (i : ℕ) {x : Value} → i < 16 → SoundAngles (anglesIn words) → x ≡ valueAt words (6 * i) → Sound x
 read-angle-sound words i h s e = rw (e ∙ sym (angle-at words i zeroValue h)) (s .each i h)
+
+-- ---- sixteen sound angles
+
+-- one angle sixteen times
+pub repeated-sound : (x : Value) → Sound x → SoundAngles (replicate 16 x)
+repeated-sound x h = record { sixteen = refl; each = λ i l. rw (getD-replicate 16 i x zeroValue l) h }
+
+-- one of them put in anew
+pub put-sound : (found : List Value) (i : ℕ) (x : Value) → i < 16 → SoundAngles found → Sound x → SoundAngles (set found i x)
+put-sound found i x l s h = record { sixteen = length-set found i x ∙ s .sixteen; each = λ j m. go j m (eqb j i) refl }
+  where
+    go : (j : ℕ) → j < 16 → (b : Bool) → eqb j i ≡ b → Sound (getD (set found i x) j zeroValue)
+    go j m true e = rw (eqb-true j i e, getD-set-same found i x zeroValue (omega (arith, s .sixteen))) h
+    go j m false e = rw (getD-set-other found i j x zeroValue (eqb-false j i e)) (s .each j m)
+
+-- ---- the words of the first of some angles
+
+module _ (angles : List Value) where
+  pub angle-words-none : (n : ℕ) → AngleWords angles 0 (replicate n 0)
+  angle-words-none n = record { sound = zeros-sound n; front = refl }
+
+  -- the next angle is put, with whichever angle d stands for one that is lacking
+  pub angle-words-next : (words words′ : List ℕ) (i : ℕ) (d : Value) → i < 16 → 6 * i + 5 < length words → SoundAngles angles → AngleWords angles i words → words′ ≡ putValue words (6 * i) (getD angles i d) → AngleWords angles (i + 1) words′
+  angle-words-next words words′ i d h l s k e =
+      let x = getD angles i d in
+      let fine = angle-sound s i d h in
+      let put : anglesIn words′ ≡ set (anglesIn words) i x = ap anglesIn e ∙ angles-put words i x h l fine in
+      record {
+        sound = rw put (put-sound (anglesIn words) i x h (k .sound) fine);
+        front = rw (add-one i) (ap (take (suc i)) put ∙ take-suc-set (anglesIn words) i x (omega (arith, k .sound .sixteen)) ∙ ap (λ (xs : List Value). xs ++ x ∷ []) (k .front) ∙ sym (take-suc angles i d (omega (arith, s .sixteen))));
+      }

@@ -16,11 +16,8 @@ use Rattle.value.specs.Promise.{EvaluatesTo}
 use Rattle.model.specs.Image.{expressions}
 use Rattle.model.specs.Evaluate.{evaluate}
 use Rattle.expression.specs.Angles.{putValue}
-use Rattle.expression.specs.KeptValues.{constantAt, keptAt, Constant, ConstantsKept, ValueStored, ValuesKept}
+use Rattle.expression.specs.KeptValues.{constantAt, keptAt, Constant, ConstantsKept, ValueStored, ValuesKept, Evaluated}
 use Rattle.expression.proofs.AnglesLaws.{value-length, value-same, value-other, value-set, word-beside}
-
-pub mark-length : {known known′ : List Bool} {t t′ : List ℕ} {e : ℕ} {x : Value} {n : ℕ} → ValueStored known t e x known′ t′ → length t ≡ n → length (set t′ (7 * e) 1) ≡ n
-mark-length {t′ = t′} {e} s q = length-set t′ (7 * e) 1 ∙ s .same ∙ q
 
 pub stored : (known : List Bool) (t t2 : List ℕ) (e : ℕ) (x : Value) → 7 * e + 6 < length t → Sound x → t2 ≡ putValue t (7 * e + 1) x → ValueStored known t e x (set known e true) t2
 stored known t t2 e x h s q =
@@ -110,3 +107,12 @@ module _ (image : List ℕ) (angles : List Value) where
             let n = eqb-false i e b in
             let before : constantAt t i ≡ 1 = sym (getD-set-other t (7 * e) (7 * i) 1 0 (λ q. n (omega arith))) ∙ m′ in
             (λ xs. k .constants .each i l before xs ∙ ap evaluation.Value (sym (unchanged i)), rw (unchanged i) (k .constants .sound i l before))
+
+    -- an entry whose value is kept is evaluated
+    pub keeps-value : (x : Value) (known′ : List Bool) (t′ : List ℕ) (r : Evaluation) → ValueStored known t e x known′ t′ → r ≡ evaluation.Value x → Evaluated image angles e r known t → Evaluated image angles e (evaluation.Value x) known′ t′
+    keeps-value x known′ t′ r s q h = (subst (EvaluatesTo _) q (h .0), keeps-more x known′ t′ r (h .1) (h .0) q s)
+
+  -- and so is a constant whose value is kept and marked
+  pub keeps-constant-value : (known : List Bool) (t : List ℕ) (e : ℕ) (x : Value) (known′ : List Bool) (t′ : List ℕ) (r : Evaluation) → ValueStored known t e x known′ t′ → r ≡ evaluation.Value x → Constant image e → Evaluated image angles e r known t
+      → Evaluated image angles e (evaluation.Value x) known′ (set t′ (7 * e) 1)
+  keeps-constant-value known t e x known′ t′ r s q c h = let k = keeps-value known t e x known′ t′ r s q h in (k .0, keeps-constant known′ t′ e x (k .1) (k .0) (s .this) c)

@@ -5,12 +5,9 @@ use native.Mathlib.Numerals.{add-one}
 use native.Mathlib.Omega.{arith}
 use mathlib.Core.Path.{_≡_, refl, sym, ap, _∙_, subst}
 use mathlib.Core.Logic.{⊎-elim}
-use mathlib.Core.Bool.{Bool, true, false}
-use lib.Dec.{eqb}
-use borrow.Author.Tests.{eqb-true, eqb-false}
 use mathlib.Core.List.{List, [], _∷_, _++_, map}
-use lib.ListN.{getD, set, take, length-set}
-use lib.Seq.{take-suc-set, getD-set-same, getD-set-other}
+use lib.ListN.{set, take}
+use lib.Seq.{take-suc-set}
 use lib.Ieee.{Float}
 use Rattle.float.specs.Float.{floatBits}
 use denote.Enum.Declared.{tagOf}
@@ -18,27 +15,19 @@ use types.Run.{OneOf}
 use Rattle.value.specs.declared.Value.{Value}
 use Rattle.value.specs.declared.Evaluation.{Evaluation}
 use Rattle.value.specs.declared.Evaluation.the-variants as evaluation
-use Rattle.value.specs.Value.{Sound}
 use Rattle.value.specs.Promise.{EvaluatesTo}
 use Rattle.value.proofs.Evaluation.{the-type}
 use Rattle.model.specs.Lists.{range}
 use Rattle.model.specs.Image.{expressionAt}
-use Rattle.model.specs.Evaluate.{evaluate, zeroValue}
+use Rattle.model.specs.Evaluate.{evaluate}
 use Rattle.model.specs.Steps.{Values, have, lack, Refusal, DivideByZero, ApproximateFail, NumericalOverflow, FunctionOfFloats, also, parameterValues}
 use Rattle.record_writer.specs.declared.Position.{Position}
-use Rattle.record_writer.specs.declared.LinearizeErrorKind.{LinearizeErrorKind}
 use Rattle.record_writer.specs.declared.LinearizeErrorKind.the-variants as kind
+use Rattle.record_writer.specs.declared.Linearized.{Linearized}
 use Rattle.record_writer.specs.declared.Linearized.the-variants as linearized
 use Rattle.record_writer.specs.Promise.{SoundAngles}
-use Rattle.expression.specs.Operands.{NoValue, RefusalOf, ParametersGiven}
-
--- sixteen angles, one of them put in anew
-put-sound : (found : List Value) (i : ℕ) (x : Value) → i < 16 → SoundAngles found → Sound x → SoundAngles (set found i x)
-put-sound found i x l s h = record { sixteen = length-set found i x ∙ s .sixteen; each = λ j m. go j m (eqb j i) refl }
-  where
-    go : (j : ℕ) → j < 16 → (b : Bool) → eqb j i ≡ b → Sound (getD (set found i x) j zeroValue)
-    go j m true e = rw (eqb-true j i e, getD-set-same found i x zeroValue (omega (arith, s .sixteen))) h
-    go j m false e = rw (getD-set-other found i j x zeroValue (eqb-false j i e)) (s .each j m)
+use Rattle.expression.specs.Operands.{NoValue, RefusalOf, RefusedAt, ParametersGiven}
+use Rattle.expression.proofs.AnglesLaws.{put-sound}
 
 -- ---- the answer that each refusal is
 
@@ -131,8 +120,8 @@ module _ (image : List ℕ) (angles : List Value) (f : ℕ → ℕ) where
   pub front-done : (i n : ℕ) (found : List Value) (at : Position) → i ≤ n → n ≤ i → Front i found → ParametersGiven (values 0 n) n at (linearized.Done at) found
   front-done i n found at h l k = record { sound = k .sound; ends = (refl, subst (λ (m : ℕ). values 0 m ≡ have (take m found)) (le-antisymm h l) (k .front)) }
 
-  pub front-refuses : (i n e p : ℕ) (found : List Value) (r : Evaluation) (why : LinearizeErrorKind) (at : Position) → i < n → Front i found → e ≡ f i → p ≡ expressionAt image e → EvaluatesTo (evaluate image angles 32 e) r → RefusalOf r p why
-      → ParametersGiven (values 0 n) n at (linearized.Refused (record { kind = why; at = at })) found
-  front-refuses i n e p found r why at l k q qp t h =
-      let lacks : (later : Values) → also (valued i) (expressionAt image (f i)) later ≡ lack (h .why) = λ later. sym (rw (sym q, sym (t .is), sym qp) refl) ∙ h .lacks later in
-      record { sound = k .sound; ends = (refl, (h .why, refuses-next 0 i n i (take i found) (h .why) l (omega arith) (k .front) lacks, h .answers)) }
+  pub front-refuses : (i n e : ℕ) (found : List Value) (r : Evaluation) (at : Position) (answer : Linearized) → i < n → Front i found → e ≡ f i → EvaluatesTo (evaluate image angles 32 e) r → RefusedAt r (expressionAt image e) at answer
+      → ParametersGiven (values 0 n) n at answer found
+  front-refuses i n e found r at answer l k q t h =
+      let lacks : (later : Values) → also (valued i) (expressionAt image (f i)) later ≡ lack (h .why .why) = λ later. sym (rw (sym q, sym (t .is)) refl) ∙ h .why .lacks later in
+      rw (h .refuses) (record { sound = k .sound; ends = (refl, (h .why .why, refuses-next 0 i n i (take i found) (h .why .why) l (omega arith) (k .front) lacks, h .why .answers)) })

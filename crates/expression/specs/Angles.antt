@@ -1,13 +1,15 @@
 -- Angles in words: an array of numbers can be lent, an array of angles cannot.
 use Prim.Native.Nat.{ℕ, _+_, _*_}
+use mathlib.Core.Path.{_≡_}
 use mathlib.Core.Bool.{Bool, cond}
 use mathlib.Core.List.{List, map}
-use lib.ListN.{getD, set}
+use lib.ListN.{getD, set, take}
 use lib.Dec.{eqb}
 use Rattle.rational.specs.declared.Rational64.{Rational64}
 use Rattle.value.specs.declared.Value.{Value}
 use Rattle.model.specs.Limits.{mostParameters}
 use Rattle.model.specs.Lists.{range}
+use Rattle.record_writer.specs.Promise.{SoundAngles}
 
 -- a denominator from its word: 0 stands for 1
 abbrev pub denominatorOf : ℕ → ℕ
@@ -32,6 +34,15 @@ valueAt words p = record { a = fractionAt words p; b = fractionAt words (p + 3) 
 abbrev pub putValue : List ℕ → ℕ → Value → List ℕ
 putValue words p x = putFraction (putFraction words p (x .a)) (p + 3) (x .b)
 
--- the sixteen angles of a frame, in six words each
+-- the words of an angle
+abbrev pub valueWords : ℕ
+valueWords = 6
+
+-- the sixteen angles of a frame, one after another
 unfoldable pub anglesIn : List ℕ → List Value
-anglesIn words = map (λ i. valueAt words (6 * i)) (range 0 mostParameters)
+anglesIn words = map (λ i. valueAt words (valueWords * i)) (range 0 mostParameters)
+
+-- the words hold the first n of some angles
+pub record AngleWords (angles : List Value) (n : ℕ) (words : List ℕ) : Type 0 where
+  pub sound : SoundAngles (anglesIn words)
+  pub front : take n (anglesIn words) ≡ take n angles

@@ -17,12 +17,15 @@ use Rattle.image.specs.Layout.{LayoutOf}
 use Rattle.record_writer.specs.Promise.{SoundAngles}
 use Rattle.expression.specs.Angles.{valueAt}
 
--- of entry e seven words are kept: 1 if it is a constant, and its value
+-- the words that are kept of an entry: 1 if it is a constant, and its value
+abbrev pub keptValueWords : ℕ
+keptValueWords = 7
+
 abbrev pub constantAt : List ℕ → ℕ → ℕ
-constantAt kept e = getD kept (7 * e) 0
+constantAt kept e = getD kept (keptValueWords * e) 0
 
 abbrev pub keptAt : List ℕ → ℕ → Value
-keptAt kept e = valueAt kept (7 * e + 1)
+keptAt kept e = valueAt kept (keptValueWords * e + 1)
 
 -- an entry's value is the same whatever the parameters are
 abbrev pub Constant : List ℕ → ℕ → Type 0
@@ -30,7 +33,7 @@ Constant image e = (xs ys : List Value) → evaluate image xs mostLevels e ≡ e
 
 -- what is marked as a constant has its value, and there is room for all
 pub record ConstantsKept (image kept : List ℕ) : Type 0 where
-  pub room : 7 * expressions image ≤ length kept
+  pub room : keptValueWords * expressions image ≤ length kept
   pub each : (e : ℕ) → e < expressions image → constantAt kept e ≡ 1 → (xs : List Value) → evaluate image xs mostLevels e ≡ evaluation.Value (keptAt kept e)
   pub sound : (e : ℕ) → e < expressions image → constantAt kept e ≡ 1 → Sound (keptAt kept e)
 

@@ -51,6 +51,12 @@ pub record RefusalOf (r : Evaluation) (place : ℕ) (kind : LinearizeErrorKind) 
   pub lacks : (later : Values) → also r place later ≡ lack why
   pub answers : (t : List ℕ) → refusalAnswer kind t ≡ refused t why
 
+-- the answer of a run that ends at an expression at a place, whose evaluation came to no angle
+pub record RefusedAt (r : Evaluation) (place : ℕ) (at : Position) (answer : Linearized) : Type 0 where
+  pub kind : LinearizeErrorKind
+  pub refuses : answer ≡ linearized.Refused (record { kind = kind; at = at })
+  pub why : RefusalOf r place kind
+
 -- the values of n expressions stand in front of some angles, or the first that has none is refused; nothing is written
 abbrev pub Ends : Values → ℕ → List Value → Position → Linearized → Type 0
 Ends vs n angles at (linearized.Done p) = (p ≡ at) × (vs ≡ have (take n angles))

@@ -9,24 +9,32 @@ use value::Evaluation;
 use value::Value;
 ghost use mathlib.Core.Path.{_≡_};
 ghost use mathlib.Core.Bool.{true};
-ghost use Prim.Native.Nat.{_+_, _*_, _<_, _≤_, _^_};
+ghost use Prim.Native.Nat.{ℕ, _+_, _*_, _<_, _≤_, _^_};
 ghost use lib.ListN.{length};
 ghost use Rattle.value.specs.Value.{Sound};
-ghost use Rattle.value.specs.Promise.{EvaluatesTo};
+ghost use Rattle.value.specs.Promise.{EvaluatesTo, SoundEvaluation};
+ghost use Rattle.value.specs.declared.Value.{Value};
+ghost use mathlib.Core.List.{List};
 ghost use Rattle.model.specs.Evaluate.{evaluate, zeroValue};
+ghost use Rattle.model.specs.Image.{expressionAt};
 ghost use Rattle.model.specs.Steps.{parameterValues};
-ghost use Rattle.record_writer.specs.Promise.{SoundAngles};
+ghost use Rattle.record_writer.specs.Promise.{SoundAngles, AnglesGiven};
 ghost use Rattle.model.specs.Limits.{mostParameters, mostLevels, mostExpressions};
-ghost use Rattle.image.specs.Layout.{LayoutOf};
-ghost use Rattle.expression.specs.Angles.{denominatorOf, fractionAt, signWord, putFraction, valueAt, putValue, anglesIn};
-ghost use Rattle.expression.specs.KeptValues.{Constant, ConstantsKept, ValueStored, ValuesKept, AngleContext, Evaluated};
-ghost use Rattle.expression.specs.Operands.{BinaryResult, UnaryResult, NullaryResult, AcceptedExpression, NoValue, RefusalOf, ParametersGiven};
+ghost use Rattle.image.specs.Layout.{WithinLimits, Small, LayoutOf};
+ghost use Rattle.expression.specs.Angles.{denominatorOf, fractionAt, signWord, putFraction, valueAt, putValue, valueWords, AngleWords, anglesIn};
+ghost use Rattle.expression.specs.KeptValues.{keptValueWords, Constant, ConstantsKept, ValueStored, ValuesKept, AngleContext, Evaluated};
+ghost use Rattle.expression.specs.Operands.{BinaryResult, UnaryResult, NullaryResult, AcceptedExpression, NoValue, RefusalOf, RefusedAt, ParametersGiven};
 ghost use Rattle.expression.specs.NamedExpressions.{namedAt, NamesExpressions};
 
 // ---- angles in words: an array of numbers can be lent, an array of angles cannot
 
-// The words of the angles of a frame, six for each.
-pub const FRAME_ANGLE_WORDS: usize = 6 * image::FRAME_ANGLES;
+// The words of an angle.
+pub const VALUE_WORDS: u64 = 6;
+// The words that are kept of an expression: whether it is a constant, and its angle.
+pub const KEPT_VALUE_WORDS: u64 = 7;
+
+// The words of the angles of a frame.
+pub const FRAME_ANGLE_WORDS: usize = (VALUE_WORDS as usize) * image::FRAME_ANGLES;
 
 // A denominator from its word: 0 stands for 1, so that words that are all 0 are angles 0.
 fn denominator(word: u64) -> u64
@@ -87,17 +95,19 @@ fn put_value(words: &mut [u64], at: u64, x: Value)
     put_fraction(words, at + 3, b);
 }
 
-// The sixteen angles of a frame, from its words.
-pub fn angles_in(words: &[u64; FRAME_ANGLE_WORDS]) -> [Value; image::FRAME_ANGLES]
-    ensures { λ r. ⌜ r ≡ anglesIn (now (words .entry)) ⌝ }
+// The words of the first n angles, so that they can be lent.
+pub fn angle_words(angles: [Value; image::FRAME_ANGLES], n: u64) -> [u64; FRAME_ANGLE_WORDS]
+    requires { ⌜ AnglesGiven angles n ⌝ }
+    ensures { λ r. ⌜ AngleWords angles n r ⌝ }
 {
-    let mut values = [zero(); image::FRAME_ANGLES];
+    let mut words = [0; FRAME_ANGLE_WORDS];
     let mut i = 0;
-    while i < image::MOST_PARAMETERS {
-        values[i as usize] = value_at(words, 6 * i);
+    while i < n {
+        let x = angles[i as usize];
+        put_value(&mut words, VALUE_WORDS * i, x);
         i += 1;
     }
-    values
+    words
 }
 
 // ---- expressions
@@ -111,7 +121,7 @@ fn nullary(angles: &[u64; FRAME_ANGLE_WORDS], kind: u64, a: u64) -> Evaluation
         0 => Evaluation::Value(Value::pi()),
         1 => Value::from_float(float::f32_from_bits(a)),
         2 => Value::int(a),
-        _ => Evaluation::Value(value_at(angles, 6 * a)),
+        _ => Evaluation::Value(value_at(angles, VALUE_WORDS * a)),
     }
 }
 
@@ -154,10 +164,10 @@ fn keep_value(
     e: u64,
     x: Value,
 )
-    requires { ⌜ (e < mostExpressions) × (7 * e + 6 < length (now «kept_values»)) × Sound x ⌝ }
+    requires { ⌜ (e < mostExpressions) × (keptValueWords * e + valueWords < length (now «kept_values»)) × Sound x ⌝ }
     ensures { λ r. ⌜ ValueStored (now (known .entry)) (now («kept_values» .entry)) e x (now (known .exit)) (now («kept_values» .exit)) ⌝ }
 {
-    put_value(kept_values, 7 * e + 1, x);
+    put_value(kept_values, KEPT_VALUE_WORDS * e + 1, x);
     let i = e as usize;
     known[i] = true;
 }
@@ -172,56 +182,45 @@ fn is_constant(image: &[u64], l: Layout, kept_values: &[u64], e: u64) -> bool
     if kind < 4 {
         return kind != 3;
     }
-    let a = image::word(image, at + 1) as usize;
-    if kept_values[7 * a] != 1 {
+    let a = image::word(image, at + 1);
+    if kept_values[(KEPT_VALUE_WORDS * a) as usize] != 1 {
         return false;
     }
     if kind >= 9 {
         return true;
     }
-    let b = image::word(image, at + 2) as usize;
-    kept_values[7 * b] == 1
+    let b = image::word(image, at + 2);
+    kept_values[(KEPT_VALUE_WORDS * b) as usize] == 1
 }
 
-// The angle of an expression, or why it has none. An operand has a smaller number than its user.
-fn worked_out(
+// Keeps what an entry is evaluated to, if it is a value, marks a constant, and hands the evaluation on.
+fn keep_evaluation(
     image: &[u64],
     l: Layout,
-    angles: &[u64; FRAME_ANGLE_WORDS],
     known: &mut [bool; image::MOST_EXPRESSIONS],
     kept_values: &mut [u64],
     e: u64,
+    r: Evaluation,
 ) -> Evaluation
-    requires { ⌜
-        LayoutOf (now image) l
-        × SoundAngles (anglesIn (now angles))
-        × AcceptedExpression (now image) e
-        × ValuesKept (now image) (anglesIn (now angles)) (now known) (now «kept_values»)
+    requires { ⌜ LayoutOf (now image) l × AcceptedExpression (now image) e × ConstantsKept (now image) (now «kept_values») × SoundEvaluation r ⌝ }
+    ensures { λ answer. ⌜
+        ((angles : List Value)
+        → Evaluated (now (image .entry)) angles e r (now (known .entry)) (now («kept_values» .entry))
+        → Evaluated (now (image .entry)) angles e answer (now (known .exit)) (now («kept_values» .exit)))
         ⌝ }
-    ensures { λ r. ⌜ Evaluated (now (image .entry)) (anglesIn (now (angles .entry))) e r (now (known .exit)) (now («kept_values» .exit)) ⌝ }
 {
-    let at = l.expression_at(e);
-    let kind = image::word(image, at);
-    let a = image::word(image, at + 1);
-    if kind < 4 {
-        return nullary(angles, kind, a);
-    }
-    let left = evaluate(image, l, angles, known, kept_values, a);
-    let Evaluation::Value(x) = left else {
-        return left;
+    let Evaluation::Value(x) = r else {
+        return r;
     };
-    if 8 < kind {
-        return unary(kind, x);
+    let constant = is_constant(image, l, kept_values, e);
+    keep_value(known, kept_values, e, x);
+    if constant {
+        kept_values[(KEPT_VALUE_WORDS * e) as usize] = 1;
     }
-    let b = image::word(image, at + 2);
-    let right = evaluate(image, l, angles, known, kept_values, b);
-    let Evaluation::Value(y) = right else {
-        return right;
-    };
-    binary(kind, x, y)
+    r
 }
 
-// The angle of an expression, read back if it is kept. A refusal ends the whole evaluation, so that only values are kept.
+// The angle of an expression, read back if it is kept, or why it has none. An operand has a smaller number than its user. A refusal ends the whole evaluation, so that only values are kept.
 fn evaluate(
     image: &[u64],
     l: Layout,
@@ -238,26 +237,35 @@ fn evaluate(
         ⌝ }
     ensures { λ r. ⌜ Evaluated (now (image .entry)) (anglesIn (now (angles .entry))) e r (now (known .exit)) (now («kept_values» .exit)) ⌝ }
 {
-    let i = e as usize;
-    if known[i] {
-        return Evaluation::Value(value_at(kept_values, 7 * e + 1));
+    if known[e as usize] {
+        return Evaluation::Value(value_at(kept_values, KEPT_VALUE_WORDS * e + 1));
     }
-    if kept_values[7 * i] == 1 {
-        return Evaluation::Value(value_at(kept_values, 7 * e + 1));
+    if kept_values[(KEPT_VALUE_WORDS * e) as usize] == 1 {
+        return Evaluation::Value(value_at(kept_values, KEPT_VALUE_WORDS * e + 1));
     }
-    let r = worked_out(image, l, angles, known, kept_values, e);
-    let Evaluation::Value(x) = r else {
-        return r;
+    let at = l.expression_at(e);
+    let kind = image::word(image, at);
+    let a = image::word(image, at + 1);
+    if kind < 4 {
+        return keep_evaluation(image, l, known, kept_values, e, nullary(angles, kind, a));
+    }
+    let left = evaluate(image, l, angles, known, kept_values, a);
+    let Evaluation::Value(x) = left else {
+        return left;
     };
-    keep_value(known, kept_values, e, x);
-    if is_constant(image, l, kept_values, e) {
-        kept_values[7 * i] = 1;
+    if 8 < kind {
+        return keep_evaluation(image, l, known, kept_values, e, unary(kind, x));
     }
-    r
+    let b = image::word(image, at + 2);
+    let right = evaluate(image, l, angles, known, kept_values, b);
+    let Evaluation::Value(y) = right else {
+        return right;
+    };
+    keep_evaluation(image, l, known, kept_values, e, binary(kind, x, y))
 }
 
 // The angle of an expression where no value is known but those of constants. A parameter alone is read straight away.
-fn evaluate_anew(
+pub fn evaluate_anew(
     image: &[u64],
     l: Layout,
     angles: &[u64; FRAME_ANGLE_WORDS],
@@ -267,9 +275,8 @@ fn evaluate_anew(
     requires { ⌜ AngleContext (now image) l (anglesIn (now angles)) (now «kept_values») × AcceptedExpression (now image) e ⌝ }
     ensures { λ r. ⌜ EvaluatesTo (evaluate (now (image .entry)) (anglesIn (now (angles .entry))) mostLevels e) r × ConstantsKept (now (image .entry)) (now («kept_values» .exit)) ⌝ }
 {
-    let i = e as usize;
-    if kept_values[7 * i] == 1 {
-        return Evaluation::Value(value_at(kept_values, 7 * e + 1));
+    if kept_values[(KEPT_VALUE_WORDS * e) as usize] == 1 {
+        return Evaluation::Value(value_at(kept_values, KEPT_VALUE_WORDS * e + 1));
     }
     let at = l.expression_at(e);
     if image::word(image, at) == 3 {
@@ -312,7 +319,22 @@ fn refusal(r: Evaluation, place: u64) -> LinearizeErrorKind
     }
 }
 
-// Puts the angles of the n expressions that the words from a place on name in front of those given, or answers the refusal of the first that has none.
+// The answer of a run that ends at an expression, whose evaluation came to no angle.
+pub fn refused(l: Layout, e: u64, r: Evaluation, at: Position) -> Linearized
+    requires { ⌜ WithinLimits l × Small e × NoValue r ⌝ }
+    ensures { λ answer. ⌜ ((image : List ℕ) → LayoutOf image l → RefusedAt r (expressionAt image e) at answer) ⌝ }
+{
+    let kind = refusal(r, l.expression_at(e));
+    Linearized::Refused(LinearizeError { kind, at })
+}
+
+// The angles of a call's parameters, the others 0, beside the answer, since an enum cannot hold an array.
+pub struct ParameterValues {
+    pub angles: [Value; image::FRAME_ANGLES],
+    pub answer: Linearized,
+}
+
+// The angles of the n expressions that the words from a place on name, or the refusal of the first that has none.
 pub fn parameter_values(
     image: &[u64],
     l: Layout,
@@ -320,31 +342,32 @@ pub fn parameter_values(
     kept_values: &mut [u64],
     place: u64,
     n: u64,
-    given: &mut [u64],
     at: Position,
-) -> Linearized
-    requires { ⌜
-        AngleContext (now image) l (anglesIn (now angles)) (now «kept_values»)
-        × NamesExpressions (now image) place n
-        × SoundAngles (anglesIn (now given))
-        × (6 * n ≤ length (now given))
-        ⌝ }
+) -> ParameterValues
+    requires { ⌜ AngleContext (now image) l (anglesIn (now angles)) (now «kept_values») × NamesExpressions (now image) place n ⌝ }
     ensures { λ r. ⌜
-        ParametersGiven (parameterValues (now (image .entry)) (anglesIn (now (angles .entry))) (namedAt (now (image .entry)) place n))
-        n at r (anglesIn (now (given .exit)))
+        ParametersGiven (parameterValues (now (image .entry)) (anglesIn (now (angles .entry))) (namedAt (now (image .entry)) place n)) n at (r .answer) (r .angles)
         × ConstantsKept (now (image .entry)) (now («kept_values» .exit))
         ⌝ }
 {
+    let mut values = [zero(); image::FRAME_ANGLES];
     let mut i = 0;
     while i < n {
         let e = image::word(image, place + i);
         let r = evaluate_anew(image, l, angles, kept_values, e);
         let Evaluation::Value(x) = r else {
-            let kind = refusal(r, l.expression_at(e));
-            return Linearized::Refused(LinearizeError { kind, at });
+            let answer = refused(l, e, r, at);
+            return ParameterValues {
+                angles: values,
+                answer,
+            };
         };
-        put_value(given, 6 * i, x);
+        values[i as usize] = x;
         i += 1;
     }
-    Linearized::Done(at)
+    let answer = Linearized::Done(at);
+    ParameterValues {
+        angles: values,
+        answer,
+    }
 }

@@ -1,7 +1,7 @@
 -- After i turns of the loop the angles of the first i expressions stand in front; the first that has none ends it.
-use Prim.Native.Nat.{_+_, _-_, _≤_, _<_}
+use Prim.Native.Nat.{_+_, _-_, _≤_}
 use native.Mathlib.Omega.{arith}
-use mathlib.Core.Path.{_≡_, refl, sym, ap, subst, _∙_}
+use mathlib.Core.Path.{_≡_, refl, sym, subst}
 use lib.ListN.{length}
 use denote.Ref.{now}
 use borrow.Author.Needs.{needs}
@@ -10,16 +10,16 @@ use Rattle.expression.specs.Operands.{AcceptedExpression}
 use Rattle.expression.specs.Angles.{anglesIn}
 use Rattle.expression.specs.KeptValues.{ConstantsKept}
 use Rattle.expression.proofs.EntryLaws.{inside, no-value}
-use Rattle.expression.proofs.AnglesLaws.{angles-put}
+use Rattle.expression.proofs.AnglesLaws.{repeated-sound}
 use Rattle.expression.proofs.ParameterLaws.{Front, front-none, front-next, front-done, front-refuses}
 use Rattle.expression.proofs.parameter_values.Statement.{statement}
 use Rattle.expression.proofs.parameter_values.Tie as tie
 
 abbrev Inv-loop : tie.InvT-loop
-Inv-loop image l angles kept₀ place n given₀ at i₀ kept given i = (i ≤ n) × Front image (anglesIn angles) (λ k. word image (place + k)) i (anglesIn given) × ConstantsKept image kept × (length kept ≡ length kept₀) × (length given ≡ length given₀)
+Inv-loop image l angles kept₀ place n at values₀ i₀ kept values i = (i ≤ n) × Front image (anglesIn angles) (λ k. word image (place + k)) i values × ConstantsKept image kept × (length kept ≡ length kept₀)
 
 abbrev μ-loop : tie.MeasureT-loop
-μ-loop image l angles kept₀ place n given₀ at i₀ kept given i = n - i
+μ-loop image l angles kept₀ place n at values₀ i₀ kept values i = n - i
 
 -- where an expression's number is read
 abbrev Read : Type 0
@@ -31,10 +31,13 @@ start w = w .before .before .before .before .before .before
 named : (w : Read) → AcceptedExpression (now (start w .args .image)) (w .word .result)
 named w = subst (AcceptedExpression (now (start w .args .image))) (sym (w .word .ensures)) (start w .pre .1 .each (w .before .before .loop .i) (w .before .loop-test .taken))
 
+zero-requires : tie.Need-zero-requires Inv-loop μ-loop
+zero-requires c κs = search needs
+
 loop-holds : tie.Need-loop-holds Inv-loop μ-loop
 loop-holds c =
-    let pre = c .before .before .before .pre in
-    (search needs, front-none _ _ _ _ (pre .2), pre .0 .constants, refl, refl)
+    let s = c .before .before .before in
+    (search needs, front-none _ _ _ _ (repeated-sound _ (c .zero .ensures .1)), s .pre .0 .constants, refl)
 
 add-word : tie.Need-add-word Inv-loop μ-loop
 add-word c = search needs
@@ -50,75 +53,63 @@ evaluate-anew-requires c κs =
 enum-known-r : tie.Need-enum-known-r Inv-loop μ-loop
 enum-known-r c = search needs
 
-expression-at-requires : tie.Need-expression-at-requires Inv-loop μ-loop
-expression-at-requires c κs =
+refused-requires : tie.Need-refused-requires Inv-loop μ-loop
+refused-requires c κs =
+    let loop-test = c .before .before .before .before .before .before .loop-test .taken in
     let w = c .before .before .before .before .before in
     let s = start w in
-    (s .pre .0 .laid .limits, omega (arith, s .pre .0 .laid .whole, s .pre .0 .laid .short, inside (now (s .args .image)) (w .word .result) (named w)))
-
-refusal-requires : tie.Need-refusal-requires Inv-loop μ-loop
-refusal-requires c κs = no-value _ (c .before .match .keys2)
+    (s .pre .0 .laid .limits, omega (arith, loop-test, s .pre .1 .few, s .pre .0 .laid .whole, s .pre .0 .laid .short, inside (now (s .args .image)) (w .word .result) (named w)), no-value _ (c .match .keys2))
 
 same-length : tie.Need-same-length Inv-loop μ-loop
-same-length c = omega (arith, c .before .before .before .before .before .before .before .before .before .loop .inv .3)
-
-same-length-2 : tie.Need-same-length-2 Inv-loop μ-loop
-same-length-2 c = omega (arith, c .before .before .before .before .before .before .before .before .before .loop .inv .4)
+same-length c =
+    let loop = c .before .before .before .before .before .before .before .before .loop in
+    omega (arith, loop .inv .3, c .before .before .before .kept-values .given)
 
 returns : tie.Need-returns Inv-loop μ-loop
 returns c =
-    let l = c .before .before .before .before .before .before .before .before .before in
-    let loop-test = c .before .before .before .before .before .before .before .before .loop-test .taken in
-    let w = c .before .before .before .before .before .before .before in
-    let evaluate-anew = c .before .before .before .before .before .evaluate-anew .ensures in
+    let evaluate-anew = c .before .before .before .before .evaluate-anew .ensures in
+    let w = c .before .before .before .before .before .before in
+    let loop-test = c .before .before .before .before .before .before .before .loop-test .taken in
+    let l = c .before .before .before .before .before .before .before .before .loop in
     let a = start w .args in
-    (front-refuses (now (a .image)) (anglesIn (now (a .angles))) (λ k. word (now (a .image)) (a .place + k)) (l .loop .i) (a .n) (w .word .result) (c .before .expression-at .result) _ _ _ (a .at) loop-test (l .loop .inv .1) (w .word .ensures) (c .before .expression-at .ensures .in-image _ (start w .pre .0 .laid)) (evaluate-anew .0) (c .refusal .ensures), evaluate-anew .1)
+    (front-refuses (now (a .image)) (anglesIn (now (a .angles))) (λ k. word (now (a .image)) (a .place + k)) (l .i) (a .n) (w .word .result) _ _ (a .at) _ loop-test (l .inv .1) (w .word .ensures) (evaluate-anew .0) (c .refused .ensures _ (start w .pre .0 .laid)), evaluate-anew .1)
 
-mul-put-value : tie.Need-mul-put-value Inv-loop μ-loop
-mul-put-value c =
-    let pre = c .before .before .before .before .before .before .before .before .before .before .before .before .before .before .pre in
-    let loop-test = c .before .before .before .before .before .before .before .before .before .loop-test .taken in
-    record { fits = omega (arith, loop-test, pre .1 .few) }
+mul-values : tie.Need-mul-values Inv-loop μ-loop
+mul-values c =
+    let s = start (c .before .before .before .before .before .before .before) in
+    record { fits = omega (arith, c .before .before .before .before .before .before .before .before .loop-test .taken, s .pre .1 .few) }
 
-put-value-requires : tie.Need-put-value-requires Inv-loop μ-loop
-put-value-requires c κs =
-    let pre = c .before .before .before .before .before .before .before .before .before .before .before .before .before .before .pre in
-    let loop = c .before .before .before .before .before .before .before .before .before .before .loop .inv in
-    let loop-test = c .before .before .before .before .before .before .before .before .before .loop-test .taken in
-    omega (arith, loop-test, loop .4, pre .3)
+array-set-from-values : tie.Need-array-set-from-values Inv-loop μ-loop
+array-set-from-values c =
+    let s = start (c .before .before .before .before .before .before .before) in
+    omega (arith, c .before .before .before .before .before .before .before .before .loop-test .taken, s .pre .1 .few)
 
 add-i : tie.Need-add-i Inv-loop μ-loop
 add-i c =
-    let pre = c .before .before .before .before .before .before .before .before .before .before .before .before .before .before .before .before .before .pre in
-    let loop-test = c .before .before .before .before .before .before .before .before .before .before .before .before .loop-test .taken in
-    record { fits = omega (arith, loop-test, pre .1 .few) }
+    let s = start (c .before .before .before .before .before .before .before) in
+    record { fits = omega (arith, c .before .before .before .before .before .before .before .before .loop-test .taken, s .pre .1 .few) }
 
 loop-less : tie.Need-loop-less Inv-loop μ-loop
-loop-less c = omega (arith, c .before .before .before .before .before .before .before .before .before .before .before .before .loop-test .taken)
+loop-less c = omega (arith, c .before .before .before .before .before .before .before .before .loop-test .taken)
 
 loop-again : tie.Need-loop-again Inv-loop μ-loop
 loop-again c =
-    let l = c .before .before .before .before .before .before .before .before .before .before .before .before .before in
-    let loop-test = c .before .before .before .before .before .before .before .before .before .before .before .before .loop-test .taken in
-    let w = c .before .before .before .before .before .before .before .before .before .before .before in
-    let v = c .before .before .before .before .before .before .before .before .before .evaluate-anew .ensures in
-    let kept-values = c .before .before .before .before .before .before .before .before .kept-values in
-    let r = c .before .before .before .before .before .r in
+    let kept-values = c .before .before .before .before .kept-values in
+    let v = c .before .before .before .before .before .evaluate-anew .ensures in
+    let w = c .before .before .before .before .before .before .before in
+    let loop-test = c .before .before .before .before .before .before .before .before .loop-test .taken in
+    let l = c .before .before .before .before .before .before .before .before .before .loop in
     let a = start w .args in
-    let small : l .loop .i < 16 = omega (arith, loop-test, start w .pre .1 .few) in
-    (omega (arith, loop-test), subst (Front (now (a .image)) (anglesIn (now (a .angles))) (λ k. word (now (a .image)) (a .place + k)) (l .loop .i + 1)) (sym (ap anglesIn (c .before .before .put-value .ensures) ∙ angles-put _ (l .loop .i) _ small (omega (arith, loop-test, l .loop .inv .4, start w .pre .3)) (rw (r .given .1) at (v .0 .sound)))) (front-next (now (a .image)) (anglesIn (now (a .angles))) (λ k. word (now (a .image)) (a .place + k)) (l .loop .i) (w .word .result) _ _ _ small (l .loop .inv .1) (w .word .ensures) (v .0) (r .given .1)), v .1, omega (arith, l .loop .inv .3, kept-values .given), omega (arith, l .loop .inv .4, c .before .given .given))
+    (omega (arith, loop-test), front-next (now (a .image)) (anglesIn (now (a .angles))) (λ k. word (now (a .image)) (a .place + k)) (l .i) (w .word .result) (l .values) _ _ (omega (arith, loop-test, start w .pre .1 .few)) (l .inv .1) (w .word .ensures) (v .0) (c .before .r .given .1), v .1, omega (arith, l .inv .3, kept-values .given))
 
-same-length-3 : tie.Need-same-length-3 Inv-loop μ-loop
-same-length-3 c = c .before .loop .inv .3
-
-same-length-4 : tie.Need-same-length-4 Inv-loop μ-loop
-same-length-4 c = c .before .loop .inv .4
+same-length-2 : tie.Need-same-length-2 Inv-loop μ-loop
+same-length-2 c = c .before .loop .inv .3
 
 returns-2 : tie.Need-returns-2 Inv-loop μ-loop
 returns-2 c =
     let a = c .before .before .before .before .before .args in
-    let l = c .before in
-    (front-done (now (a .image)) (anglesIn (now (a .angles))) (λ k. word (now (a .image)) (a .place + k)) (l .loop .i) (a .n) _ (a .at) (l .loop .inv .0) (c .loop-test .left) (l .loop .inv .1), l .loop .inv .2)
+    let l = c .before .loop in
+    (front-done (now (a .image)) (anglesIn (now (a .angles))) (λ k. word (now (a .image)) (a .place + k)) (l .i) (a .n) (l .values) (a .at) (l .inv .0) (c .loop-test .left) (l .inv .1), l .inv .2)
 
 pub parameter-values-spec : {M : Type 1} → statement M
 parameter-values-spec =
@@ -126,21 +117,19 @@ parameter-values-spec =
     (tie.spec
     Inv-loop
     μ-loop
+    zero-requires
     loop-holds
     add-word
     word-requires
     evaluate-anew-requires
     enum-known-r
-    expression-at-requires
-    refusal-requires
+    refused-requires
     same-length
-    same-length-2
     returns
-    mul-put-value
-    put-value-requires
+    mul-values
+    array-set-from-values
     add-i
     loop-less
     loop-again
-    same-length-3
-    same-length-4
+    same-length-2
     returns-2)
