@@ -6,7 +6,8 @@ use mathlib.Core.Bool.{Bool, true, false, cond}
 use mathlib.Core.List.{List, [], _∷_, map}
 use borrow.Author.Tests.{eq-eqb, ne-eqb}
 use lib.Dec.{T, eqb, ltb→lt, leb→le}
-use lib.ListN.{getD, take}
+use lib.ListN.{length, getD, take, drop, length-drop}
+use lib.Seq.{take-all}
 use Rattle.model.specs.Lists.{range, sum, largest}
 use Rattle.model.specs.Image.{word, argumentAt, quantumRegisters, classicalRegisters, quantumSize, classicalSize, argumentRegister, argumentIndex, argumentSize, classicalArgumentSize, gateArguments, firstQubit, firstBit, rounds}
 use Rattle.model.specs.Check.{argumentOk, classicalArgumentOk, matching}
@@ -108,7 +109,7 @@ module _ {image : List ℕ} (acc : Accepted image) where
 
 -- ---- quantum arguments
 
-module _ {image : List ℕ} {l : Layout} {qubit-starts : List ℕ} {scope : ℕ} {qubits : List ℕ} (s : ScopeContext image l qubit-starts scope qubits) where
+module _ {image : List ℕ} {l : Layout} {register-starts : List ℕ} {scope : ℕ} {qubits : List ℕ} (s : ScopeContext image l register-starts scope qubits) where
   abbrev resolved : ℕ → Argument
   resolved a = quantumArgument image scope qubits a
 
@@ -172,13 +173,13 @@ module _ {image : List ℕ} {l : Layout} {qubit-starts : List ℕ} {scope : ℕ}
           ap₂ (registerArgument image) e ea
           ∙ same-argument (main-first image (s .accepted) qubits a scope (take (scopeQubits image scope) qubits) h) (main-size image (s .accepted) qubits a scope h)
 
-      pub quantum-part : {c : ℕ} → c ≡ 9 → scope ≡ 0 → RegisterEntry image qubit-starts c at
+      pub quantum-part : {c : ℕ} → c ≡ 9 → scope ≡ 0 → RegisterEntry image register-starts c at
       unfolding firstQubit
       quantum-part {c} e h =
           let m = main-register image (s .accepted) qubits a scope h k in
           record {
             count = quantumRegisters image;
-            starts = subst (λ (n : ℕ). RegisterStarts (λ i. word image (n + i)) (quantumRegisters image) qubit-starts) (sym e) (s .starts);
+            starts = subst (λ (n : ℕ). RegisterStarts (λ i. word image (n + i)) (quantumRegisters image) register-starts) (sym e) (s .starts);
             few = few-quantum (s .accepted);
             listed = subst (λ (n : ℕ). word image n < quantumRegisters image) (sym ea) (m .0);
             below = subst (λ (x : Argument). x .first < 4096) (sym (quantum-argument-is e h)) (first-below a k);
@@ -187,7 +188,16 @@ module _ {image : List ℕ} {l : Layout} {qubit-starts : List ℕ} {scope : ℕ}
 
 -- ---- classical arguments
 
-module _ {image : List ℕ} {l : Layout} {bit-starts : List ℕ} (s : BitContext image l bit-starts) where
+module _ {image : List ℕ} {l : Layout} {register-starts : List ℕ} (s : BitContext image l register-starts) where
+  -- the part of the table that is lent for the classical registers
+  pub quantum-within : l .«quantum_registers» ≤ length register-starts
+  quantum-within = omega (arith, s .laid .quantum-registers-is, s .starts .quantum .fits)
+
+  part-is : take (length register-starts - l .«quantum_registers») (drop (l .«quantum_registers») register-starts) ≡ drop (quantumRegisters image) register-starts
+  part-is =
+      take-all (length register-starts - l .«quantum_registers») (drop (l .«quantum_registers») register-starts) (omega (arith, length-drop (l .«quantum_registers») register-starts))
+      ∙ ap (λ (n : ℕ). drop n register-starts) (s .laid .quantum-registers-is)
+
   pub bit-range : (c i : ℕ) {y : Argument} → T (classicalArgumentOk image c) → y ≡ classicalArgument image c → (¬ (classicalArgumentSize image c ≡ 1) → i < classicalArgumentSize image c) → numberInRound y i < 2 ^ 64
   unfolding bitIn
   bit-range c i k e h = omega (arith, bit-below image (s .accepted) c i k h, s .accepted .fewBits, ap (λ (y : Argument). numberInRound y i) e)
@@ -218,12 +228,13 @@ module _ {image : List ℕ} {l : Layout} {bit-starts : List ℕ} (s : BitContext
     unfolding bitIn
     bit-first = omega (arith, bit-below image (s .accepted) a 0 k (λ n. bit-size), s .accepted .fewBits)
 
-    pub classical-part : {c : ℕ} → c ≡ 9 + quantumRegisters image → RegisterEntry image bit-starts c at
+    pub classical-part : {c : ℕ} → c ≡ 9 + quantumRegisters image → RegisterEntry image (take (length register-starts - l .«quantum_registers») (drop (l .«quantum_registers») register-starts)) c at
     unfolding firstBit
     classical-part {c} e =
         record {
           count = classicalRegisters image;
-          starts = subst (λ (n : ℕ). RegisterStarts (λ i. word image (n + i)) (classicalRegisters image) bit-starts) (sym e) (s .starts);
+          starts = subst (λ (t : List ℕ). RegisterStarts (λ i. word image (c + i)) (classicalRegisters image) t) (sym part-is)
+              (subst (λ (n : ℕ). RegisterStarts (λ i. word image (n + i)) (classicalRegisters image) (drop (quantumRegisters image) register-starts)) (sym e) (s .starts .classical));
           few = few-classical (s .accepted);
           listed = subst (λ (n : ℕ). word image n < classicalRegisters image) (sym ea) (register-listed .0);
           below = subst (λ (x : Argument). x .first < 4096) (sym (classical-argument-is e)) bit-first;

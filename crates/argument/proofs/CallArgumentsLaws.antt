@@ -63,7 +63,7 @@ unfolding largest range
 largest-few f a zero h = omega arith
 largest-few f a (suc n) h = omega (arith, h a (omega arith) (omega arith), largest-few f (suc a) n (λ j p q. h j (omega arith) (omega arith)))
 
-pub call-rounds-few : {image : List ℕ} {l : Layout} {qubit-starts : List ℕ} {scope : ℕ} {qubits : List ℕ} {a n : ℕ} → ScopeContext image l qubit-starts scope qubits → CallArguments image l scope a n → rounds image scope (range a n) ≤ 4096
+pub call-rounds-few : {image : List ℕ} {l : Layout} {register-starts : List ℕ} {scope : ℕ} {qubits : List ℕ} {a n : ℕ} → ScopeContext image l register-starts scope qubits → CallArguments image l scope a n → rounds image scope (range a n) ≤ 4096
 unfolding rounds
 call-rounds-few {image} {scope = scope} {a = a} {n} s c =
     largest-few (argumentSize image scope) a n λ j p q. few-rounds s j (range-All {P = λ b. T (argumentOk image scope b)} a n j (all-All _ _ (c .each)) p q) refl

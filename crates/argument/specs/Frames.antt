@@ -14,7 +14,7 @@ use Rattle.model.specs.Steps.{Frame, resolveQreg, qubitIn}
 use Rattle.model.specs.Accepted.{Accepted, FrameOk}
 use Rattle.image.specs.declared.Layout.{Layout}
 use Rattle.image.specs.Layout.{LayoutOf}
-use Rattle.image.specs.RegisterStarts.{RegisterStarts}
+use Rattle.image.specs.RegisterStarts.{RegisterStarts, RegisterTable}
 use Rattle.argument.specs.declared.Argument.{Argument}
 
 -- how many qubits the frame of a scope has: none in main, one for each argument of its gate in a body
@@ -27,18 +27,18 @@ abbrev pub scopeFrame : List ℕ → ℕ → List Value → List ℕ → Frame
 scopeFrame image scope angles qubits = record { scope = scope; trace = []; values = take (variables image scope) angles; qubits = take (scopeQubits image scope) qubits }
 
 -- where the statements of a scope are run: the image is accepted, its quantum registers start where the table says, and the frame's qubits are declared ones
-pub record ScopeContext (image : List ℕ) (l : Layout) (qubit-starts : List ℕ) (scope : ℕ) (qubits : List ℕ) : Type 0 where
+pub record ScopeContext (image : List ℕ) (l : Layout) (register-starts : List ℕ) (scope : ℕ) (qubits : List ℕ) : Type 0 where
   pub laid : LayoutOf image l
   pub accepted : Accepted image
-  pub starts : RegisterStarts (quantumSize image) (quantumRegisters image) qubit-starts
+  pub starts : RegisterStarts (quantumSize image) (quantumRegisters image) register-starts
   pub sixteen : length qubits ≡ mostArguments
   pub frame : FrameOk image scope [] (take (scopeQubits image scope) qubits)
 
--- where the bits of an argument are found: the image is accepted, and its classical registers start where the table says
-pub record BitContext (image : List ℕ) (l : Layout) (bit-starts : List ℕ) : Type 0 where
+-- where the bits of an argument are found: the image is accepted, and its registers start where the table says
+pub record BitContext (image : List ℕ) (l : Layout) (register-starts : List ℕ) : Type 0 where
   pub laid : LayoutOf image l
   pub accepted : Accepted image
-  pub starts : RegisterStarts (classicalSize image) (classicalRegisters image) bit-starts
+  pub starts : RegisterTable image register-starts
 
 -- ---- arguments
 

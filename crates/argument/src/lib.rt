@@ -36,17 +36,17 @@ fn register_part(image: &[u64], starts: &[u64], sizes: u64, at: u64) -> Argument
 pub fn resolve_qreg(
     image: &[u64],
     l: Layout,
-    qubit_starts: &[u64],
+    register_starts: &[u64],
     scope: u64,
     qubits: &[u64; image::FRAME_QUBITS],
     a: u64,
 ) -> Argument
-    requires { ⌜ ScopeContext (now image) l (now «qubit_starts») scope (now qubits) × AcceptedArgument (now image) l scope a ⌝ }
+    requires { ⌜ ScopeContext (now image) l (now «register_starts») scope (now qubits) × AcceptedArgument (now image) l scope a ⌝ }
     ensures { λ r. ⌜ r ≡ quantumArgument (now (image .entry)) scope (now (qubits .entry)) a ⌝ }
 {
     let at = l.argument_at(a);
     if scope == 0 {
-        return register_part(image, qubit_starts, l.quantum_register_at(0), at);
+        return register_part(image, register_starts, l.quantum_register_at(0), at);
     }
     let i = image::word(image, at) as usize;
     let first = qubits[i];
@@ -54,12 +54,13 @@ pub fn resolve_qreg(
 }
 
 // A classical argument, which main alone has: a part of a register.
-pub fn resolve_creg(image: &[u64], l: Layout, bit_starts: &[u64], c: u64) -> Argument
-    requires { ⌜ BitContext (now image) l (now «bit_starts») × AcceptedBits (now image) l c ⌝ }
+pub fn resolve_creg(image: &[u64], l: Layout, register_starts: &[u64], c: u64) -> Argument
+    requires { ⌜ BitContext (now image) l (now «register_starts») × AcceptedBits (now image) l c ⌝ }
     ensures { λ r. ⌜ r ≡ classicalArgument (now (image .entry)) c ⌝ }
 {
     let at = l.argument_at(c);
-    register_part(image, bit_starts, l.classical_register_at(0), at)
+    let n = l.quantum_registers as usize;
+    register_part(image, &register_starts[n..], l.classical_register_at(0), at)
 }
 
 // The number of the qubit or bit that an argument has in a round. An argument of size 1 stays, any other advances.
@@ -74,7 +75,7 @@ pub fn number_in_round(x: Argument, i: u64) -> u64
 pub fn qubits_in_round(
     image: &[u64],
     l: Layout,
-    qubit_starts: &[u64],
+    register_starts: &[u64],
     scope: u64,
     qubits: &[u64; image::FRAME_QUBITS],
     a: u64,
@@ -82,7 +83,7 @@ pub fn qubits_in_round(
     i: u64,
 ) -> [u64; image::FRAME_QUBITS]
     requires { ⌜
-        ScopeContext (now image) l (now «qubit_starts») scope (now qubits)
+        ScopeContext (now image) l (now «register_starts») scope (now qubits)
         × CallArguments (now image) l scope a n
         × (i < rounds (now image) scope (range a n))
         ⌝ }
@@ -91,7 +92,7 @@ pub fn qubits_in_round(
     let mut found = [0u64; image::FRAME_QUBITS];
     let mut j = 0u64;
     while j < n {
-        let x = resolve_qreg(image, l, qubit_starts, scope, qubits, a + j);
+        let x = resolve_qreg(image, l, register_starts, scope, qubits, a + j);
         found[j as usize] = number_in_round(x, i);
         j += 1;
     }

@@ -203,8 +203,8 @@ put-sound found i x l s h = record { sixteen = length-set found i x ∙ s .sixte
 -- ---- the words of the first of some angles
 
 module _ (angles : List Value) where
-  pub angle-words-none : (n : ℕ) → AngleWords angles 0 (replicate n 0)
-  angle-words-none n = record { sound = zeros-sound n; front = refl }
+  pub angle-words-none : (words : List ℕ) → SoundAngles (anglesIn words) → AngleWords angles 0 words
+  angle-words-none words s = record { sound = s; front = refl }
 
   -- the next angle is put, with whichever angle d stands for one that is lacking
   pub angle-words-next : (words words′ : List ℕ) (i : ℕ) (d : Value) → i < 16 → 6 * i + 5 < length words → SoundAngles angles → AngleWords angles i words → words′ ≡ putValue words (6 * i) (getD angles i d) → AngleWords angles (i + 1) words′

@@ -95,19 +95,21 @@ fn put_value(words: &mut [u64], at: u64, x: Value)
     put_fraction(words, at + 3, b);
 }
 
-// The words of the first n angles, so that they can be lent.
-pub fn angle_words(angles: [Value; image::FRAME_ANGLES], n: u64) -> [u64; FRAME_ANGLE_WORDS]
-    requires { ⌜ AnglesGiven angles n ⌝ }
-    ensures { λ r. ⌜ AngleWords angles n r ⌝ }
+// Puts the first n angles of a frame into words that are angles, so that they can be lent.
+pub fn put_frame_angles(
+    angles: [Value; image::FRAME_ANGLES],
+    n: u64,
+    words: &mut [u64; FRAME_ANGLE_WORDS],
+)
+    requires { ⌜ AnglesGiven angles n × SoundAngles (anglesIn (now words)) ⌝ }
+    ensures { λ r. ⌜ AngleWords angles n (now (words .exit)) ⌝ }
 {
-    let mut words = [0; FRAME_ANGLE_WORDS];
     let mut i = 0;
     while i < n {
         let x = angles[i as usize];
-        put_value(&mut words, VALUE_WORDS * i, x);
+        put_value(words, VALUE_WORDS * i, x);
         i += 1;
     }
-    words
 }
 
 // ---- expressions

@@ -9,13 +9,14 @@ use Rattle.value.specs.declared.Value.{Value}
 use Rattle.model.specs.Lists.{range, all}
 use Rattle.model.specs.Image.{Gate, word, statement, statementAt, parameterAt, parameter, parameters, gates, gateParameters, variables}
 use Rattle.model.specs.Check.{expressionOk, downward}
-use Rattle.model.specs.Steps.{Frame, refuse, Refusal, have, lack, given, parameterValues, withValues, visitPlain}
+use Rattle.model.specs.Steps.{Frame, refuse, Refusal, have, lack, given, parameterValues, withValues, qubitIn, writeOpaque, pushFrame, visitGate, visitPlain}
 use Rattle.model.proofs.All.{all-All, All-all, All-of}
 use Rattle.model.proofs.Accepted.{few-parameters, few-arguments}
 use Rattle.model.specs.Accepted.{PlainFacts}
 use Rattle.image.specs.declared.Layout.{Layout}
 use Rattle.model.proofs.StatementOfLaws.{gate-is, words-are}
-use Rattle.gate.specs.declared.Call.{Call}
+use Rattle.statement.specs.declared.Site.{Site}
+use Rattle.statement.specs.declared.Call.{Call}
 use Rattle.argument.specs.Frames.{scopeFrame, ScopeContext}
 use Rattle.expression.specs.NamedExpressions.{namedAt, ListedExpressions}
 use Rattle.gate.specs.RunContext.{nested}
@@ -39,33 +40,36 @@ named-is image p n = parameters-from image p 0 n ∙ ap (λ (m : ℕ). map (para
 
 -- ---- what the check says
 
-module _ {image : List ℕ} {l : Layout} {qubit-starts : List ℕ} {scope : ℕ} {qubits : List ℕ} (st : ScopeContext image l qubit-starts scope qubits) where
+module _ {image : List ℕ} {l : Layout} {register-starts : List ℕ} (site : Site) {qubits : List ℕ} (st : ScopeContext image l register-starts (site .scope) qubits) where
+  abbrev scope : ℕ
+  scope = site .scope
+
   below : (g : ℕ) → g < gates image → (scope : ℕ) → T (downward scope g) → g < nested scope
   unfolding downward
   below g h zero d = omega (arith, st .accepted .fewGates)
   below g h (suc k) d = ltb→lt g k d
 
-  module _ (s : ℕ) (is3 : IsCall image s) where
+  module _ (is3 : IsCall image site) where
     abbrev at : ℕ
-    at = statementAt image s
+    at = statementAt image (site .statement)
 
     abbrev gate : ℕ
     gate = word image (at + 1)
 
-    pub is-call : statement image s ≡ Gate gate (word image (at + 2)) (word image (at + 3))
-    is-call = words-are image s at _ _ _ _ _ refl refl refl refl refl refl ∙ gate-is _ _ _ _ (word image (at + 4)) is3
+    pub is-call : statement image (site .statement) ≡ Gate gate (word image (at + 2)) (word image (at + 3))
+    is-call = words-are image (site .statement) at _ _ _ _ _ refl refl refl refl refl refl ∙ gate-is _ _ _ _ (word image (at + 4)) is3
 
-    module _ (f : PlainStatement image l scope s) where
+    module _ (f : PlainStatement image l site) where
       abbrev call-facts : PlainFacts image scope (Gate gate (word image (at + 2)) (word image (at + 3)))
       call-facts = subst (PlainFacts image scope) is-call (f .facts)
 
       pub known-gate : (gate < l .gates) × (word image (at + 2) ≤ 8192)
       known-gate = omega (arith, call-facts .0, call-facts .1, st .laid .gates-is, st .laid .whole, st .laid .short)
 
-      module _ {call : Call} (e : call ≡ callOf image s) where
-        pub calls : CallStatement image l scope call
+      module _ {call : Call} (e : call ≡ callOf image site) where
+        pub calls : CallStatement image l call
         calls =
-            subst (CallStatement image l scope) (sym e) (record {
+            subst (CallStatement image l) (sym e) (record {
               read = refl;
               listed = f .listed;
               gate-listed = known-gate .0;
@@ -90,19 +94,25 @@ module _ {image : List ℕ} {l : Layout} {qubit-starts : List ℕ} {scope : ℕ}
 
     -- ---- its steps
 
-    module _ {call : Call} (e : call ≡ callOf image s) (levels-left : ℕ) (angles : List Value) where
+    module _ {call : Call} (e : call ≡ callOf image site) (angles : List Value) where
       abbrev frame : Frame
       frame = scopeFrame image scope angles qubits
 
-      gate-steps : plainSteps image levels-left frame s ≡ withValues image frame (namedAt image (call .expressions) (call .parameters)) (callSteps image levels-left frame call)
+      gate-steps : plainSteps image (site .«levels_left») frame (site .statement) ≡ withValues image frame (namedAt image (call .expressions) (call .parameters)) (callSteps image frame call)
       unfolding visitPlain
       gate-steps = rw (is-call, e, named-is image (word image (at + 2)) (gateParameters image gate)) refl
 
-      module _ (li : ListedExpressions image (variables image scope) (call .expressions) (call .parameters)) where
-        pub gate-given : {xs : List Value} → parameterValues image angles (namedAt image (call .expressions) (call .parameters)) ≡ have xs → plainSteps image levels-left frame s ≡ callSteps image levels-left frame call xs
-        unfolding withValues given
-        gate-given h = gate-steps ∙ rw (listed-values image (variables image scope) angles li ∙ h) refl
+      -- the caller's angles do not show in the rounds
+      same-call : (xs : List Value) → callSteps image (scopeFrame image (call .site .scope) [] qubits) call xs ≡ callSteps image frame call xs
+      unfolding visitGate writeOpaque pushFrame qubitIn
+      same-call xs = rw e refl
 
-        pub gate-refused : {x : Refusal} → parameterValues image angles (namedAt image (call .expressions) (call .parameters)) ≡ lack x → plainSteps image levels-left frame s ≡ refuse [] x ∷ []
+      module _ (li : ListedExpressions image (variables image scope) (call .expressions) (call .parameters)) where
+        pub gate-given : {xs : List Value} → parameterValues image angles (namedAt image (call .expressions) (call .parameters)) ≡ have xs
+            → callSteps image (scopeFrame image (call .site .scope) [] qubits) call xs ≡ plainSteps image (site .«levels_left») frame (site .statement)
         unfolding withValues given
-        gate-refused h = gate-steps ∙ rw (listed-values image (variables image scope) angles li ∙ h) refl
+        gate-given {xs} h = same-call xs ∙ sym (gate-steps ∙ rw (listed-values image (variables image scope) angles li ∙ h) refl)
+
+        pub gate-refused : {x : Refusal} → parameterValues image angles (namedAt image (call .expressions) (call .parameters)) ≡ lack x → refuse [] x ∷ [] ≡ plainSteps image (site .«levels_left») frame (site .statement)
+        unfolding withValues given
+        gate-refused h = sym (gate-steps ∙ rw (listed-values image (variables image scope) angles li ∙ h) refl)

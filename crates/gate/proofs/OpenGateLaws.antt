@@ -3,7 +3,7 @@ use Prim.Native.Nat.{ℕ, zero, suc, _+_, _-_, _≤_, _<_}
 use native.Mathlib.Nat.{add-zero}
 use native.Mathlib.Omega.{arith}
 use mathlib.Core.Path.{_≡_, refl, sym, ap, subst, fun-ext, _∙_}
-use mathlib.Core.List.{List, [], _∷_, _++_, map, flatMap}
+use mathlib.Core.List.{List, [], _∷_, _++_, map, flatMap, map-append}
 use borrow.Author.Tests.{ne-eqb, eq-eqb}
 use lib.ListN.{take, length-take}
 use Rattle.value.specs.declared.Value.{Value}
@@ -18,32 +18,47 @@ use Rattle.model.proofs.Facts.{run-facts}
 use Rattle.model.proofs.StepsSound.{all-below}
 use Rattle.model.proofs.TraceLaws.{under, opening-under}
 use Rattle.image.specs.declared.Layout.{Layout}
-use Rattle.gate.specs.declared.Call.{Call}
+use Rattle.statement.specs.declared.Call.{Call}
+use Rattle.statement.specs.Statements.{callRounds, opaqueSteps, cutRound, cutSteps}
+use Rattle.expression.specs.Angles.{anglesIn, AngleWords}
 use Rattle.argument.specs.Frames.{scopeFrame, scopeQubits, ScopeContext, RoundQubits}
-use Rattle.gate.specs.RanSteps.{plainSteps}
-use Rattle.gate.specs.CallStatement.{CallStatement, callSteps}
+use Rattle.gate.specs.RanSteps.{plainSteps, openedSteps}
+use Rattle.gate.specs.CallStatement.{CallStatement, callSteps, openedRound}
 
--- ---- a round of a call
+-- ---- the rounds of a call
 
-module _ {image : List ℕ} {l : Layout} {qubit-starts : List ℕ} {scope : ℕ} {qubits : List ℕ} (st : ScopeContext image l qubit-starts scope qubits) {call : Call} (c : CallStatement image l scope call) where
+-- the steps of rounds under a caller's words
+map-under : (u : List ℕ) (xs ys : List Step) → map (under u) (xs ++ ys) ≡ map (under u) xs ++ map (under u) ys
+map-under u xs ys = map-append (under u) xs ys
+
+range-under : (u : List ℕ) (h : ℕ → List Step) (is : List ℕ) → map (under u) (flatMap h is) ≡ flatMap (λ i. map (under u) (h i)) is
+unfolding flatMap
+range-under u h [] = refl
+range-under u h (i ∷ is) = map-under u (h i) (flatMap h is) ∙ ap (λ (l : List Step). map (under u) (h i) ++ l) (range-under u h is)
+
+rounds-under : (u : List ℕ) (h : ℕ → List Step) (n : ℕ) → map (under u) (inRounds n h) ≡ inRounds n (λ i. map (under u) (h i))
+unfolding inRounds
+rounds-under u h n = range-under u h (range 0 n)
+
+module _ {image : List ℕ} {l : Layout} {call : Call} (c : CallStatement image l call) where
   -- what it says of its gate
   arguments-are : call .arguments ≡ gateArguments image (call .gate)
   arguments-are = ap (λ (x : Call). x .arguments) (c .read) ∙ sym (ap (λ (x : Call). gateArguments image (x .gate)) (c .read))
 
-  parameters-are : call .parameters ≡ gateParameters image (call .gate)
+  pub parameters-are : call .parameters ≡ gateParameters image (call .gate)
   parameters-are = ap (λ (x : Call). x .parameters) (c .read) ∙ sym (ap (λ (x : Call). gateParameters image (x .gate)) (c .read))
 
   body-is : call .body ≡ gateBody image (call .gate)
   body-is = ap (λ (x : Call). x .body) (c .read) ∙ sym (ap (λ (x : Call). gateBody image (x .gate)) (c .read))
 
   -- the frame that it opens a body with
-  module _ {i : ℕ} {q : List ℕ} (k : RoundQubits image scope qubits (call .argument) (call .arguments) i q) where
-    new-qubits : take (gateArguments image (call .gate)) q ≡ map (qubitIn image (scopeFrame image scope [] qubits) i) (range (call .argument) (call .arguments))
+  module _ {qubits : List ℕ} {i : ℕ} {q : List ℕ} (k : RoundQubits image (call .site .scope) qubits (call .argument) (call .arguments) i q) where
+    new-qubits : take (gateArguments image (call .gate)) q ≡ map (qubitIn image (scopeFrame image (call .site .scope) [] qubits) i) (range (call .argument) (call .arguments))
     new-qubits = ap (λ (n : ℕ). take n q) (sym arguments-are) ∙ k .front
 
-    pub opened-in-scope : i < rounds image scope (range (call .argument) (call .arguments)) → ScopeContext image l qubit-starts (suc (call .gate)) q
+    pub opened-in-scope : {register-starts : List ℕ} → ScopeContext image l register-starts (call .site .scope) qubits → i < callRounds image call → ScopeContext image l register-starts (suc (call .gate)) q
     unfolding scopeQubits
-    opened-in-scope h =
+    opened-in-scope st h =
         record {
           laid = st .laid;
           accepted = st .accepted;
@@ -54,26 +69,40 @@ module _ {image : List ℕ} {l : Layout} {qubit-starts : List ℕ} {scope : ℕ}
             omega arith,
             length-take (gateArguments image (call .gate)) q ∙ omega (arith, arguments-are, c .arguments-fit .few, k .sixteen),
             subst (Declared image) (sym new-qubits)
-                (all-below image (st .accepted) (scopeFrame image scope [] qubits) (st .frame) i (range (call .argument) (call .arguments)) (all-All _ _ (c .arguments-fit .each)) (c .arguments-fit .match) h),
+                (all-below image (st .accepted) (scopeFrame image (call .site .scope) [] qubits) (st .frame) i (range (call .argument) (call .arguments)) (all-All _ _ (c .arguments-fit .each)) (c .arguments-fit .match) h),
           );
         }
 
-    -- the round's steps: those of the opened gate under the call's pair of words
-    pub body-round : (levels-left : ℕ) (angles new : List Value) → ¬ (call .body ≡ 0)
-        → map (under (scope ∷ statementAt image (call .statement) ∷ [])) (openGate (opening image levels-left) (scopeFrame image (suc (call .gate)) new q) (call .gate))
-        ≡ visitGate image (opening image levels-left) (scopeFrame image scope angles qubits) (call .statement) (call .gate) (range (call .argument) (call .arguments)) (take (call .parameters) new) i
-    unfolding visitGate pushFrame scopeQubits variables qubitIn
-    body-round levels-left angles new h =
-        sym (opening-under (scope ∷ statementAt image (call .statement) ∷ []) image levels-left (scopeFrame image (suc (call .gate)) new q) (call .gate))
-        ∙ rw (ne-eqb (gateBody image (call .gate)) 0 (λ e. h (body-is ∙ e)), new-qubits, parameters-are) refl
+    pub opened-round : (angles : List Value) → openedSteps image call angles q ≡ openedRound image qubits call (take (call .parameters) angles) i
+    unfolding openedRound scopeQubits variables
+    opened-round angles = rw (new-qubits, parameters-are) refl
 
-  -- an opaque gate's rounds
-  pub opaque-rounds : (levels-left : ℕ) (angles : List Value) (xs : List Value) → call .body ≡ 0
-      → inRounds (rounds image scope (range (call .argument) (call .arguments))) (writeOpaque image (scopeFrame image scope [] qubits) (call .gate) (range (call .argument) (call .arguments)) xs)
-      ≡ callSteps image levels-left (scopeFrame image scope angles qubits) call xs
-  unfolding visitGate writeOpaque qubitIn
-  opaque-rounds levels-left angles xs h =
-      ap (inRounds (rounds image scope (range (call .argument) (call .arguments)))) (fun-ext λ i. rw (eq-eqb (gateBody image (call .gate)) 0 (sym body-is ∙ h)) refl)
+  -- the steps of the rounds inside the call, under the call's pair of words
+  module _ (qubits : List ℕ) (angles xs : List Value) where
+    abbrev pair : List ℕ
+    pair = call .site .scope ∷ statementAt image (call .site .statement) ∷ []
+
+    abbrev caller : Frame
+    caller = scopeFrame image (call .site .scope) angles qubits
+
+    pub opened-rounds : ¬ (call .body ≡ 0) → map (under pair) (inRounds (callRounds image call) (openedRound image qubits call xs)) ≡ callSteps image caller call xs
+    unfolding visitGate pushFrame openedRound qubitIn
+    opened-rounds h =
+        rounds-under pair (openedRound image qubits call xs) (callRounds image call)
+        ∙ ap (inRounds (callRounds image call)) (fun-ext λ i.
+        sym (opening-under pair image (call .site .«levels_left») (record { scope = suc (call .gate); trace = []; values = xs; qubits = map (qubitIn image (scopeFrame image (call .site .scope) [] qubits) i) (range (call .argument) (call .arguments)) }) (call .gate))
+        ∙ rw (ne-eqb (gateBody image (call .gate)) 0 (λ e. h (body-is ∙ e))) refl)
+
+    -- no level is left: the gate itself in each round
+    pub cut-rounds : ¬ (call .body ≡ 0) → call .site .«levels_left» ≡ 0 → map (under pair) (cutSteps image qubits call) ≡ callSteps image caller call xs
+    unfolding cutRound openedRound openGate opening
+    cut-rounds h e =
+        ap (λ (round : ℕ → List Step). map (under pair) (inRounds (callRounds image call) round)) (fun-ext λ i. rw e refl) ∙ opened-rounds h
+
+    -- an opaque gate's rounds
+    pub opaque-rounds : call .body ≡ 0 → opaqueSteps image qubits call xs ≡ callSteps image caller call xs
+    unfolding visitGate writeOpaque qubitIn
+    opaque-rounds h = ap (inRounds (callRounds image call)) (fun-ext λ i. rw (eq-eqb (gateBody image (call .gate)) 0 (sym body-is ∙ h)) refl)
 
 -- ---- statements in turn
 
@@ -124,10 +153,6 @@ module _ (image : List ℕ) (g levels-left : ℕ) (angles : List Value) (q : Lis
   abbrev opened : Frame
   opened = scopeFrame image (suc g) angles q
 
-  pub cut-steps : levels-left ≡ 0 → _≡_ {A = List Step} (write [] (Record.Opaque g [] (take (gateArguments image g) q)) ∷ []) (openGate (opening image levels-left) opened g)
-  unfolding openGate opening scopeQubits
-  cut-steps e = rw e refl
-
   abbrev pub bodyStatement : ℕ → ℕ → List Step
   bodyStatement first i = visitStatement image (opening image (levels-left - 1)) opened (first + i)
 
@@ -138,6 +163,10 @@ module _ (image : List ℕ) (g levels-left : ℕ) (angles : List Value) (q : Lis
       ap (λ (l : List Step). enter [] g ∷ l) (sym (from-first (visitStatement image (opening image (levels-left - 1)) opened) first n))
       ∙ rw (← run) refl ∙ ap (λ (k : ℕ). openGate (opening image k) opened g) e
 
--- a gate has at most 16 arguments
-pub few-arguments : {image : List ℕ} {l : Layout} {qubit-starts : List ℕ} {g : ℕ} {qubits : List ℕ} → ScopeContext image l qubit-starts (suc g) qubits → g < l .gates → gateArguments image g ≤ 16
-few-arguments {image} {g = g} st h = accepted.few-arguments (st .accepted) g (omega (arith, h, st .laid .gates-is))
+-- a frame's angles in words are its angles, as far as its gate has parameters
+pub same-frame : (image : List ℕ) (call : Call) {angles : List Value} {words : List ℕ} → call .parameters ≡ gateParameters image (call .gate) → AngleWords angles (call .parameters) words → (qubits : List ℕ)
+    → scopeFrame image (suc (call .gate)) (anglesIn words) qubits ≡ scopeFrame image (suc (call .gate)) angles qubits
+unfolding variables
+same-frame image call {angles} {words} e w qubits =
+    ap (λ (values : List Value). record { scope = suc (call .gate); trace = []; values = values; qubits = take (scopeQubits image (suc (call .gate))) qubits })
+    (ap (λ (n : ℕ). take n (anglesIn words)) (sym e) ∙ w .front ∙ ap (λ (n : ℕ). take n angles) e)

@@ -25,7 +25,8 @@ use Rattle.image.specs.Layout.{LayoutOf}
 use Rattle.model.proofs.StatementOfLaws.{u-is, cx-is, barrier-is, measure-is, reset-is, words-are}
 use Rattle.record_writer.specs.declared.Position.{Position}
 use Rattle.record_writer.specs.declared.Linearized.{Linearized}
-use Rattle.gate.specs.declared.Call.{Call}
+use Rattle.statement.specs.declared.Site.{Site}
+use Rattle.statement.specs.declared.Call.{Call}
 use Rattle.record_writer.specs.Promise.{SoundAngles, WroteSteps}
 use Rattle.argument.specs.Frames.{scopeFrame, ScopeContext, AcceptedArgument, AcceptedArguments}
 use Rattle.statement.specs.Statements.{CXArguments, MeasureArguments, UStatement, uSteps, cxSteps, barrierSteps, measureSteps, resetSteps}
@@ -62,9 +63,9 @@ module _ {image : List ℕ} {l : Layout} (laid : LayoutOf image l) where
   pub near-gate : (g : ℕ) {at : ℕ} → g < l .gates → at ≡ gateAt image g → at + 5 ≤ 8192
   near-gate g h e = omega (arith, laid .gates-is, laid .whole, laid .short)
 
-pub call-is : (image : List ℕ) (s : ℕ) {p g at i n k a m b : ℕ} → p ≡ statementAt image s → g ≡ word image (p + 1) → at ≡ gateAt image g → i ≡ word image (p + 2) → n ≡ parameterAt image i → k ≡ word image at → a ≡ word image (p + 3)
-    → m ≡ word image (at + 1) → b ≡ word image (at + 2) → _≡_ {A = Call} (record { statement = s; gate = g; expressions = n; parameters = k; argument = a; arguments = m; body = b }) (callOf image s)
-call-is image s ep eg eat ei en ek ea em eb =
+pub call-is : (image : List ℕ) (site : Site) {p g at i n k a m b : ℕ} → p ≡ statementAt image (site .statement) → g ≡ word image (p + 1) → at ≡ gateAt image g → i ≡ word image (p + 2) → n ≡ parameterAt image i → k ≡ word image at → a ≡ word image (p + 3)
+    → m ≡ word image (at + 1) → b ≡ word image (at + 2) → _≡_ {A = Call} (record { site = site; gate = g; expressions = n; parameters = k; argument = a; arguments = m; body = b }) (callOf image site)
+call-is image site ep eg eat ei en ek ea em eb =
     let g = read-at image 1 ep eg in
     let at = eat ∙ ap (gateAt image) g in
     let expressions = en ∙ ap (parameterAt image) (read-at image 2 ep ei) in
@@ -72,19 +73,15 @@ call-is image s ep eg eat ei en ek ea em eb =
     let argument = read-at image 3 ep ea in
     let arguments = read-at image 1 at em in
     let body = read-at image 2 at eb in
-    λ x. record { statement = s; gate = g x; expressions = expressions x; parameters = parameters x; argument = argument x; arguments = arguments x; body = body x }
-
--- a gate that is not opened, with the number of its qubits
-pub cut-is : (g : ℕ) (qubits : List ℕ) {m n : ℕ} {out out′ : List ℕ} {at : Position} {r : Linearized} → m ≡ n → WroteSteps (write [] (Record.Opaque g [] (take m qubits)) ∷ []) out at r out′ → WroteSteps (write [] (Record.Opaque g [] (take n qubits)) ∷ []) out at r out′
-cut-is g qubits {m} {n} {out} {out′} {at} {r} e w = subst (λ (k : ℕ). WroteSteps (write [] (Record.Opaque g [] (take k qubits)) ∷ []) out at r out′) e w
+    λ x. record { site = site; gate = g x; expressions = expressions x; parameters = parameters x; argument = argument x; arguments = arguments x; body = body x }
 
 -- ---- angles of a U
 
 -- a body has at most 16 variables
-pub few-variables : (image : List ℕ) (acc : Accepted image) (scope : ℕ) (qubit-starts : List ℕ) → FrameOk image scope [] qubit-starts → variables image scope ≤ 16
+pub few-variables : (image : List ℕ) (acc : Accepted image) (scope : ℕ) (register-starts : List ℕ) → FrameOk image scope [] register-starts → variables image scope ≤ 16
 unfolding variables
-few-variables image acc zero qubit-starts f = omega arith
-few-variables image acc (suc g) qubit-starts f = few-parameters acc g (f .0)
+few-variables image acc zero register-starts f = omega arith
+few-variables image acc (suc g) register-starts f = few-parameters acc g (f .0)
 
 three : (image : List ℕ) (p : ℕ) → namedAt image (p + 1) 3 ≡ word image (p + 1) ∷ word image (p + 2) ∷ word image (p + 3) ∷ []
 unfolding range
@@ -96,8 +93,14 @@ three image p =
 
 -- ---- a statement that opens no gate, by its first words
 
-module _ {image : List ℕ} {l : Layout} {qubit-starts : List ℕ} {scope : ℕ} {qubits : List ℕ} (st : ScopeContext image l qubit-starts scope qubits) (s : ℕ) {p k a b : ℕ}
-    (ep : p ≡ statementAt image s) (ek : k ≡ word image p) (ea : a ≡ word image (p + 1)) (eb : b ≡ word image (p + 2)) (f : PlainStatement image l scope s) where
+module _ {image : List ℕ} {l : Layout} {register-starts : List ℕ} (site : Site) {qubits : List ℕ} (st : ScopeContext image l register-starts (site .scope) qubits) {p k a b : ℕ}
+    (ep : p ≡ statementAt image (site .statement)) (ek : k ≡ word image p) (ea : a ≡ word image (p + 1)) (eb : b ≡ word image (p + 2)) (f : PlainStatement image l site) where
+  abbrev scope : ℕ
+  scope = site .scope
+
+  abbrev s : ℕ
+  s = site .statement
+
   known : {x : Statement} → statement image s ≡ x → PlainFacts image scope x
   known e = subst (PlainFacts image scope) e (f .facts)
 
@@ -116,16 +119,16 @@ module _ {image : List ℕ} {l : Layout} {qubit-starts : List ℕ} {scope : ℕ}
   measure-statement : k ≡ 5 → statement image s ≡ Measure a b
   measure-statement e = words-are image s p k a b _ _ ep ek ea eb refl refl ∙ measure-is k a b _ _ e
 
-  reset-statement : ¬ (k ≡ 1) → ¬ (k ≡ 2) → ¬ IsCall image s → ¬ (k ≡ 4) → ¬ (k ≡ 5) → statement image s ≡ Reset a
+  reset-statement : ¬ (k ≡ 1) → ¬ (k ≡ 2) → ¬ IsCall image site → ¬ (k ≡ 4) → ¬ (k ≡ 5) → statement image s ≡ Reset a
   reset-statement n1 n2 n3 n4 n5 =
       let w = words-are image s p k a b _ _ ep ek ea eb refl refl in
       w ∙ reset-is k a b _ _ (only-reset image scope k a b _ _ n1 n2 (λ e. n3 (sym (ek ∙ ap (word image) ep) ∙ e)) n4 n5 (known w))
 
   -- what its acceptance says
 
-  pub u-needs : {q : ℕ} → k ≡ 1 → q ≡ word image (p + 4) → UStatement image l scope (p + 1) q
-  u-needs e eq =
-      let g = known (u-statement e eq) in
+  pub u-needs : k ≡ 1 → UStatement image l scope p
+  u-needs e =
+      let g = known (u-statement e refl) in
       record {
         expressions = record {
           few = (omega arith, few-variables image (st .accepted) scope _ (st .frame));
@@ -148,38 +151,33 @@ module _ {image : List ℕ} {l : Layout} {qubit-starts : List ℕ} {scope : ℕ}
       let g = known (measure-statement e) in
       record { qubits = record { listed = listed (g .1) (st .laid .arguments-is); ok = g .3 }; bits = record { listed = listed (g .2) (st .laid .arguments-is); ok = g .4 }; match = g .5 }
 
-  pub reset-needs : ¬ (k ≡ 1) → ¬ (k ≡ 2) → ¬ IsCall image s → ¬ (k ≡ 4) → ¬ (k ≡ 5) → AcceptedArgument image l scope a
+  pub reset-needs : ¬ (k ≡ 1) → ¬ (k ≡ 2) → ¬ IsCall image site → ¬ (k ≡ 4) → ¬ (k ≡ 5) → AcceptedArgument image l scope a
   reset-needs n1 n2 n3 n4 n5 = let g = known (reset-statement n1 n2 n3 n4 n5) in record { listed = listed (g .1) (st .laid .arguments-is); ok = g .2 }
 
   -- what it does. The frame's angles show in a U alone.
 
   module _ (angles : List Value) {out out′ : List ℕ} {at : Position} {r : Linearized} where
-    pub u-wrote : {q : ℕ} → k ≡ 1 → q ≡ word image (p + 4)
-        → WroteSteps (uSteps image scope angles qubits (p + 1) q) out at r out′
-        → WroteSteps (plainSteps image 0 (scopeFrame image scope angles qubits) s) out at r out′
+    pub u-wrote : k ≡ 1 → WroteSteps (uSteps image scope angles qubits p) out at r out′
+        → WroteSteps (plainSteps image (site .«levels_left») (scopeFrame image scope angles qubits) s) out at r out′
     unfolding visitPlain
-    u-wrote e eq w = rw (u-statement e eq) (rw (three image p) at w)
+    u-wrote e w = rw (u-statement e refl) (rw (three image p) at w)
 
     pub cx-wrote : k ≡ 2 → WroteSteps (cxSteps image scope qubits a b) out at r out′
-        → WroteSteps (plainSteps image 0 (scopeFrame image scope angles qubits) s) out at r out′
+        → WroteSteps (plainSteps image (site .«levels_left») (scopeFrame image scope angles qubits) s) out at r out′
     unfolding visitPlain writeCX qubitIn
     cx-wrote e w = rw (cx-statement e) w
 
     pub barrier-wrote : k ≡ 4 → WroteSteps (barrierSteps image scope qubits a b) out at r out′
-        → WroteSteps (plainSteps image 0 (scopeFrame image scope angles qubits) s) out at r out′
+        → WroteSteps (plainSteps image (site .«levels_left») (scopeFrame image scope angles qubits) s) out at r out′
     unfolding visitPlain argumentQubits qubitIn
     barrier-wrote e w = rw (barrier-statement e) w
 
     pub measure-wrote : k ≡ 5 → WroteSteps (measureSteps image scope qubits a b) out at r out′
-        → WroteSteps (plainSteps image 0 (scopeFrame image scope angles qubits) s) out at r out′
+        → WroteSteps (plainSteps image (site .«levels_left») (scopeFrame image scope angles qubits) s) out at r out′
     unfolding visitPlain writeMeasure qubitIn
     measure-wrote e w = rw (measure-statement e) w
 
-    pub reset-wrote : ¬ (k ≡ 1) → ¬ (k ≡ 2) → ¬ IsCall image s → ¬ (k ≡ 4) → ¬ (k ≡ 5) → WroteSteps (resetSteps image scope qubits a) out at r out′
-        → WroteSteps (plainSteps image 0 (scopeFrame image scope angles qubits) s) out at r out′
+    pub reset-wrote : ¬ (k ≡ 1) → ¬ (k ≡ 2) → ¬ IsCall image site → ¬ (k ≡ 4) → ¬ (k ≡ 5) → WroteSteps (resetSteps image scope qubits a) out at r out′
+        → WroteSteps (plainSteps image (site .«levels_left») (scopeFrame image scope angles qubits) s) out at r out′
     unfolding visitPlain writeReset qubitIn
     reset-wrote n1 n2 n3 n4 n5 w = rw (reset-statement n1 n2 n3 n4 n5) w
-
--- sixteen angles of 0
-pub sound-zeros : {x : Value} → Sound x → SoundAngles (x ∷ x ∷ x ∷ x ∷ x ∷ x ∷ x ∷ x ∷ x ∷ x ∷ x ∷ x ∷ x ∷ x ∷ x ∷ x ∷ [])
-sound-zeros h = record { sixteen = refl; each = λ i k. All-getD {P = Sound} i zeroValue k (cons h (cons h (cons h (cons h (cons h (cons h (cons h (cons h (cons h (cons h (cons h (cons h (cons h (cons h (cons h (cons h nil)))))))))))))))) }

@@ -21,7 +21,9 @@ use Rattle.record_writer.specs.declared.LinearizeError.{LinearizeError}
 use Rattle.record_writer.specs.declared.Linearized.{Linearized}
 use Rattle.record_writer.specs.declared.Linearized.the-variants as linearized
 use Rattle.record_writer.specs.Promise.{refusalAnswer, runAnswerOf, WroteSteps}
-use Rattle.gate.specs.RanSteps.{RanSteps}
+use Rattle.model.specs.Image.{statementAt}
+use Rattle.statement.specs.declared.Call.{Call}
+use Rattle.gate.specs.RanSteps.{RanSteps, Popped}
 use Rattle.record_writer.proofs.WroteStepsLaws.{not-done}
 use Rattle.statement.proofs.LoopedLaws.{Looped, looped-next, looped-done}
 
@@ -53,6 +55,17 @@ unfolding traceOf
 ran-wrote {ss} {out} {out′} {trace} {trace′} {at} {p} w e =
     let v : RanSteps ss out at trace (linearized.Done p) out′ trace′ = rw e at w in
     (record { plays = v .plays; level = v .level ∙ add-zero (at .trace) }, v .tracing)
+
+-- steps and traces may be replaced by equal ones
+module _ {ss : List Step} {out out′ trace trace′ : List ℕ} {at : Position} {r : Linearized} where
+  pub ran-steps : {others : List Step} → ss ≡ others → RanSteps ss out at trace r out′ trace′ → RanSteps others out at trace r out′ trace′
+  ran-steps e w = rw (← e) w
+
+  pub ran-from : {trace₀ : List ℕ} → trace ≡ trace₀ → RanSteps ss out at trace r out′ trace′ → RanSteps ss out at trace₀ r out′ trace′
+  ran-from e w = rw (← e) w
+
+  pub ran-still : {trace″ : List ℕ} → trace″ ≡ trace′ → RanSteps ss out at trace r out′ trace′ → RanSteps ss out at trace r out′ trace″
+  ran-still e w = rw e w
 
 -- ---- loops
 
@@ -157,6 +170,15 @@ module _ {ss : List Step} {out out′ trace trace′ : List ℕ} {position opene
         level = v .level ∙ rw (longer, ← level) (omega arith);
       }
 
+-- a call comes back, however it ended
+pub ran-popped : (image : List ℕ) (call : Call) {ss : List Step} {out out′ trace trace′ trace″ : List ℕ} {at inside : Position} (answer : Linearized) {r : Linearized}
+    → RanSteps ss out inside trace answer out′ trace′ → inside ≡ record { records = at .records; words = at .words; trace = at .trace + 2 } → Popped image call at answer trace′ r trace″
+    → RanSteps (map (under (call .site .scope ∷ statementAt image (call .site .statement) ∷ [])) ss) out at trace r out′ trace″
+ran-popped image call {trace = trace} {at = at} (linearized.Done next) w d p =
+    let v = ran-returned w d refl (call .site .scope ∷ statementAt image (call .site .statement) ∷ []) refl refl in
+    rw (p .0) (ran-still (p .1 ∙ v .1) (wrote-ran trace (v .0)))
+ran-popped image call (linearized.Refused e) w d p = rw (p .0) (ran-refused w d refl (call .site .scope) (statementAt image (call .site .statement)) refl refl (p .1))
+
 -- a body is entered
 pub ran-enter : (t : List ℕ) (g : ℕ) {ss : List Step} {out out′ trace trace′ : List ℕ} {at : Position} {r : Linearized} → RanSteps ss out at trace r out′ trace′ → RanSteps (enter t g ∷ ss) out at trace r out′ trace′
 ran-enter t g w = record { calls = w .calls; plays = plays-enter t g (w .plays); tracing = w .tracing; level = w .level }
@@ -164,17 +186,6 @@ ran-enter t g w = record { calls = w .calls; plays = plays-enter t g (w .plays);
 -- the lengths of both slices stay
 pub ran-lengths : {ss : List Step} {out out′ trace trace′ : List ℕ} {at : Position} {r : Linearized} → RanSteps ss out at trace r out′ trace′ → (length out′ ≡ length out) × (length trace′ ≡ length trace)
 ran-lengths {trace = trace} {at = at} {r} w = (w .plays .same, ap length (w .tracing) ∙ length-sets trace (at .trace) (traceOf (runAnswerOf r (w .calls))))
-
--- steps and traces may be replaced by equal ones
-module _ {ss : List Step} {out out′ trace trace′ : List ℕ} {at : Position} {r : Linearized} where
-  pub ran-steps : {others : List Step} → ss ≡ others → RanSteps ss out at trace r out′ trace′ → RanSteps others out at trace r out′ trace′
-  ran-steps e w = rw (← e) w
-
-  pub ran-from : {trace₀ : List ℕ} → trace ≡ trace₀ → RanSteps ss out at trace r out′ trace′ → RanSteps ss out at trace₀ r out′ trace′
-  ran-from e w = rw (← e) w
-
-  pub ran-still : {trace″ : List ℕ} → trace″ ≡ trace′ → RanSteps ss out at trace r out′ trace′ → RanSteps ss out at trace r out′ trace″
-  ran-still e w = rw e w
 
 -- ---- one after the other
 

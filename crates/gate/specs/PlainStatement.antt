@@ -5,12 +5,13 @@ use mathlib.Core.List.{List}
 use Rattle.model.specs.Image.{word, statement, statementAt}
 use Rattle.model.specs.Accepted.{PlainFacts}
 use Rattle.image.specs.declared.Layout.{Layout}
+use Rattle.statement.specs.declared.Site.{Site}
 
--- the image has statement s, which is no conditional and which the check accepted in a scope
-pub record PlainStatement (image : List ℕ) (l : Layout) (scope s : ℕ) : Type 0 where
-  pub listed : s < l .statements
-  pub facts : PlainFacts image scope (statement image s)
+-- the image has the statement of a site, which is no conditional and which the check accepted in its scope
+pub record PlainStatement (image : List ℕ) (l : Layout) (site : Site) : Type 0 where
+  pub listed : site .statement < l .statements
+  pub facts : PlainFacts image (site .scope) (statement image (site .statement))
 
--- statement s is a call: its kind is 3
-abbrev pub IsCall : List ℕ → ℕ → Type 0
-IsCall image s = word image (statementAt image s) ≡ 3
+-- the statement of a site is a call: its kind is 3
+abbrev pub IsCall : List ℕ → Site → Type 0
+IsCall image site = word image (statementAt image (site .statement)) ≡ 3

@@ -6,8 +6,7 @@ use Rattle.image.specs.declared.Layout.{Layout}
 use Rattle.model.specs.Limits.{mostGates}
 use Rattle.record_writer.specs.declared.Position.{Position}
 use Rattle.record_writer.specs.Promise.{InOutput}
-use Rattle.expression.specs.Angles.{anglesIn}
-use Rattle.expression.specs.KeptValues.{AngleContext}
+use Rattle.expression.specs.KeptValues.{ConstantsKept}
 use Rattle.argument.specs.Frames.{ScopeContext, BitContext}
 
 -- the calls that may nest in a scope: each goes to a gate of smaller number
@@ -19,16 +18,19 @@ nested (suc g) = g
 abbrev pub mostTraceWords : ℕ
 mostTraceWords = 2 * mostGates
 
--- where a statement is run that opens no gate: the tables tell where the registers start, the frame has its qubits and angles,
+-- where a statement of a scope is run that opens no gate: the table tells where the registers start, the frame has its qubits,
 -- the values kept are those of constants, and the position lies in the output
-pub record StatementContext (image : List ℕ) (l : Layout) (qubit-starts bit-starts kept-values : List ℕ) (scope : ℕ) (angles qubits out : List ℕ) (at : Position) : Type 0 where
-  pub in-scope : ScopeContext image l qubit-starts scope qubits
-  pub with-bits : BitContext image l bit-starts
-  pub with-angles : AngleContext image l (anglesIn angles) kept-values
+pub record StatementContext (image : List ℕ) (l : Layout) (register-starts kept-values : List ℕ) (scope : ℕ) (qubits out : List ℕ) (at : Position) : Type 0 where
+  pub in-scope : ScopeContext image l register-starts scope qubits
+  pub with-bits : BitContext image l register-starts
+  pub constants : ConstantsKept image kept-values
   pub in-output : InOutput out at
 
--- where any statement is run: the trace has room for every call that may nest, too
-pub record RunContext (image : List ℕ) (l : Layout) (qubit-starts bit-starts kept-values : List ℕ) (scope : ℕ) (angles qubits out trace : List ℕ) (at : Position) : Type 0 where
-  pub context : StatementContext image l qubit-starts bit-starts kept-values scope angles qubits out at
+-- where any statement of a scope is run: the trace is long enough, too
+pub record RunContext (image : List ℕ) (l : Layout) (register-starts kept-values : List ℕ) (scope : ℕ) (qubits out trace : List ℕ) (at : Position) : Type 0 where
+  pub context : StatementContext image l register-starts kept-values scope qubits out at
   pub trace-length : mostTraceWords ≤ length trace
-  pub trace-room : at .trace + 2 * nested scope ≤ mostTraceWords
+
+-- the trace has room for n calls behind those that are on the stack
+abbrev pub TraceRoom : Position → ℕ → Type 0
+TraceRoom at n = at .trace + 2 * n ≤ mostTraceWords

@@ -8,7 +8,7 @@ ghost use Rattle.model.specs.Image.{word, quantumRegisterAt, classicalRegisterA
 ghost use Rattle.model.specs.Limits.{mostElements, mostWords};
 ghost use Rattle.image.specs.Answer.{refusalFlaw, answerFlaw, numberIn, placeIn};
 ghost use Rattle.image.specs.Layout.{CappedCounts, LayoutOf, WithinLimits, Small, SmallPlace, PlaceIs, ReadAs, GatesAccepted, StatementsOf};
-ghost use Rattle.image.specs.RegisterStarts.{RegisterStarts};
+ghost use Rattle.image.specs.RegisterStarts.{RegisterStarts, RegisterTable, RegistersFit};
 
 // The numbers of refusals.
 pub mod refusal;
@@ -217,6 +217,21 @@ pub fn first_of_each(image: &[u64], at: u64, n: u64, firsts: &mut [u64])
         total = total + word(image, at + r);
         r += 1;
     }
+}
+
+// Where each register starts, in one table: the first qubit of each quantum register, then the first bit of each classical one.
+pub fn put_register_starts(image: &[u64], l: Layout, starts: &mut [u64])
+    requires { ⌜ LayoutOf (now image) l × RegistersFit (now image) (now starts) ⌝ }
+    ensures { λ r. ⌜ RegisterTable (now (image .entry)) (now (starts .exit)) ⌝ }
+{
+    let n = l.quantum_registers as usize;
+    first_of_each(image, l.quantum_register_at(0), l.quantum_registers, starts);
+    first_of_each(
+        image,
+        l.classical_register_at(0),
+        l.classical_registers,
+        &mut starts[n..],
+    );
 }
 
 // ---- sizes

@@ -3,18 +3,17 @@ use Prim.Native.Nat.{ℕ, _≤_}
 use mathlib.Core.Path.{_≡_}
 use mathlib.Core.List.{List}
 use lib.ListN.{length}
-use Rattle.model.specs.Image.{quantumSize, quantumRegisters, classicalSize, classicalRegisters}
 use Rattle.model.specs.Accepted.{Accepted}
 use Rattle.image.specs.declared.Layout.{Layout}
 use Rattle.image.specs.Layout.{LayoutOf}
-use Rattle.image.specs.RegisterStarts.{RegisterStarts}
+use Rattle.image.specs.RegisterStarts.{RegisterTable}
 use Rattle.record_writer.specs.declared.Position.{Position}
 use Rattle.record_writer.specs.Promise.{InOutput}
 use Rattle.gate.specs.RunContext.{mostTraceWords}
 
--- the most quantum, and the most classical, registers of a program that has few
+-- the most registers of a program that has few
 abbrev pub fewRegisters : ℕ
-fewRegisters = 64
+fewRegisters = 128
 
 -- an accepted image with its layout, a trace of full length, and a position in the output at which no call is on the stack
 pub record StartContext (image : List ℕ) (l : Layout) (out trace : List ℕ) (at : Position) : Type 0 where
@@ -24,8 +23,7 @@ pub record StartContext (image : List ℕ) (l : Layout) (out trace : List ℕ) (
   pub trace-length : mostTraceWords ≤ length trace
   pub no-calls : at .trace ≡ 0
 
--- where the main statements are run: the tables tell where the registers start, too
-pub record MainContext (image : List ℕ) (l : Layout) (qubit-starts bit-starts out trace : List ℕ) (at : Position) : Type 0 where
+-- where the main statements are run: the table tells where the registers start, too
+pub record MainContext (image : List ℕ) (l : Layout) (register-starts out trace : List ℕ) (at : Position) : Type 0 where
   pub start : StartContext image l out trace at
-  pub quantum : RegisterStarts (quantumSize image) (quantumRegisters image) qubit-starts
-  pub classical : RegisterStarts (classicalSize image) (classicalRegisters image) bit-starts
+  pub starts : RegisterTable image register-starts

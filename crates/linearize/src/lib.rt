@@ -5,13 +5,16 @@ use record_writer::LinearizeError;
 use record_writer::LinearizeErrorKind;
 use record_writer::Linearized;
 use record_writer::Position;
+use statement::Site;
 ghost use mathlib.Core.Path.{_≡_};
-ghost use Prim.Native.Nat.{_-_, _≤_};
+ghost use Prim.Native.Nat.{_+_, _-_, _≤_};
 ghost use lib.ListN.{length};
 ghost use Rattle.model.specs.Steps.{steps};
 ghost use Rattle.image_check.specs.Statements.{fewExpressions};
 ghost use Rattle.expression.specs.KeptValues.{ConstantsKept};
-ghost use Rattle.gate.specs.RunContext.{RunContext};
+ghost use Rattle.record_writer.specs.Promise.{SoundAngles};
+ghost use Rattle.expression.specs.Angles.{anglesIn};
+ghost use Rattle.gate.specs.RunContext.{nested, RunContext, TraceRoom};
 ghost use Rattle.gate.specs.PlainStatement.{PlainStatement};
 ghost use Rattle.gate.specs.RanSteps.{RanSteps};
 ghost use Rattle.linearize.specs.MainContext.{fewRegisters, StartContext, MainContext};
@@ -21,36 +24,44 @@ ghost use Rattle.linearize.specs.Linearizes.{refusedWith, Linearizes};
 // The words of a trace that is long enough for any run: two for each call, and a call goes to a gate of smaller number.
 pub const TRACE_WORDS: usize = 2 * (image::MOST_GATES as usize);
 
-// The most quantum, and the most classical, registers of a program that has few.
-const FEW_REGISTERS: usize = 64;
+// The most registers of a program that has few.
+const FEW_REGISTERS: usize = 128;
 
-// The most quantum, and the most classical, registers of any program: each has an element at least.
-const MOST_REGISTERS: usize = image::MOST_ELEMENTS as usize;
+// The most registers of any program: each has a word of the image.
+const MOST_REGISTERS: usize = image::MOST_WORDS as usize;
 
-// The words of a kept value: whether it is a constant's, and an angle.
-const KEPT_VALUE_WORDS: usize = 7;
+// Where a statement of main stands, or the inner statement of a conditional.
+fn main_site(statement: u64, levels_left: u64) -> Site
+    ensures { λ r. ⌜ r ≡ record { scope = 0; statement = statement; «levels_left» = «levels_left» } ⌝ }
+{
+    Site {
+        scope: 0,
+        statement,
+        levels_left,
+    }
+}
 
 // The inner statement of a conditional, and the conditional's end.
 fn visit_inner_statement(
     image: &[u64],
     l: Layout,
-    qubit_starts: &[u64],
-    bit_starts: &[u64],
+    register_starts: &[u64],
     kept_values: &mut [u64],
     angles: &[u64; expression::FRAME_ANGLE_WORDS],
     qubits: &[u64; image::FRAME_QUBITS],
-    inner: u64,
-    levels_left: u64,
+    site: Site,
     out: &mut [u64],
     trace: &mut [u64],
     at: Position,
 ) -> Linearized
     requires { ⌜
-        RunContext (now image) l (now «qubit_starts») (now «bit_starts») (now «kept_values») 0 (now angles) (now qubits) (now out) (now trace) at
-        × PlainStatement (now image) l 0 inner
+        RunContext (now image) l (now «register_starts») (now «kept_values») (site .scope) (now qubits) (now out) (now trace) at
+        × TraceRoom at (nested (site .scope))
+        × SoundAngles (anglesIn (now angles))
+        × PlainStatement (now image) l site
         ⌝ }
     ensures { λ r. ⌜
-        RanSteps (innerSteps (now (image .entry)) «levels_left» (now (angles .entry)) (now (qubits .entry)) inner)
+        RanSteps (innerSteps (now (image .entry)) (now (angles .entry)) (now (qubits .entry)) site)
         (now (out .entry)) at (now (trace .entry)) r (now (out .exit)) (now (trace .exit))
         × ConstantsKept (now (image .entry)) (now («kept_values» .exit))
         ⌝ }
@@ -58,14 +69,11 @@ fn visit_inner_statement(
     match gate::visit_statement(
         image,
         l,
-        qubit_starts,
-        bit_starts,
+        register_starts,
         kept_values,
-        0,
         angles,
         qubits,
-        inner,
-        levels_left,
+        site,
         out,
         trace,
         at,
@@ -79,32 +87,33 @@ fn visit_inner_statement(
 fn visit_conditional(
     image: &[u64],
     l: Layout,
-    qubit_starts: &[u64],
-    bit_starts: &[u64],
+    register_starts: &[u64],
     kept_values: &mut [u64],
     angles: &[u64; expression::FRAME_ANGLE_WORDS],
     qubits: &[u64; image::FRAME_QUBITS],
-    s: u64,
-    levels_left: u64,
+    site: Site,
     out: &mut [u64],
     trace: &mut [u64],
     at: Position,
 ) -> Linearized
     requires { ⌜
-        RunContext (now image) l (now «qubit_starts») (now «bit_starts») (now «kept_values») 0 (now angles) (now qubits) (now out) (now trace) at
-        × MainStatement (now image) l s
-        × IsConditional (now image) s
+        RunContext (now image) l (now «register_starts») (now «kept_values») (site .scope) (now qubits) (now out) (now trace) at
+        × TraceRoom at (nested (site .scope))
+        × SoundAngles (anglesIn (now angles))
+        × MainStatement (now image) l site
+        × IsConditional (now image) site
         ⌝ }
     ensures { λ r. ⌜
-        RanSteps (mainStatementSteps (now (image .entry)) «levels_left» (now (angles .entry)) (now (qubits .entry)) s)
+        RanSteps (mainStatementSteps (now (image .entry)) (now (angles .entry)) (now (qubits .entry)) site)
         (now (out .entry)) at (now (trace .entry)) r (now (out .exit)) (now (trace .exit))
         × ConstantsKept (now (image .entry)) (now («kept_values» .exit))
         ⌝ }
 {
-    let place = l.statement_at(s);
+    let place = l.statement_at(site.statement);
     let register = image::word(image, place + 1);
     let size = image::word(image, l.classical_register_at(register));
-    let first = bit_starts[register as usize];
+    let first = register_starts[(l.quantum_registers + register) as usize];
+    let inner = main_site(image::word(image, place + 3), site.levels_left);
     match record_writer::write_conditional_start(
         out,
         at,
@@ -115,13 +124,11 @@ fn visit_conditional(
         Linearized::Done(next) => visit_inner_statement(
             image,
             l,
-            qubit_starts,
-            bit_starts,
+            register_starts,
             kept_values,
             angles,
             qubits,
-            image::word(image, place + 3),
-            levels_left,
+            inner,
             out,
             trace,
             next,
@@ -134,38 +141,36 @@ fn visit_conditional(
 fn visit_main(
     image: &[u64],
     l: Layout,
-    qubit_starts: &[u64],
-    bit_starts: &[u64],
+    register_starts: &[u64],
     kept_values: &mut [u64],
     angles: &[u64; expression::FRAME_ANGLE_WORDS],
     qubits: &[u64; image::FRAME_QUBITS],
-    s: u64,
-    levels_left: u64,
+    site: Site,
     out: &mut [u64],
     trace: &mut [u64],
     at: Position,
 ) -> Linearized
     requires { ⌜
-        RunContext (now image) l (now «qubit_starts») (now «bit_starts») (now «kept_values») 0 (now angles) (now qubits) (now out) (now trace) at
-        × MainStatement (now image) l s
+        RunContext (now image) l (now «register_starts») (now «kept_values») (site .scope) (now qubits) (now out) (now trace) at
+        × TraceRoom at (nested (site .scope))
+        × SoundAngles (anglesIn (now angles))
+        × MainStatement (now image) l site
         ⌝ }
     ensures { λ r. ⌜
-        RanSteps (mainStatementSteps (now (image .entry)) «levels_left» (now (angles .entry)) (now (qubits .entry)) s)
+        RanSteps (mainStatementSteps (now (image .entry)) (now (angles .entry)) (now (qubits .entry)) site)
         (now (out .entry)) at (now (trace .entry)) r (now (out .exit)) (now (trace .exit))
         × ConstantsKept (now (image .entry)) (now («kept_values» .exit))
         ⌝ }
 {
-    if image::word(image, l.statement_at(s)) == 7 {
+    if image::word(image, l.statement_at(site.statement)) == 7 {
         return visit_conditional(
             image,
             l,
-            qubit_starts,
-            bit_starts,
+            register_starts,
             kept_values,
             angles,
             qubits,
-            s,
-            levels_left,
+            site,
             out,
             trace,
             at,
@@ -174,14 +179,11 @@ fn visit_main(
     gate::visit_statement(
         image,
         l,
-        qubit_starts,
-        bit_starts,
+        register_starts,
         kept_values,
-        0,
         angles,
         qubits,
-        s,
-        levels_left,
+        site,
         out,
         trace,
         at,
@@ -192,8 +194,7 @@ fn visit_main(
 fn visit_program(
     image: &[u64],
     l: Layout,
-    qubit_starts: &[u64],
-    bit_starts: &[u64],
+    register_starts: &[u64],
     kept_values: &mut [u64],
     levels_left: u64,
     out: &mut [u64],
@@ -201,7 +202,7 @@ fn visit_program(
     at: Position,
 ) -> Linearized
     requires { ⌜
-        MainContext (now image) l (now «qubit_starts») (now «bit_starts») (now out) (now trace) at
+        MainContext (now image) l (now «register_starts») (now out) (now trace) at
         × ConstantsKept (now image) (now «kept_values»)
         ⌝ }
     ensures { λ r. ⌜
@@ -218,13 +219,11 @@ fn visit_program(
         match visit_main(
             image,
             l,
-            qubit_starts,
-            bit_starts,
+            register_starts,
             kept_values,
             &angles,
             &qubits,
-            s,
-            levels_left,
+            main_site(s, levels_left),
             out,
             trace,
             position,
@@ -245,25 +244,24 @@ fn visit_program(
 fn visit_few_expressions(
     image: &[u64],
     l: Layout,
-    qubit_starts: &[u64],
-    bit_starts: &[u64],
+    register_starts: &[u64],
     levels_left: u64,
     out: &mut [u64],
     trace: &mut [u64],
     at: Position,
 ) -> Linearized
-    requires { ⌜ MainContext (now image) l (now «qubit_starts») (now «bit_starts») (now out) (now trace) at × (l .expressions ≤ fewExpressions) ⌝ }
+    requires { ⌜ MainContext (now image) l (now «register_starts») (now out) (now trace) at × (l .expressions ≤ fewExpressions) ⌝ }
     ensures { λ r. ⌜
         RanSteps (mainSteps (now (image .entry)) «levels_left»)
         (now (out .entry)) at (now (trace .entry)) r (now (out .exit)) (now (trace .exit))
         ⌝ }
 {
-    let mut kept_values = [0u64; KEPT_VALUE_WORDS * image_check::FEW_EXPRESSIONS];
+    let mut kept_values = [0u64; (expression::KEPT_VALUE_WORDS as usize)
+        * image_check::FEW_EXPRESSIONS];
     visit_program(
         image,
         l,
-        qubit_starts,
-        bit_starts,
+        register_starts,
         &mut kept_values,
         levels_left,
         out,
@@ -276,25 +274,23 @@ fn visit_few_expressions(
 fn visit_many_expressions(
     image: &[u64],
     l: Layout,
-    qubit_starts: &[u64],
-    bit_starts: &[u64],
+    register_starts: &[u64],
     levels_left: u64,
     out: &mut [u64],
     trace: &mut [u64],
     at: Position,
 ) -> Linearized
-    requires { ⌜ MainContext (now image) l (now «qubit_starts») (now «bit_starts») (now out) (now trace) at ⌝ }
+    requires { ⌜ MainContext (now image) l (now «register_starts») (now out) (now trace) at ⌝ }
     ensures { λ r. ⌜
         RanSteps (mainSteps (now (image .entry)) «levels_left»)
         (now (out .entry)) at (now (trace .entry)) r (now (out .exit)) (now (trace .exit))
         ⌝ }
 {
-    let mut kept_values = [0u64; KEPT_VALUE_WORDS * image::MOST_EXPRESSIONS];
+    let mut kept_values = [0u64; (expression::KEPT_VALUE_WORDS as usize) * image::MOST_EXPRESSIONS];
     visit_program(
         image,
         l,
-        qubit_starts,
-        bit_starts,
+        register_starts,
         &mut kept_values,
         levels_left,
         out,
@@ -307,41 +303,22 @@ fn visit_many_expressions(
 fn visit_with_kept_values(
     image: &[u64],
     l: Layout,
-    qubit_starts: &[u64],
-    bit_starts: &[u64],
+    register_starts: &[u64],
     levels_left: u64,
     out: &mut [u64],
     trace: &mut [u64],
     at: Position,
 ) -> Linearized
-    requires { ⌜ MainContext (now image) l (now «qubit_starts») (now «bit_starts») (now out) (now trace) at ⌝ }
+    requires { ⌜ MainContext (now image) l (now «register_starts») (now out) (now trace) at ⌝ }
     ensures { λ r. ⌜
         RanSteps (mainSteps (now (image .entry)) «levels_left»)
         (now (out .entry)) at (now (trace .entry)) r (now (out .exit)) (now (trace .exit))
         ⌝ }
 {
     if l.expressions <= image_check::FEW_EXPRESSIONS as u64 {
-        return visit_few_expressions(
-            image,
-            l,
-            qubit_starts,
-            bit_starts,
-            levels_left,
-            out,
-            trace,
-            at,
-        );
+        return visit_few_expressions(image, l, register_starts, levels_left, out, trace, at);
     }
-    visit_many_expressions(
-        image,
-        l,
-        qubit_starts,
-        bit_starts,
-        levels_left,
-        out,
-        trace,
-        at,
-    )
+    visit_many_expressions(image, l, register_starts, levels_left, out, trace, at)
 }
 
 // The levels that are opened at a depth: depths 0 and 1 open none.
@@ -360,36 +337,15 @@ fn visit_few_registers(
     trace: &mut [u64],
     at: Position,
 ) -> Linearized
-    requires { ⌜ StartContext (now image) l (now out) (now trace) at × (l .«quantum_registers» ≤ fewRegisters) × (l .«classical_registers» ≤ fewRegisters) ⌝ }
+    requires { ⌜ StartContext (now image) l (now out) (now trace) at × (l .«quantum_registers» + l .«classical_registers» ≤ fewRegisters) ⌝ }
     ensures { λ r. ⌜
         RanSteps (mainSteps (now (image .entry)) «levels_left»)
         (now (out .entry)) at (now (trace .entry)) r (now (out .exit)) (now (trace .exit))
         ⌝ }
 {
-    let mut qubit_starts = [0u64; FEW_REGISTERS];
-    image::first_of_each(
-        image,
-        l.quantum_register_at(0),
-        l.quantum_registers,
-        &mut qubit_starts,
-    );
-    let mut bit_starts = [0u64; FEW_REGISTERS];
-    image::first_of_each(
-        image,
-        l.classical_register_at(0),
-        l.classical_registers,
-        &mut bit_starts,
-    );
-    visit_with_kept_values(
-        image,
-        l,
-        &qubit_starts,
-        &bit_starts,
-        levels_left,
-        out,
-        trace,
-        at,
-    )
+    let mut register_starts = [0u64; FEW_REGISTERS];
+    image::put_register_starts(image, l, &mut register_starts);
+    visit_with_kept_values(image, l, &register_starts, levels_left, out, trace, at)
 }
 
 // The main statements, with tables of the starts of as many registers as an image may have.
@@ -407,30 +363,9 @@ fn visit_many_registers(
         (now (out .entry)) at (now (trace .entry)) r (now (out .exit)) (now (trace .exit))
         ⌝ }
 {
-    let mut qubit_starts = [0u64; MOST_REGISTERS];
-    image::first_of_each(
-        image,
-        l.quantum_register_at(0),
-        l.quantum_registers,
-        &mut qubit_starts,
-    );
-    let mut bit_starts = [0u64; MOST_REGISTERS];
-    image::first_of_each(
-        image,
-        l.classical_register_at(0),
-        l.classical_registers,
-        &mut bit_starts,
-    );
-    visit_with_kept_values(
-        image,
-        l,
-        &qubit_starts,
-        &bit_starts,
-        levels_left,
-        out,
-        trace,
-        at,
-    )
+    let mut register_starts = [0u64; MOST_REGISTERS];
+    image::put_register_starts(image, l, &mut register_starts);
+    visit_with_kept_values(image, l, &register_starts, levels_left, out, trace, at)
 }
 
 // The main statements, with tables of where registers start: a small program should not pay for clearing the tables of a large one.
@@ -448,7 +383,7 @@ fn visit_with_register_starts(
         (now (out .entry)) at (now (trace .entry)) r (now (out .exit)) (now (trace .exit))
         ⌝ }
 {
-    if image::larger(l.quantum_registers, l.classical_registers) <= FEW_REGISTERS as u64 {
+    if l.quantum_registers + l.classical_registers <= FEW_REGISTERS as u64 {
         return visit_few_registers(image, l, levels_left, out, trace, at);
     }
     visit_many_registers(image, l, levels_left, out, trace, at)

@@ -6,7 +6,7 @@ use mathlib.Core.List.{List, [], _∷_}
 use lib.ListN.{length}
 use Rattle.value.specs.declared.Value.{Value}
 use Rattle.model.specs.Records.{Record, encode, kind as kindOf, fields}
-use Rattle.model.specs.Steps.{Step, write, refuse, Refusal, Frame, qubitIn, bitIn, writeReset, writeMeasure, writeCX, writeU}
+use Rattle.model.specs.Steps.{Step, write, refuse, Refusal, Frame, inRounds, qubitIn, bitIn, writeReset, writeMeasure, writeCX, writeU}
 use Rattle.model.specs.Image.{argumentAt}
 use Rattle.model.specs.Run.{Answer, refused, play}
 use Rattle.model.specs.Playing.{Plays}
@@ -18,8 +18,14 @@ use Rattle.record_writer.specs.declared.Linearized.{Linearized}
 use Rattle.record_writer.specs.declared.Linearized.the-variants as linearized
 use Rattle.record_writer.specs.Promise.{outputFullAt, InOutput, WroteSteps, refusalAnswer, stateAt}
 use Rattle.record_writer.proofs.WroteStepsLaws.{record-refused}
-use Rattle.argument.specs.Frames.{scopeFrame}
-use Rattle.statement.specs.Statements.{apartCX, overlapAtCX}
+use Rattle.argument.specs.declared.Argument.{Argument}
+use Rattle.argument.specs.Frames.{scopeFrame, quantumArgument, numberInRound, ScopeContext}
+use Rattle.argument.proofs.ArgumentLaws.{few-rounds, resolved-below, one-round-range}
+use Rattle.image.specs.declared.Layout.{Layout}
+use Rattle.model.specs.Check.{argumentOk}
+use lib.Dec.{T}
+use native.Mathlib.Omega.{arith}
+use Rattle.statement.specs.Statements.{apartCX, overlapAtCX, uRound, FewQubits}
 
 module _ (image : List ℕ) (scope : ℕ) (angles : List Value) (qubits : List ℕ) where
   abbrev frame : Frame
@@ -37,9 +43,19 @@ module _ (image : List ℕ) (scope : ℕ) (angles : List Value) (qubits : List �
   unfolding writeCX apartCX
   cx-round a b i e f = ap₂ (apartCX image a b) e f
 
-  pub u-round : (theta phi lambda : Value) (a i : ℕ) {q : ℕ} → q ≡ qubitIn image frame i a → _≡_ {A = List Step} (write [] (Record.U theta phi lambda q) ∷ []) (writeU image frame a (theta ∷ phi ∷ lambda ∷ []) i)
-  unfolding writeU
-  u-round theta phi lambda a i e = ap (λ (q : ℕ). write [] (Record.U theta phi lambda q) ∷ []) e
+  -- a U of each qubit of an argument, as the definition has it
+  pub u-rounds : {x : Argument} (theta phi lambda : Value) (a : ℕ) → x ≡ quantumArgument image scope qubits a → {n : ℕ} → x .size ≡ n
+      → inRounds (x .size) (uRound x theta phi lambda) ≡ inRounds n (writeU image frame a (theta ∷ phi ∷ lambda ∷ []))
+  unfolding writeU uRound qubitIn
+  u-rounds theta phi lambda a e f = rw (← f, e) refl
+
+pub u-round : (x : Argument) (theta phi lambda : Value) (i : ℕ) {q : ℕ} → q ≡ numberInRound x i → _≡_ {A = List Step} (write [] (Record.U theta phi lambda q) ∷ []) (uRound x theta phi lambda i)
+unfolding uRound
+u-round x theta phi lambda i e = ap (λ (q : ℕ). write [] (Record.U theta phi lambda q) ∷ []) e
+
+-- the qubits of an accepted argument are few
+pub few-qubits : {image : List ℕ} {l : Layout} {register-starts : List ℕ} {scope : ℕ} {qubits : List ℕ} → ScopeContext image l register-starts scope qubits → (a : ℕ) {x : Argument} → T (argumentOk image scope a) → x ≡ quantumArgument image scope qubits a → FewQubits x
+few-qubits s a k e = (few-rounds s a k e, λ i h. omega (arith, resolved-below s a i k (one-round-range s a i e h), ap (λ (x : Argument). numberInRound x i) e))
 
 -- the refusal of a CX whose arguments have one qubit
 pub overlap-refusal : (image : List ℕ) (a b : ℕ) {at : Position} {m n : ℕ} → m ≡ argumentAt image a → n ≡ argumentAt image b → linearized.Refused (record { kind = kind.OverlappingRegs m n; at = at }) ≡ overlapAtCX image a b at

@@ -2,7 +2,7 @@
 use Prim.Native.Nat.{ℕ, _+_, _≤_, _<_}
 use mathlib.Core.Path.{_≡_}
 use mathlib.Core.Bool.{Bool, true, false, cond}
-use mathlib.Core.List.{List, [], _∷_, _++_, flatMap, List·Memᴰ}
+use mathlib.Core.List.{List, [], _∷_, _++_, map, flatMap, List·Memᴰ}
 use lib.Dec.{T, eqb}
 use lib.ListN.{getD, take}
 use mathlib.Core.Option.{Option, none, some}
@@ -10,9 +10,9 @@ use Rattle.value.specs.declared.Value.{Value}
 use Rattle.model.specs.Limits.{mostElements}
 use Rattle.model.specs.Lists.{range, largest, rising}
 use Rattle.model.specs.Records.{Record}
-use Rattle.model.specs.Image.{argumentAt, argumentSize, classicalArgumentSize, rounds, variables}
+use Rattle.model.specs.Image.{word, argumentAt, argumentSize, classicalArgumentSize, rounds, variables}
 use Rattle.model.specs.Check.{matching}
-use Rattle.model.specs.Steps.{Step, write, refuse, Refusal, overlap, distinctly, inRounds, writeReset, writeMeasure, writeCX, writeOpaque, writeU, withValues, argumentQubits}
+use Rattle.model.specs.Steps.{Step, write, refuse, Refusal, overlap, distinctly, inRounds, qubitIn, writeReset, writeMeasure, writeCX, writeOpaque, writeU, withValues, argumentQubits}
 use Rattle.model.specs.All.{All}
 use Rattle.record_writer.specs.declared.Position.{Position}
 use Rattle.record_writer.specs.declared.LinearizeErrorKind.the-variants as kind
@@ -22,7 +22,9 @@ use Rattle.record_writer.specs.Promise.{WroteSteps}
 use Rattle.image.specs.declared.Layout.{Layout}
 use Rattle.image.specs.Layout.{WithinLimits, Small}
 use Rattle.expression.specs.NamedExpressions.{namedAt, ListedExpressions}
-use Rattle.argument.specs.Frames.{scopeFrame, AcceptedArgument, AcceptedBits}
+use Rattle.argument.specs.Frames.{scopeFrame, numberInRound, ScopeContext, CallArguments, AcceptedArgument, AcceptedBits}
+use Rattle.argument.specs.declared.Argument.{Argument}
+use Rattle.statement.specs.declared.Call.{Call}
 use Rattle.statement.specs.declared.Overlap.{Overlap}
 use Rattle.statement.specs.declared.Overlap.the-variants as overlapping
 
@@ -40,10 +42,15 @@ pub record MeasureArguments (image : List ℕ) (l : Layout) (scope q c : ℕ) : 
   pub bits : AcceptedBits image l c
   pub match : T (matching (argumentSize image scope q ∷ classicalArgumentSize image c ∷ []))
 
--- a U: the three words from a place on name accepted expressions, and its argument is accepted
-pub record UStatement (image : List ℕ) (l : Layout) (scope place a : ℕ) : Type 0 where
-  pub expressions : ListedExpressions image (variables image scope) place 3
-  pub argument : AcceptedArgument image l scope a
+-- a U at a place: the three words behind its kind name accepted expressions, and the argument that the last one names is accepted
+pub record UStatement (image : List ℕ) (l : Layout) (scope place : ℕ) : Type 0 where
+  pub expressions : ListedExpressions image (variables image scope) (place + 1) 3
+  pub argument : AcceptedArgument image l scope (word image (place + 4))
+
+-- a call in the frame of its scope: the check accepted its arguments
+pub record CallContext (image : List ℕ) (l : Layout) (register-starts qubits : List ℕ) (call : Call) : Type 0 where
+  pub in-scope : ScopeContext image l register-starts (call .site .scope) qubits
+  pub arguments-fit : CallArguments image l (call .site .scope) (call .argument) (call .arguments)
 
 -- the places of n arguments from a on can be worked out
 pub record ArgumentPlaces (l : Layout) (a n : ℕ) : Type 0 where
@@ -65,10 +72,23 @@ measureSteps image scope qubits q c =
 abbrev pub cxSteps : List ℕ → ℕ → List ℕ → ℕ → ℕ → List Step
 cxSteps image scope qubits control target = inRounds (rounds image scope (control ∷ target ∷ [])) (writeCX image (scopeFrame image scope [] qubits) control target)
 
--- a gate that is not opened, in each round of its n arguments from a on
-abbrev pub opaqueSteps : List ℕ → ℕ → List ℕ → ℕ → List Value → ℕ → ℕ → List Step
-opaqueSteps image scope qubits gate angles a n =
-    inRounds (rounds image scope (range a n)) (writeOpaque image (scopeFrame image scope [] qubits) gate (range a n) angles)
+-- how many rounds a call has
+abbrev pub callRounds : List ℕ → Call → ℕ
+callRounds image call = rounds image (call .site .scope) (range (call .argument) (call .arguments))
+
+-- an opaque gate in each round of a call, with these angles
+abbrev pub opaqueSteps : List ℕ → List ℕ → Call → List Value → List Step
+opaqueSteps image qubits call angles =
+    inRounds (callRounds image call) (writeOpaque image (scopeFrame image (call .site .scope) [] qubits) (call .gate) (range (call .argument) (call .arguments)) angles)
+
+-- a gate whose body is not opened, in a round of a call
+unfoldable pub cutRound : List ℕ → List ℕ → Call → ℕ → List Step
+cutRound image qubits call i =
+    write [] (Record.Opaque (call .gate) [] (map (qubitIn image (scopeFrame image (call .site .scope) [] qubits) i) (range (call .argument) (call .arguments)))) ∷ []
+
+-- the gate in each round of the call
+abbrev pub cutSteps : List ℕ → List ℕ → Call → List Step
+cutSteps image qubits call = inRounds (callRounds image call) (cutRound image qubits call)
 
 -- the qubits of n arguments from a on
 abbrev pub qubitsOfAll : List ℕ → ℕ → List ℕ → ℕ → ℕ → List ℕ
@@ -78,13 +98,20 @@ qubitsOfAll image scope qubits a n = flatMap (argumentQubits image (scopeFrame i
 abbrev pub barrierSteps : List ℕ → ℕ → List ℕ → ℕ → ℕ → List Step
 barrierSteps image scope qubits a n = write [] (Record.Barrier (rising (qubitsOfAll image scope qubits a n))) ∷ []
 
--- a U of each qubit of argument a, with the angles given
-abbrev pub uRounds : List ℕ → ℕ → List Value → List ℕ → ℕ → List Value → List Step
-uRounds image scope angles qubits a given = inRounds (rounds image scope (a ∷ [])) (writeU image (scopeFrame image scope angles qubits) a given)
+-- a U of the qubit that an argument has in a round, with the angles given
+unfoldable pub uRound : Argument → Value → Value → Value → ℕ → List Step
+uRound x theta phi lambda i = write [] (Record.U theta phi lambda (numberInRound x i)) ∷ []
 
--- a U of each qubit of argument a, with the angles of the expressions that the three words from a place on name
-abbrev pub uSteps : List ℕ → ℕ → List Value → List ℕ → ℕ → ℕ → List Step
-uSteps image scope angles qubits place a = withValues image (scopeFrame image scope angles qubits) (namedAt image place 3) (uRounds image scope angles qubits a)
+-- a U at a place: of each qubit of its argument, with the angles of the three expressions that it names
+abbrev pub uSteps : List ℕ → ℕ → List Value → List ℕ → ℕ → List Step
+uSteps image scope angles qubits place =
+    let frame = scopeFrame image scope angles qubits in
+    let q = word image (place + 4) in
+    withValues image frame (namedAt image (place + 1) 3) λ xs. inRounds (rounds image scope (q ∷ [])) (writeU image frame q xs)
+
+-- the qubits of an argument in its rounds are small numbers
+abbrev pub FewQubits : Argument → Type 0
+FewQubits x = (x .size ≤ mostElements) × ((i : ℕ) → i < x .size → numberInRound x i < mostElements)
 
 -- ---- one round of a CX
 

@@ -2,8 +2,9 @@
 use native.Mathlib.Omega.{arith}
 use mathlib.Core.Path.{refl}
 use borrow.Author.Needs.{needs}
+use Rattle.model.specs.Limits.{mostGates}
 use Rattle.gate.proofs.RanStepsLaws.{wrote-then, wrote-stops, ran-steps}
-use Rattle.gate.proofs.RunContextLaws.{context-wrote}
+use Rattle.gate.proofs.RunContextLaws.{context-wrote, room-wrote}
 use Rattle.linearize.proofs.MainContextLaws.{register-listed, register-in-table, inner-listed, conditional-steps}
 use Rattle.linearize.proofs.visit_conditional.Statement.{statement}
 use Rattle.linearize.proofs.visit_conditional.Tie as tie
@@ -19,22 +20,31 @@ word-requires c κs = search needs
 
 classical-register-at-requires : tie.Need-classical-register-at-requires
 classical-register-at-requires c κs =
-    let pre = c .before .before .before .before .before .before .before .before .pre in
-    (pre .0 .context .in-scope .laid .limits, omega (arith, register-listed _ _ (pre .0 .context .with-bits) (pre .2) (pre .1) (c .before .statement-at .ensures .in-image _ (pre .0 .context .in-scope .laid)) (c .word .ensures) refl refl))
+    let s = c .before .before .before .before .before .before .before in
+    let pre = s .pre in
+    (pre .0 .context .in-scope .laid .limits, omega (arith, register-listed _ _ (pre .0 .context .with-bits) (pre .4) (pre .3) (c .before .statement-at .ensures .in-image _ (pre .0 .context .in-scope .laid)) (c .word .ensures) refl refl))
 
 word-requires-2 : tie.Need-word-requires-2
 word-requires-2 c κs = search needs
 
+add-first : tie.Need-add-first
+add-first c =
+    let pre = c .before .before .before .before .before .before .before .before .before .before .pre in
+    let laid = pre .0 .context .in-scope .laid in
+    let listed = register-listed _ _ (pre .0 .context .with-bits) (pre .4) (pre .3) (c .before .before .before .before .statement-at .ensures .in-image _ (pre .0 .context .in-scope .laid)) (c .before .before .before .word .ensures) refl refl in
+    record { fits = omega (arith, listed, laid .quantum-registers-is, laid .whole, laid .short) }
+
 mul-first : tie.Need-mul-first
 mul-first c =
     let pre = c .before .before .before .before .before .before .before .before .before .before .pre in
-    record { fits = omega (arith, register-listed _ _ (pre .0 .context .with-bits) (pre .2) (pre .1) (c .before .before .before .statement-at .ensures .in-image _ (pre .0 .context .in-scope .laid)) (c .before .before .word .ensures) refl refl) }
+    let laid = pre .0 .context .in-scope .laid in
+    let listed = register-listed _ _ (pre .0 .context .with-bits) (pre .4) (pre .3) (c .before .before .before .before .statement-at .ensures .in-image _ (pre .0 .context .in-scope .laid)) (c .before .before .before .word .ensures) refl refl in
+    record { fits = omega (arith, listed, laid .quantum-registers-is, laid .whole, laid .short) }
 
 shared-slice-read-first : tie.Need-shared-slice-read-first
 shared-slice-read-first c =
     let pre = c .before .before .before .before .before .before .before .before .before .before .before .pre in
-    let statement-at = c .before .before .before .before .statement-at .ensures .in-image _ (pre .0 .context .in-scope .laid) in
-    register-in-table _ _ (pre .0 .context .with-bits) (pre .2) (pre .1) statement-at (c .before .before .before .word .ensures) refl refl
+    register-in-table _ _ (pre .0 .context .with-bits) (pre .4) (pre .3) (c .before .before .before .before .before .statement-at .ensures .in-image _ (pre .0 .context .in-scope .laid)) (c .before .before .before .before .word .ensures) refl refl
 
 add-word-2 : tie.Need-add-word-2
 add-word-2 c = search needs
@@ -42,28 +52,33 @@ add-word-2 c = search needs
 word-requires-3 : tie.Need-word-requires-3
 word-requires-3 c κs = search needs
 
+main-site-requires : tie.Need-main-site-requires
+main-site-requires c κs = search needs
+
+add-word-3 : tie.Need-add-word-3
+add-word-3 c = search needs
+
+word-requires-4 : tie.Need-word-requires-4
+word-requires-4 c κs = search needs
+
 write-conditional-start-requires : tie.Need-write-conditional-start-requires
 write-conditional-start-requires c κs = search needs
 
 enum-known-next : tie.Need-enum-known-next
 enum-known-next c = search needs
 
-add-word-3 : tie.Need-add-word-3
-add-word-3 c =
-    let pre = c .before .before .before .before .before .before .before .before .before .before .before .before .before .before .before .before .before .before .before .before .pre in
-    let statement-at = c .before .before .before .before .before .before .before .before .before .before .before .before .before .statement-at .ensures .in-image _ (pre .0 .context .in-scope .laid) in
-    record { fits = omega (arith, statement-at, pre .1 .listed, pre .0 .context .in-scope .laid .statements-is, pre .0 .context .in-scope .laid .whole, pre .0 .context .in-scope .laid .short) }
-
-word-requires-4 : tie.Need-word-requires-4
-word-requires-4 c κs = search needs
-
 visit-inner-statement-requires : tie.Need-visit-inner-statement-requires
 visit-inner-statement-requires c κs =
-    let pre = c .before .before .before .before .before .before .before .before .before .before .before .before .before .before .before .before .before .before .before .before .before .before .before .pre in
-    let statement-at = c .before .before .before .before .before .before .before .before .before .before .before .before .before .before .before .before .statement-at .ensures .in-image _ (pre .0 .context .in-scope .laid) in
-    let write-conditional-start = c .before .before .before .before .before .before .before .before .before .write-conditional-start .ensures in
-    let next = c .before .before .before .before .before .next in
-    let h = inner-listed _ _ (pre .0 .context .with-bits) (pre .2) (pre .1) statement-at refl refl (c .before .before .word4 .ensures) in (context-wrote (pre .0) write-conditional-start (next .given .1), h)
+    let s = c .before .before .before .before .before .before .before .before .before .before .before .before .before .before .before .before .before .before .before .before .before .before .before .before in
+    let pre = s .pre in
+    let bits = pre .0 .context .with-bits in
+    let at = c .before .before .before .before .before .before .before .before .before .before .before .before .before .before .before .before .before .before .statement-at .ensures .in-image _ (pre .0 .context .in-scope .laid) in
+    let start = c .before .before .before .before .before .before .before .before .write-conditional-start .ensures in
+    let site = c .before .before .before .before .before .before .before .before .before .before .before .main-site .ensures in
+    let inner = inner-listed _ _ bits (pre .4) (pre .3) at refl refl (c .before .before .before .before .before .before .before .before .before .before .before .before .word3 .ensures) _ site in
+    let here = rw (pre .3 .in-main) at (context-wrote (pre .0) start (c .before .before .before .before .next .given .1)) in
+    let room = rw (pre .3 .in-main) at (pre .1) in
+    (rw site here, rw site (room-wrote mostGates room start (c .before .before .before .before .next .given .1)), pre .2, inner)
 
 enum-known-e : tie.Need-enum-known-e
 enum-known-e c = search needs
@@ -79,31 +94,29 @@ same-length-3 c = search needs
 
 returns : tie.Need-returns
 returns c =
-    let pre = c .before .before .before .before .before .before .before .before .before .before .before .before .before .before .before .before .before .before .before .before .before .before .before .before .before .before .before .before .before .before .pre in
-    let statement-at = c .before .before .before .before .before .before .before .before .before .before .before .before .before .before .before .before .before .before .before .before .before .before .before .statement-at .ensures .in-image _ (pre .0 .context .in-scope .laid) in
-    let word = c .before .before .before .before .before .before .before .before .before .before .before .before .before .before .before .before .before .before .before .before .before .before .word .ensures in
-    let word2 = c .before .before .before .before .before .before .before .before .before .before .before .before .before .before .before .before .before .before .before .before .word2 .ensures in
-    let register-at = c .before .before .before .before .before .before .before .before .before .before .before .before .before .before .before .before .before .before .before .before .before .classical-register-at .ensures .in-image _ (pre .0 .context .in-scope .laid) in
-    let word3 = c .before .before .before .before .before .before .before .before .before .before .before .before .before .before .before .before .before .word3 .ensures in
-    let write-conditional-start = c .before .before .before .before .before .before .before .before .before .before .before .before .before .before .before .before .write-conditional-start .ensures in
-    let next = c .before .before .before .before .before .before .before .before .before .before .before .before .next in
-    let word4 = c .before .before .before .before .before .before .before .before .before .word4 .ensures in
-    let visit-inner-statement = c .before .before .before .before .before .before .visit-inner-statement .ensures in
-    (ran-steps (conditional-steps _ _ (pre .0 .context .with-bits) (pre .2) (pre .1) statement-at word word3 word4 _ _ _ refl word2 register-at) (wrote-then write-conditional-start (next .given .1) (visit-inner-statement .0)), visit-inner-statement .1)
+    let s = c .before .before .before .before .before .before .before .before .before .before .before .before .before .before .before .before .before .before .before .before .before .before .before .before .before .before .before .before .before .before .before in
+    let pre = s .pre in
+    let laid = pre .0 .context .in-scope .laid in
+    let at = c .before .before .before .before .before .before .before .before .before .before .before .before .before .before .before .before .before .before .before .before .before .before .before .before .before .statement-at .ensures .in-image _ laid in
+    let v = c .before .before .before .before .before .before .visit-inner-statement .ensures in (
+      ran-steps (conditional-steps _ _ (pre .0 .context .with-bits) (pre .4) (pre .3) at (c .before .before .before .before .before .before .before .before .before .before .before .before .before .before .before .before .before .before .before .before .before .before .before .before .word .ensures) (c .before .before .before .before .before .before .before .before .before .before .before .before .before .before .before .before .word4 .ensures) (c .before .before .before .before .before .before .before .before .before .before .before .before .before .before .before .before .before .before .before .word3 .ensures) (c .before .before .before .before .before .before .before .before .before .before .before .before .before .before .before .before .before .before .main-site .ensures) _ _ refl (c .before .before .before .before .before .before .before .before .before .before .before .before .before .before .before .before .before .before .before .before .before .before .word2 .ensures) (c .before .before .before .before .before .before .before .before .before .before .before .before .before .before .before .before .before .before .before .before .before .before .before .classical-register-at .ensures .in-image _ laid))
+          (wrote-then (c .before .before .before .before .before .before .before .before .before .before .before .before .before .before .before .write-conditional-start .ensures) (c .before .before .before .before .before .before .before .before .before .before .before .next .given .1) (v .0)),
+      v .1,
+    )
 
 same-length-4 : tie.Need-same-length-4
 same-length-4 c = search needs
 
 returns-2 : tie.Need-returns-2
 returns-2 c =
-    let pre = c .before .before .before .before .before .before .before .before .before .before .before .before .before .before .before .before .before .before .before .pre in
-    let statement-at = c .before .before .before .before .before .before .before .before .before .before .before .before .statement-at .ensures .in-image _ (pre .0 .context .in-scope .laid) in
-    let word = c .before .before .before .before .before .before .before .before .before .before .before .word .ensures in
-    let word2 = c .before .before .before .before .before .before .before .before .before .word2 .ensures in
-    let register-at = c .before .before .before .before .before .before .before .before .before .before .classical-register-at .ensures .in-image _ (pre .0 .context .in-scope .laid) in
-    let word3 = c .before .before .before .before .before .before .word3 .ensures in
-    let write-conditional-start = c .before .before .before .before .before .write-conditional-start .ensures in
-    (ran-steps (conditional-steps _ _ (pre .0 .context .with-bits) (pre .2) (pre .1) statement-at word word3 refl _ _ _ refl word2 register-at) (wrote-stops _ _ write-conditional-start (c .before .e .given .1)), pre .0 .context .with-angles .constants)
+    let s = c .before .before .before .before .before .before .before .before .before .before .before .before .before .before .before .before .before .before .before .before .before in
+    let pre = s .pre in
+    let laid = pre .0 .context .in-scope .laid in
+    let at = c .before .before .before .before .before .before .before .before .before .before .before .before .before .before .before .statement-at .ensures .in-image _ laid in (
+      ran-steps (conditional-steps _ _ (pre .0 .context .with-bits) (pre .4) (pre .3) at (c .before .before .before .before .before .before .before .before .before .before .before .before .before .before .word .ensures) (c .before .before .before .before .before .before .word4 .ensures) (c .before .before .before .before .before .before .before .before .before .word3 .ensures) (c .before .before .before .before .before .before .before .before .main-site .ensures) _ _ refl (c .before .before .before .before .before .before .before .before .before .before .before .before .word2 .ensures) (c .before .before .before .before .before .before .before .before .before .before .before .before .before .classical-register-at .ensures .in-image _ laid))
+          (wrote-stops _ _ (c .before .before .before .before .before .write-conditional-start .ensures) (c .before .e .given .1)),
+      pre .0 .context .constants,
+    )
 
 pub visit-conditional-spec : {M : Type 1} → statement M
 visit-conditional-spec =
@@ -114,14 +127,16 @@ visit-conditional-spec =
     word-requires
     classical-register-at-requires
     word-requires-2
+    add-first
     mul-first
     shared-slice-read-first
     add-word-2
     word-requires-3
-    write-conditional-start-requires
-    enum-known-next
+    main-site-requires
     add-word-3
     word-requires-4
+    write-conditional-start-requires
+    enum-known-next
     visit-inner-statement-requires
     enum-known-e
     same-length

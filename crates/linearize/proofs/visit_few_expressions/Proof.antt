@@ -11,9 +11,9 @@ slice-aggregate-visit-program c = search needs
 
 visit-program-requires : tie.Need-visit-program-requires
 visit-program-requires c κs =
-    let pre = c .before .before .before .before .before .before .before .before .pre in
+    let pre = c .before .before .before .before .before .before .before .pre in
     let laid = pre .0 .start .laid in
-    (pre .0, no-constants (now (c .before .before .before .before .before .before .before .before .args .image)) 896 (omega (arith, pre .1, laid .expressions-is)))
+    (pre .0, no-constants (now (c .before .before .before .before .before .before .before .args .image)) 896 (omega (arith, pre .1, laid .expressions-is)))
 
 same-length : tie.Need-same-length
 same-length c = search needs

@@ -4,8 +4,7 @@ use borrow.Author.Needs.{needs}
 use denote.Ref.{now}
 use Rattle.gate.proofs.RanStepsLaws.{ran-steps}
 use Rattle.gate.proofs.RunContextLaws.{kind-read}
-use Rattle.gate.proofs.OpenGateLaws.{statement-steps}
-use Rattle.linearize.proofs.MainContextLaws.{plain-in-main}
+use Rattle.linearize.proofs.MainContextLaws.{plain-in-main, plain-steps}
 use Rattle.model.specs.Image.{word}
 use Rattle.linearize.proofs.visit_main.Statement.{statement}
 use Rattle.linearize.proofs.visit_main.Tie as tie
@@ -18,9 +17,9 @@ word-requires c κs = search needs
 
 visit-conditional-requires : tie.Need-visit-conditional-requires
 visit-conditional-requires c κs =
-    let pre = c .before .before .before .before .before .before .before .before .before .before .before .before .pre in
-    let args = c .before .before .before .before .before .before .before .before .before .before .before .before .args in
-    (pre .0, pre .1, kind-read (now (args .image)) (args .s) (c .before .before .before .before .before .statement-at .ensures .in-image _ (pre .0 .context .in-scope .laid)) (c .before .before .before .before .word .ensures) (c .before .before .before .if1 .taken))
+    let pre = c .before .before .before .before .before .before .before .before .before .before .before .pre in
+    let args = c .before .before .before .before .before .before .before .before .before .before .before .args in
+    (pre .0, pre .1, pre .2, pre .3, kind-read (now (args .image)) (args .site .statement) (c .before .before .before .before .before .statement-at .ensures .in-image _ (pre .0 .context .in-scope .laid)) (c .before .before .before .before .word .ensures) (c .before .before .before .if1 .taken))
 
 same-length : tie.Need-same-length
 same-length c = search needs
@@ -36,9 +35,9 @@ returns c = search needs
 
 visit-statement-requires : tie.Need-visit-statement-requires
 visit-statement-requires c κs =
-    let pre = c .before .before .before .before .before .before .before .before .before .before .before .before .pre in
-    let args = c .before .before .before .before .before .before .before .before .before .before .before .before .args in
-    (pre .0, plain-in-main _ _ (λ e. c .before .before .before .if1 .left (c .before .before .before .before .word .ensures ∙ ap (word (now (args .image))) (c .before .before .before .before .before .statement-at .ensures .in-image _ (pre .0 .context .in-scope .laid)) ∙ e)) (pre .1))
+    let pre = c .before .before .before .before .before .before .before .before .before .before .before .pre in
+    let args = c .before .before .before .before .before .before .before .before .before .before .before .args in
+    (pre .0, pre .1, pre .2, plain-in-main _ _ (λ e. c .before .before .before .if1 .left (c .before .before .before .before .word .ensures ∙ ap (word (now (args .image))) (c .before .before .before .before .before .statement-at .ensures .in-image _ (pre .0 .context .in-scope .laid)) ∙ e)) (pre .3))
 
 same-length-4 : tie.Need-same-length-4
 same-length-4 c = search needs
@@ -51,14 +50,13 @@ same-length-6 c = search needs
 
 returns-2 : tie.Need-returns-2
 returns-2 c =
-    let pre = c .before .before .before .before .before .before .before .before .before .before .before .before .before .before .before .before .before .before .before .pre in
-    let args = c .before .before .before .before .before .before .before .before .before .before .before .before .before .before .before .before .before .before .before .args in
+    let pre = c .before .before .before .before .before .before .before .before .before .before .before .before .before .before .before .before .before .before .pre in
+    let args = c .before .before .before .before .before .before .before .before .before .before .before .before .before .before .before .before .before .before .args in
     let statement-at = c .before .before .before .before .before .before .before .before .before .before .before .before .statement-at .ensures .in-image _ (pre .0 .context .in-scope .laid) in
     let word-2 = c .before .before .before .before .before .before .before .before .before .before .before .word .ensures in
     let if1 = c .before .before .before .before .before .before .before .before .before .before .if1 .left in
     let visit-statement = c .before .before .before .before .before .before .visit-statement .ensures in
-    let plain = plain-in-main _ _ (λ e. if1 (word-2 ∙ ap (word (now (args .image))) statement-at ∙ e)) (pre .1) in
-    (ran-steps (statement-steps _ 0 _ _ _ (plain .facts)) (visit-statement .0), visit-statement .1)
+    (ran-steps (plain-steps _ _ _ _ (λ e. if1 (word-2 ∙ ap (word (now (args .image))) statement-at ∙ e)) (pre .3)) (visit-statement .0), visit-statement .1)
 
 pub visit-main-spec : {M : Type 1} → statement M
 visit-main-spec =

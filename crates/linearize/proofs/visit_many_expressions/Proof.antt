@@ -11,9 +11,9 @@ slice-aggregate-visit-program c = search needs
 
 visit-program-requires : tie.Need-visit-program-requires
 visit-program-requires c κs =
-    let pre = c .before .before .before .before .before .before .before .before .pre in
+    let pre = c .before .before .before .before .before .before .before .pre in
     let laid = pre .start .laid in
-    (pre, no-constants (now (c .before .before .before .before .before .before .before .before .args .image)) 19089 (omega (arith, laid .whole, laid .short)))
+    (pre, no-constants (now (c .before .before .before .before .before .before .before .args .image)) 19089 (omega (arith, laid .whole, laid .short)))
 
 same-length : tie.Need-same-length
 same-length c = search needs

@@ -1,32 +1,28 @@
 -- After i turns of the loop the words hold the first i angles.
 use Prim.Native.Nat.{_-_, _≤_}
 use native.Mathlib.Omega.{arith}
-use mathlib.Core.Path.{_≡_, refl, subst}
+use mathlib.Core.Path.{subst}
 use native.Mathlib.Nat.{le-antisymm}
-use lib.ListN.{length}
 use borrow.Author.Needs.{needs}
 use Rattle.expression.specs.Angles.{AngleWords}
 use Rattle.expression.proofs.AnglesLaws.{angle-words-none, angle-words-next}
-use Rattle.expression.proofs.angle_words.Statement.{statement}
-use Rattle.expression.proofs.angle_words.Tie as tie
+use Rattle.expression.proofs.put_frame_angles.Statement.{statement}
+use Rattle.expression.proofs.put_frame_angles.Tie as tie
 
 abbrev Inv-loop : tie.InvT-loop
-Inv-loop n angles words₀ i₀ words i = (i ≤ n) × (length words ≡ 96) × AngleWords angles i words
+Inv-loop n words₀ angles i₀ words i = (i ≤ n) × AngleWords angles i words
 
 abbrev μ-loop : tie.MeasureT-loop
-μ-loop n angles words₀ i₀ words i = n - i
+μ-loop n words₀ angles i₀ words i = n - i
 
 loop-holds : tie.Need-loop-holds Inv-loop μ-loop
-loop-holds c = (search needs, refl, angle-words-none _ 96)
+loop-holds c = (search needs, angle-words-none _ _ (c .pre .1))
 
 mul-x : tie.Need-mul-x Inv-loop μ-loop
 mul-x c = search needs
 
 array-copy-out-x : tie.Need-array-copy-out-x Inv-loop μ-loop
 array-copy-out-x c = search needs
-
-slice-aggregate-put-value : tie.Need-slice-aggregate-put-value Inv-loop μ-loop
-slice-aggregate-put-value c = search needs
 
 mul-put-value : tie.Need-mul-put-value Inv-loop μ-loop
 mul-put-value c = search needs
@@ -42,19 +38,19 @@ loop-less c = search needs
 
 loop-again : tie.Need-loop-again Inv-loop μ-loop
 loop-again c =
-    let loop-test = c .before .before .before .before .loop-test .taken in
-    let l = c .before .before .before .before .before .loop in
-    let s = c .before .before .before .before .before .before in
-    (omega (arith, loop-test), omega (arith, l .inv .1, c .words2 .given), angle-words-next (s .args .t1) (l .words) _ (l .i) _ (omega (arith, loop-test, s .pre .few)) (omega (arith, loop-test, s .pre .few, l .inv .1)) (s .pre .sound) (l .inv .2) (c .before .put-value .ensures))
+    let loop-test = c .before .before .before .loop-test .taken in
+    let l = c .before .before .before .before .loop in
+    let s = c .before .before .before .before .before in
+    (omega (arith, loop-test), angle-words-next (s .args .t1) (l .words) _ (l .i) _ (omega (arith, loop-test, s .pre .0 .few)) (omega (arith, loop-test, s .pre .0 .few, c .before .put-value-arg .given)) (s .pre .0 .sound) (l .inv .1) (c .put-value .ensures))
 
 returns : tie.Need-returns Inv-loop μ-loop
 returns c =
     let l = c .before .loop in
     let s = c .before .before in
-    subst (λ k. AngleWords (s .args .t1) k (l .words)) (le-antisymm (l .inv .0) (omega (arith, c .loop-test .left))) (l .inv .2)
+    subst (λ k. AngleWords (s .args .t1) k (l .words)) (le-antisymm (l .inv .0) (omega (arith, c .loop-test .left))) (l .inv .1)
 
-pub angle-words-spec : {M : Type 1} → statement M
-angle-words-spec =
+pub put-frame-angles-spec : {M : Type 1} → statement M
+put-frame-angles-spec =
     tie.close
     (tie.spec
     Inv-loop
@@ -62,7 +58,6 @@ angle-words-spec =
     loop-holds
     mul-x
     array-copy-out-x
-    slice-aggregate-put-value
     mul-put-value
     put-value-requires
     add-i
