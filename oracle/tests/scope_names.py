@@ -4,7 +4,7 @@
 
 Names in backquotes must be defined in a crate, as a function, a type, a definition or a law; `proofs/X` and `specs/X` must
 be files of a crate; crate/label must be a must-fail edit; and a stored file of vectors must be in crates/vectors/data.
-The Rust's own words, and those of the kit, are listed here. Prints what is not found, and ends with 1 if anything is not.
+Words of the Rust, of the kit and of the command line are listed here. Prints what is not found, and ends with 1 if anything is not.
 """
 import os
 import re
@@ -12,7 +12,7 @@ import sys
 
 ROOT = os.path.dirname(os.path.dirname(os.path.dirname(os.path.abspath(__file__))))
 CRATES = os.path.join(ROOT, "crates")
-OTHERS = {"Box", "requires"}
+OTHERS = {"Box", "requires", "rt", "ci", "cowhirame"}
 NAME = re.compile(r"[A-Za-z_][\w·′]*(?:-[\w·′]+)*")
 DEFINED = re.compile(
     r"\b(?:fn|struct|enum|const|record|data|mod) +([A-Za-z_][^\s:(;{]*)"
