@@ -5,9 +5,11 @@ use lib.ListN.{length}
 use Rattle.image.specs.declared.Layout.{Layout}
 use Rattle.model.specs.Limits.{mostGates}
 use Rattle.record_writer.specs.declared.Position.{Position}
-use Rattle.record_writer.specs.Promise.{InOutput}
+use Rattle.record_writer.specs.Promise.{InOutput, SoundAngles}
+use Rattle.expression.specs.Angles.{anglesIn}
 use Rattle.expression.specs.KeptValues.{ConstantsKept}
 use Rattle.argument.specs.Frames.{ScopeContext, BitContext}
+use Rattle.statement.specs.declared.Site.{Site}
 
 -- the calls that may nest in a scope: each goes to a gate of smaller number
 abbrev pub nested : ℕ → ℕ
@@ -34,3 +36,9 @@ pub record RunContext (image : List ℕ) (l : Layout) (register-starts kept-valu
 -- the trace has room for n calls behind those that are on the stack
 abbrev pub TraceRoom : Position → ℕ → Type 0
 TraceRoom at n = at .trace + 2 * n ≤ mostTraceWords
+
+-- where the statement of a site is run, with the angles that its frame has: the trace has room for every call that may nest in its scope
+pub record SiteContext (image : List ℕ) (l : Layout) (register-starts kept-values angles qubits : List ℕ) (site : Site) (out trace : List ℕ) (at : Position) : Type 0 where
+  pub run : RunContext image l register-starts kept-values (site .scope) qubits out trace at
+  pub room : TraceRoom at (nested (site .scope))
+  pub sound : SoundAngles (anglesIn angles)

@@ -19,7 +19,7 @@ ghost use Rattle.expression.specs.Angles.{anglesIn};
 ghost use Rattle.expression.specs.KeptValues.{ConstantsKept};
 ghost use Rattle.argument.specs.Frames.{scopeFrame};
 ghost use Rattle.statement.specs.Statements.{callRounds};
-ghost use Rattle.gate.specs.RunContext.{nested, StatementContext, RunContext, TraceRoom};
+ghost use Rattle.gate.specs.RunContext.{nested, StatementContext, RunContext, TraceRoom, SiteContext};
 ghost use Rattle.gate.specs.PlainStatement.{PlainStatement, IsCall};
 ghost use Rattle.gate.specs.RanSteps.{RanSteps, statementSteps, openedSteps, Popped};
 ghost use Rattle.gate.specs.CallStatement.{callOf, CallStatement, OpenedCall, callSteps, openedRound};
@@ -188,9 +188,7 @@ pub fn visit_statement(
     at: Position,
 ) -> Linearized
     requires { ⌜
-        RunContext (now image) l (now «register_starts») (now «kept_values») (site .scope) (now qubits) (now out) (now trace) at
-        × TraceRoom at (nested (site .scope))
-        × SoundAngles (anglesIn (now angles))
+        SiteContext (now image) l (now «register_starts») (now «kept_values») (now angles) (now qubits) site (now out) (now trace) at
         × PlainStatement (now image) l site
         ⌝ }
     ensures { λ r. ⌜
@@ -240,9 +238,7 @@ fn visit_call(
     at: Position,
 ) -> Linearized
     requires { ⌜
-        RunContext (now image) l (now «register_starts») (now «kept_values») (site .scope) (now qubits) (now out) (now trace) at
-        × TraceRoom at (nested (site .scope))
-        × SoundAngles (anglesIn (now angles))
+        SiteContext (now image) l (now «register_starts») (now «kept_values») (now angles) (now qubits) site (now out) (now trace) at
         × PlainStatement (now image) l site
         × IsCall (now image) site
         ⌝ }

@@ -12,9 +12,7 @@ ghost use lib.ListN.{length};
 ghost use Rattle.model.specs.Steps.{steps};
 ghost use Rattle.image_check.specs.Statements.{fewExpressions};
 ghost use Rattle.expression.specs.KeptValues.{ConstantsKept};
-ghost use Rattle.record_writer.specs.Promise.{SoundAngles};
-ghost use Rattle.expression.specs.Angles.{anglesIn};
-ghost use Rattle.gate.specs.RunContext.{nested, RunContext, TraceRoom};
+ghost use Rattle.gate.specs.RunContext.{SiteContext};
 ghost use Rattle.gate.specs.PlainStatement.{PlainStatement};
 ghost use Rattle.gate.specs.RanSteps.{RanSteps};
 ghost use Rattle.linearize.specs.MainContext.{fewRegisters, StartContext, MainContext};
@@ -55,9 +53,7 @@ fn visit_inner_statement(
     at: Position,
 ) -> Linearized
     requires { ⌜
-        RunContext (now image) l (now «register_starts») (now «kept_values») (site .scope) (now qubits) (now out) (now trace) at
-        × TraceRoom at (nested (site .scope))
-        × SoundAngles (anglesIn (now angles))
+        SiteContext (now image) l (now «register_starts») (now «kept_values») (now angles) (now qubits) site (now out) (now trace) at
         × PlainStatement (now image) l site
         ⌝ }
     ensures { λ r. ⌜
@@ -97,9 +93,7 @@ fn visit_conditional(
     at: Position,
 ) -> Linearized
     requires { ⌜
-        RunContext (now image) l (now «register_starts») (now «kept_values») (site .scope) (now qubits) (now out) (now trace) at
-        × TraceRoom at (nested (site .scope))
-        × SoundAngles (anglesIn (now angles))
+        SiteContext (now image) l (now «register_starts») (now «kept_values») (now angles) (now qubits) site (now out) (now trace) at
         × MainStatement (now image) l site
         × IsConditional (now image) site
         ⌝ }
@@ -151,9 +145,7 @@ fn visit_main(
     at: Position,
 ) -> Linearized
     requires { ⌜
-        RunContext (now image) l (now «register_starts») (now «kept_values») (site .scope) (now qubits) (now out) (now trace) at
-        × TraceRoom at (nested (site .scope))
-        × SoundAngles (anglesIn (now angles))
+        SiteContext (now image) l (now «register_starts») (now «kept_values») (now angles) (now qubits) site (now out) (now trace) at
         × MainStatement (now image) l site
         ⌝ }
     ensures { λ r. ⌜

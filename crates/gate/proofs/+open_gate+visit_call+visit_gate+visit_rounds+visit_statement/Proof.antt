@@ -188,7 +188,7 @@ open-gate-visit-statement-requires t c κs =
     let pre = s .pre .1 in
     let loop = c .before .before .before .before .before .before .before .before .before .loop .inv in
     let body = c .before .before .before .before .before .before .before .before .before .before .statements-of .ensures in
-    rw (c .before .before .before .before .before .body-site .ensures) (rw (add-one (s .args .call .gate)) (omega (arith, s .pre .0)), (context-in-body (context-on (pre .0) (loop .0) (loop .1) (loop .2)), rw (add-one (s .args .call .gate)) (omega (arith, pre .1, loop .0 .level)), c .before .before .before .before .before .before .before .before .before .before .before .before .put-frame-angles .ensures .sound, statement-in-body (pre .0) (pre .3 .is-call .gate-listed) body (c .before .before .before .before .before .before .before .if1 .taken) _))
+    rw (c .before .before .before .before .before .body-site .ensures) (rw (add-one (s .args .call .gate)) (omega (arith, s .pre .0)), (record { run = context-in-body (context-on (pre .0) (loop .0) (loop .1) (loop .2)); room = rw (add-one (s .args .call .gate)) (omega (arith, pre .1, loop .0 .level)); sound = c .before .before .before .before .before .before .before .before .before .before .before .before .put-frame-angles .ensures .sound }, statement-in-body (pre .0) (pre .3 .is-call .gate-listed) body (c .before .before .before .before .before .before .before .if1 .taken) _))
 
 open-gate-enum-known-next : (t : ℕ) → open-gate-lts.Need-enum-known-next (open-gate-callees t) (open-gate-at t) open-gate.Post open-gate-Inv-loop open-gate-μ-loop
 open-gate-enum-known-next t c = search needs
@@ -264,14 +264,14 @@ visit-call-call-at-requires : (t : ℕ) → visit-call-lts.Need-call-at-requires
 visit-call-call-at-requires t c κs =
     let s = c .before .before .before .before .before in
     let pre = s .pre .1 in
-    let k = known-gate (s .args .site) (pre .0 .context .in-scope) (pre .4) (pre .3) in
-    (pre .0 .context .in-scope .laid, pre .3 .listed, k .0, k .1)
+    let k = known-gate (s .args .site) (pre .0 .run .context .in-scope) (pre .2) (pre .1) in
+    (pre .0 .run .context .in-scope .laid, pre .1 .listed, k .0, k .1)
 
 visit-call-parameter-values-requires : (t : ℕ) → visit-call-lts.Need-parameter-values-requires (visit-call-callees t) (visit-call-at t) visit-call.Post
 visit-call-parameter-values-requires t c κs =
     let s = c .before .before .before .before .before .before .before in
     let pre = s .pre .1 in
-    (with-angles (pre .0 .context) (pre .2), named _ _ (anglesIn (now (s .args .angles))) (named-listed (s .args .site) (pre .0 .context .in-scope) (pre .4) (pre .3) (c .before .call-at .ensures)))
+    (with-angles (pre .0 .run .context) (pre .0 .sound), named _ _ (anglesIn (now (s .args .angles))) (named-listed (s .args .site) (pre .0 .run .context .in-scope) (pre .2) (pre .1) (c .before .call-at .ensures)))
 
 visit-call-enum-known-answer : (t : ℕ) → visit-call-lts.Need-enum-known-answer (visit-call-callees t) (visit-call-at t) visit-call.Post
 visit-call-enum-known-answer t c = search needs
@@ -282,9 +282,9 @@ visit-call-visit-gate-requires t c κs =
     let pre = s .pre .1 in
     let given = c .before .before .before .before .before .before .before .before .before .parameter-values .ensures in
     let ends = rw (c .before .before .before .before .answer .given .1) at (given .0 .ends) in
-    let st = pre .0 .context .in-scope in
-    let call = calls (s .args .site) st (pre .4) (pre .3) refl in
-    rw (c .before .before .before .before .before .before .before .before .before .before .before .call-at .ensures, ends .0) (omega (arith, s .pre .0), (context-kept (pre .0) (given .1) (pre .0 .context .in-output), pre .1, record { sound = given .0 .sound; few = call .few-parameters }, call))
+    let st = pre .0 .run .context .in-scope in
+    let call = calls (s .args .site) st (pre .2) (pre .1) refl in
+    rw (c .before .before .before .before .before .before .before .before .before .before .before .call-at .ensures, ends .0) (omega (arith, s .pre .0), (context-kept (pre .0 .run) (given .1) (pre .0 .run .context .in-output), pre .0 .room, record { sound = given .0 .sound; few = call .few-parameters }, call))
 
 visit-call-enum-known-answer-2 : (t : ℕ) → visit-call-lts.Need-enum-known-answer-2 (visit-call-callees t) (visit-call-at t) visit-call.Post
 visit-call-enum-known-answer-2 t c = search needs
@@ -304,10 +304,10 @@ visit-call-returns t c =
     let pre = s .pre .1 in
     let given = c .before .before .before .before .before .before .before .before .before .before .before .before .before .before .before .before .parameter-values .ensures in
     let ends = rw (c .before .before .before .before .before .before .before .before .before .before .before .answer .given .1) at (given .0 .ends) in
-    let st = pre .0 .context .in-scope in
+    let st = pre .0 .run .context .in-scope in
     let e = c .before .before .before .before .before .before .before .before .before .before .before .before .before .before .before .before .before .before .call-at .ensures in
     let v = c .before .before .before .before .before .before .visit-gate .ensures in
-    (ran-steps (gate-given (s .args .site) st (pre .4) e (anglesIn (now (s .args .angles))) (named-listed (s .args .site) st (pre .4) (pre .3) e) (ends .1)) (rw (ends .0) at (v .0)), v .1)
+    (ran-steps (gate-given (s .args .site) st (pre .2) e (anglesIn (now (s .args .angles))) (named-listed (s .args .site) st (pre .2) (pre .1) e) (ends .1)) (rw (ends .0) at (v .0)), v .1)
 
 visit-call-same-length-4 : (t : ℕ) → visit-call-lts.Need-same-length-4 (visit-call-callees t) (visit-call-at t) visit-call.Post
 visit-call-same-length-4 t c = omega (arith, c .before .before .before .before .before .kept-values .given)
@@ -318,9 +318,9 @@ visit-call-returns-2 t c =
     let pre = s .pre .1 in
     let given = c .before .before .before .before .before .before .parameter-values .ensures in
     let ends = rw (c .before .answer2 .given .1) at (given .0 .ends) in
-    let st = pre .0 .context .in-scope in
+    let st = pre .0 .run .context .in-scope in
     let e = c .before .before .before .before .before .before .before .before .call-at .ensures in
-    (ran-steps (gate-refused (s .args .site) st (pre .4) e (anglesIn (now (s .args .angles))) (named-listed (s .args .site) st (pre .4) (pre .3) e) (ends .1 .1)) (wrote-ran _ (refuses _ _ (ends .0) (ends .1 .2) (pre .0 .context .in-output))), given .1)
+    (ran-steps (gate-refused (s .args .site) st (pre .2) e (anglesIn (now (s .args .angles))) (named-listed (s .args .site) st (pre .2) (pre .1) e) (ends .1 .1)) (wrote-ran _ (refuses _ _ (ends .0) (ends .1 .2) (pre .0 .run .context .in-output))), given .1)
 
 visit-gate-visit-opaque-requires : (t : ℕ) → visit-gate-lts.Need-visit-opaque-requires (visit-gate-callees t) (visit-gate-at t) visit-gate.Post
 visit-gate-visit-opaque-requires t c κs =
@@ -489,8 +489,8 @@ visit-rounds-returns-2 t c = (ran-still (c .before .loop .inv .1) (ran-done _ _ 
 visit-statement-statement-at-requires : (t : ℕ) → visit-statement-lts.Need-statement-at-requires (visit-statement-callees t) (visit-statement-at t) visit-statement.Post
 visit-statement-statement-at-requires t c κs =
     let s = c .before .before .before .before .before in
-    let laid = s .pre .1 .0 .context .in-scope .laid in
-    (laid .limits, omega (arith, s .pre .1 .3 .listed, laid .statements-is, laid .whole, laid .short))
+    let laid = s .pre .1 .0 .run .context .in-scope .laid in
+    (laid .limits, omega (arith, s .pre .1 .1 .listed, laid .statements-is, laid .whole, laid .short))
 
 visit-statement-word-requires : (t : ℕ) → visit-statement-lts.Need-word-requires (visit-statement-callees t) (visit-statement-at t) visit-statement.Post
 visit-statement-word-requires t c κs = tt
@@ -499,8 +499,8 @@ visit-statement-visit-call-requires : (t : ℕ) → visit-statement-lts.Need-vis
 visit-statement-visit-call-requires t c κs =
     let s = c .before .before .before .before .before .before .before .before .before .before .before in
     let pre = s .pre .1 in
-    let at = c .before .before .before .before .before .statement-at .ensures .in-image _ (pre .0 .context .in-scope .laid) in
-    (omega (arith, s .pre .0), (pre .0, pre .1, pre .2, pre .3, kind-read (now (s .args .image)) (s .args .site .statement) at (c .before .before .before .before .word .ensures) (c .before .before .before .if1 .taken)))
+    let at = c .before .before .before .before .before .statement-at .ensures .in-image _ (pre .0 .run .context .in-scope .laid) in
+    (omega (arith, s .pre .0), (pre .0, pre .1, kind-read (now (s .args .image)) (s .args .site .statement) at (c .before .before .before .before .word .ensures) (c .before .before .before .if1 .taken)))
 
 visit-statement-same-length : (t : ℕ) → visit-statement-lts.Need-same-length (visit-statement-callees t) (visit-statement-at t) visit-statement.Post
 visit-statement-same-length t c = omega (arith, c .before .before .before .before .before .kept-values .given)
@@ -519,8 +519,8 @@ visit-statement-visit-primitive-requires :
 visit-statement-visit-primitive-requires t c κs =
     let s = c .before .before .before .before .before .before .before .before .before .before in
     let pre = s .pre .1 in
-    let at = c .before .before .before .before .statement-at .ensures .in-image _ (pre .0 .context .in-scope .laid) in
-    (pre .0 .context, pre .2, pre .3, λ e. c .before .before .if1 .left (c .before .before .before .word .ensures ∙ ap (word (now (s .args .image))) at ∙ e))
+    let at = c .before .before .before .before .statement-at .ensures .in-image _ (pre .0 .run .context .in-scope .laid) in
+    (pre .0 .run .context, pre .0 .sound, pre .1, λ e. c .before .before .if1 .left (c .before .before .before .word .ensures ∙ ap (word (now (s .args .image))) at ∙ e))
 
 visit-statement-same-length-4 : (t : ℕ) → visit-statement-lts.Need-same-length-4 (visit-statement-callees t) (visit-statement-at t) visit-statement.Post
 visit-statement-same-length-4 t c = omega (arith, c .before .before .before .kept-values2 .given)

@@ -22,7 +22,7 @@ classical-register-at-requires : tie.Need-classical-register-at-requires
 classical-register-at-requires c κs =
     let s = c .before .before .before .before .before .before .before in
     let pre = s .pre in
-    (pre .0 .context .in-scope .laid .limits, omega (arith, register-listed _ _ (pre .0 .context .with-bits) (pre .4) (pre .3) (c .before .statement-at .ensures .in-image _ (pre .0 .context .in-scope .laid)) (c .word .ensures) refl refl))
+    (pre .0 .run .context .in-scope .laid .limits, omega (arith, register-listed _ _ (pre .0 .run .context .with-bits) (pre .2) (pre .1) (c .before .statement-at .ensures .in-image _ (pre .0 .run .context .in-scope .laid)) (c .word .ensures) refl refl))
 
 word-requires-2 : tie.Need-word-requires-2
 word-requires-2 c κs = search needs
@@ -30,21 +30,21 @@ word-requires-2 c κs = search needs
 add-first : tie.Need-add-first
 add-first c =
     let pre = c .before .before .before .before .before .before .before .before .before .before .pre in
-    let laid = pre .0 .context .in-scope .laid in
-    let listed = register-listed _ _ (pre .0 .context .with-bits) (pre .4) (pre .3) (c .before .before .before .before .statement-at .ensures .in-image _ (pre .0 .context .in-scope .laid)) (c .before .before .before .word .ensures) refl refl in
+    let laid = pre .0 .run .context .in-scope .laid in
+    let listed = register-listed _ _ (pre .0 .run .context .with-bits) (pre .2) (pre .1) (c .before .before .before .before .statement-at .ensures .in-image _ (pre .0 .run .context .in-scope .laid)) (c .before .before .before .word .ensures) refl refl in
     record { fits = omega (arith, listed, laid .quantum-registers-is, laid .whole, laid .short) }
 
 mul-first : tie.Need-mul-first
 mul-first c =
     let pre = c .before .before .before .before .before .before .before .before .before .before .pre in
-    let laid = pre .0 .context .in-scope .laid in
-    let listed = register-listed _ _ (pre .0 .context .with-bits) (pre .4) (pre .3) (c .before .before .before .before .statement-at .ensures .in-image _ (pre .0 .context .in-scope .laid)) (c .before .before .before .word .ensures) refl refl in
+    let laid = pre .0 .run .context .in-scope .laid in
+    let listed = register-listed _ _ (pre .0 .run .context .with-bits) (pre .2) (pre .1) (c .before .before .before .before .statement-at .ensures .in-image _ (pre .0 .run .context .in-scope .laid)) (c .before .before .before .word .ensures) refl refl in
     record { fits = omega (arith, listed, laid .quantum-registers-is, laid .whole, laid .short) }
 
 shared-slice-read-first : tie.Need-shared-slice-read-first
 shared-slice-read-first c =
     let pre = c .before .before .before .before .before .before .before .before .before .before .before .pre in
-    register-in-table _ _ (pre .0 .context .with-bits) (pre .4) (pre .3) (c .before .before .before .before .before .statement-at .ensures .in-image _ (pre .0 .context .in-scope .laid)) (c .before .before .before .before .word .ensures) refl refl
+    register-in-table _ _ (pre .0 .run .context .with-bits) (pre .2) (pre .1) (c .before .before .before .before .before .statement-at .ensures .in-image _ (pre .0 .run .context .in-scope .laid)) (c .before .before .before .before .word .ensures) refl refl
 
 add-word-2 : tie.Need-add-word-2
 add-word-2 c = search needs
@@ -62,7 +62,7 @@ word-requires-4 : tie.Need-word-requires-4
 word-requires-4 c κs = search needs
 
 write-conditional-start-requires : tie.Need-write-conditional-start-requires
-write-conditional-start-requires c κs = search needs
+write-conditional-start-requires c κs = c .before .before .before .before .before .before .before .before .before .before .before .before .before .before .before .pre .0 .run .context .in-output
 
 enum-known-next : tie.Need-enum-known-next
 enum-known-next c = search needs
@@ -71,14 +71,14 @@ visit-inner-statement-requires : tie.Need-visit-inner-statement-requires
 visit-inner-statement-requires c κs =
     let s = c .before .before .before .before .before .before .before .before .before .before .before .before .before .before .before .before .before .before .before .before .before .before .before .before in
     let pre = s .pre in
-    let bits = pre .0 .context .with-bits in
-    let at = c .before .before .before .before .before .before .before .before .before .before .before .before .before .before .before .before .before .before .statement-at .ensures .in-image _ (pre .0 .context .in-scope .laid) in
+    let bits = pre .0 .run .context .with-bits in
+    let at = c .before .before .before .before .before .before .before .before .before .before .before .before .before .before .before .before .before .before .statement-at .ensures .in-image _ (pre .0 .run .context .in-scope .laid) in
     let start = c .before .before .before .before .before .before .before .before .write-conditional-start .ensures in
     let site = c .before .before .before .before .before .before .before .before .before .before .before .main-site .ensures in
-    let inner = inner-listed _ _ bits (pre .4) (pre .3) at refl refl (c .before .before .before .before .before .before .before .before .before .before .before .before .word3 .ensures) _ site in
-    let here = rw (pre .3 .in-main) at (context-wrote (pre .0) start (c .before .before .before .before .next .given .1)) in
-    let room = rw (pre .3 .in-main) at (pre .1) in
-    (rw site here, rw site (room-wrote mostGates room start (c .before .before .before .before .next .given .1)), pre .2, inner)
+    let inner = inner-listed _ _ bits (pre .2) (pre .1) at refl refl (c .before .before .before .before .before .before .before .before .before .before .before .before .word3 .ensures) _ site in
+    let here = rw (pre .1 .in-main) at (context-wrote (pre .0 .run) start (c .before .before .before .before .next .given .1)) in
+    let room = rw (pre .1 .in-main) at (pre .0 .room) in
+    (record { run = rw site here; room = rw site (room-wrote mostGates room start (c .before .before .before .before .next .given .1)); sound = pre .0 .sound }, inner)
 
 enum-known-e : tie.Need-enum-known-e
 enum-known-e c = search needs
@@ -96,10 +96,10 @@ returns : tie.Need-returns
 returns c =
     let s = c .before .before .before .before .before .before .before .before .before .before .before .before .before .before .before .before .before .before .before .before .before .before .before .before .before .before .before .before .before .before .before in
     let pre = s .pre in
-    let laid = pre .0 .context .in-scope .laid in
+    let laid = pre .0 .run .context .in-scope .laid in
     let at = c .before .before .before .before .before .before .before .before .before .before .before .before .before .before .before .before .before .before .before .before .before .before .before .before .before .statement-at .ensures .in-image _ laid in
     let v = c .before .before .before .before .before .before .visit-inner-statement .ensures in (
-      ran-steps (conditional-steps _ _ (pre .0 .context .with-bits) (pre .4) (pre .3) at (c .before .before .before .before .before .before .before .before .before .before .before .before .before .before .before .before .before .before .before .before .before .before .before .before .word .ensures) (c .before .before .before .before .before .before .before .before .before .before .before .before .before .before .before .before .word4 .ensures) (c .before .before .before .before .before .before .before .before .before .before .before .before .before .before .before .before .before .before .before .word3 .ensures) (c .before .before .before .before .before .before .before .before .before .before .before .before .before .before .before .before .before .before .main-site .ensures) _ _ refl (c .before .before .before .before .before .before .before .before .before .before .before .before .before .before .before .before .before .before .before .before .before .before .word2 .ensures) (c .before .before .before .before .before .before .before .before .before .before .before .before .before .before .before .before .before .before .before .before .before .before .before .classical-register-at .ensures .in-image _ laid))
+      ran-steps (conditional-steps _ _ (pre .0 .run .context .with-bits) (pre .2) (pre .1) at (c .before .before .before .before .before .before .before .before .before .before .before .before .before .before .before .before .before .before .before .before .before .before .before .before .word .ensures) (c .before .before .before .before .before .before .before .before .before .before .before .before .before .before .before .before .word4 .ensures) (c .before .before .before .before .before .before .before .before .before .before .before .before .before .before .before .before .before .before .before .word3 .ensures) (c .before .before .before .before .before .before .before .before .before .before .before .before .before .before .before .before .before .before .main-site .ensures) _ _ refl (c .before .before .before .before .before .before .before .before .before .before .before .before .before .before .before .before .before .before .before .before .before .before .word2 .ensures) (c .before .before .before .before .before .before .before .before .before .before .before .before .before .before .before .before .before .before .before .before .before .before .before .classical-register-at .ensures .in-image _ laid))
           (wrote-then (c .before .before .before .before .before .before .before .before .before .before .before .before .before .before .before .write-conditional-start .ensures) (c .before .before .before .before .before .before .before .before .before .before .before .next .given .1) (v .0)),
       v .1,
     )
@@ -111,11 +111,11 @@ returns-2 : tie.Need-returns-2
 returns-2 c =
     let s = c .before .before .before .before .before .before .before .before .before .before .before .before .before .before .before .before .before .before .before .before .before in
     let pre = s .pre in
-    let laid = pre .0 .context .in-scope .laid in
+    let laid = pre .0 .run .context .in-scope .laid in
     let at = c .before .before .before .before .before .before .before .before .before .before .before .before .before .before .before .statement-at .ensures .in-image _ laid in (
-      ran-steps (conditional-steps _ _ (pre .0 .context .with-bits) (pre .4) (pre .3) at (c .before .before .before .before .before .before .before .before .before .before .before .before .before .before .word .ensures) (c .before .before .before .before .before .before .word4 .ensures) (c .before .before .before .before .before .before .before .before .before .word3 .ensures) (c .before .before .before .before .before .before .before .before .main-site .ensures) _ _ refl (c .before .before .before .before .before .before .before .before .before .before .before .before .word2 .ensures) (c .before .before .before .before .before .before .before .before .before .before .before .before .before .classical-register-at .ensures .in-image _ laid))
+      ran-steps (conditional-steps _ _ (pre .0 .run .context .with-bits) (pre .2) (pre .1) at (c .before .before .before .before .before .before .before .before .before .before .before .before .before .before .word .ensures) (c .before .before .before .before .before .before .word4 .ensures) (c .before .before .before .before .before .before .before .before .before .word3 .ensures) (c .before .before .before .before .before .before .before .before .main-site .ensures) _ _ refl (c .before .before .before .before .before .before .before .before .before .before .before .before .word2 .ensures) (c .before .before .before .before .before .before .before .before .before .before .before .before .before .classical-register-at .ensures .in-image _ laid))
           (wrote-stops _ _ (c .before .before .before .before .before .write-conditional-start .ensures) (c .before .e .given .1)),
-      pre .0 .context .constants,
+      pre .0 .run .context .constants,
     )
 
 pub visit-conditional-spec : {M : Type 1} → statement M

@@ -15,7 +15,7 @@ write-conditional-end-requires : tie.Need-write-conditional-end-requires
 write-conditional-end-requires c κs =
     let pre = c .before .before .before .before .before .before .before .before .before .before .before .before .before .before .before .before .before .before .before .pre in
     let visit-statement = c .before .before .before .before .before .before .before .before .before .before .visit-statement .ensures in
-    ran-open (pre .0 .context .in-output) (visit-statement .0) (c .before .before .next .given .1)
+    ran-open (pre .0 .run .context .in-output) (visit-statement .0) (c .before .before .next .given .1)
 
 enum-known-e : tie.Need-enum-known-e
 enum-known-e c = search needs

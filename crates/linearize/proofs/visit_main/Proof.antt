@@ -19,7 +19,7 @@ visit-conditional-requires : tie.Need-visit-conditional-requires
 visit-conditional-requires c κs =
     let pre = c .before .before .before .before .before .before .before .before .before .before .before .pre in
     let args = c .before .before .before .before .before .before .before .before .before .before .before .args in
-    (pre .0, pre .1, pre .2, pre .3, kind-read (now (args .image)) (args .site .statement) (c .before .before .before .before .before .statement-at .ensures .in-image _ (pre .0 .context .in-scope .laid)) (c .before .before .before .before .word .ensures) (c .before .before .before .if1 .taken))
+    (pre .0, pre .1, kind-read (now (args .image)) (args .site .statement) (c .before .before .before .before .before .statement-at .ensures .in-image _ (pre .0 .run .context .in-scope .laid)) (c .before .before .before .before .word .ensures) (c .before .before .before .if1 .taken))
 
 same-length : tie.Need-same-length
 same-length c = search needs
@@ -37,7 +37,7 @@ visit-statement-requires : tie.Need-visit-statement-requires
 visit-statement-requires c κs =
     let pre = c .before .before .before .before .before .before .before .before .before .before .before .pre in
     let args = c .before .before .before .before .before .before .before .before .before .before .before .args in
-    (pre .0, pre .1, pre .2, plain-in-main _ _ (λ e. c .before .before .before .if1 .left (c .before .before .before .before .word .ensures ∙ ap (word (now (args .image))) (c .before .before .before .before .before .statement-at .ensures .in-image _ (pre .0 .context .in-scope .laid)) ∙ e)) (pre .3))
+    (pre .0, plain-in-main _ _ (λ e. c .before .before .before .if1 .left (c .before .before .before .before .word .ensures ∙ ap (word (now (args .image))) (c .before .before .before .before .before .statement-at .ensures .in-image _ (pre .0 .run .context .in-scope .laid)) ∙ e)) (pre .1))
 
 same-length-4 : tie.Need-same-length-4
 same-length-4 c = search needs
@@ -52,11 +52,11 @@ returns-2 : tie.Need-returns-2
 returns-2 c =
     let pre = c .before .before .before .before .before .before .before .before .before .before .before .before .before .before .before .before .before .before .pre in
     let args = c .before .before .before .before .before .before .before .before .before .before .before .before .before .before .before .before .before .before .args in
-    let statement-at = c .before .before .before .before .before .before .before .before .before .before .before .before .statement-at .ensures .in-image _ (pre .0 .context .in-scope .laid) in
+    let statement-at = c .before .before .before .before .before .before .before .before .before .before .before .before .statement-at .ensures .in-image _ (pre .0 .run .context .in-scope .laid) in
     let word-2 = c .before .before .before .before .before .before .before .before .before .before .before .word .ensures in
     let if1 = c .before .before .before .before .before .before .before .before .before .before .if1 .left in
     let visit-statement = c .before .before .before .before .before .before .visit-statement .ensures in
-    (ran-steps (plain-steps _ _ _ _ (λ e. if1 (word-2 ∙ ap (word (now (args .image))) statement-at ∙ e)) (pre .3)) (visit-statement .0), visit-statement .1)
+    (ran-steps (plain-steps _ _ _ _ (λ e. if1 (word-2 ∙ ap (word (now (args .image))) statement-at ∙ e)) (pre .1)) (visit-statement .0), visit-statement .1)
 
 pub visit-main-spec : {M : Type 1} → statement M
 visit-main-spec =

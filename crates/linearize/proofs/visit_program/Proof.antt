@@ -34,7 +34,7 @@ visit-main-requires : tie.Need-visit-main-requires Inv-loop μ-loop
 visit-main-requires c κs =
     let pre = c .before .before .before .before .before .before .before .before .before .before .before .before .before .pre in
     let loop = c .before .before .before .before .before .before .before .loop .inv in
-    rw (c .before .before .main-site .ensures) (context-on (main-context (pre .0) (pre .1) refl) (loop .0) (loop .1) (loop .2), omega (arith, pre .0 .start .no-calls, loop .0 .level), zeros-sound 96, main-statement (pre .0) (c .before .before .before .before .before .before .loop-test .taken))
+    rw (c .before .before .main-site .ensures) (record { run = context-on (main-context (pre .0) (pre .1) refl) (loop .0) (loop .1) (loop .2); room = omega (arith, pre .0 .start .no-calls, loop .0 .level); sound = zeros-sound 96 }, main-statement (pre .0) (c .before .before .before .before .before .before .loop-test .taken))
 
 enum-known-next : tie.Need-enum-known-next Inv-loop μ-loop
 enum-known-next c = search needs
