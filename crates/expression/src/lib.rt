@@ -266,7 +266,22 @@ fn evaluate(
     keep_evaluation(image, l, known, kept_values, e, binary(kind, x, y))
 }
 
-// The angle of an expression where no value is known but those of constants. A parameter alone is read straight away.
+// The angle of an expression that is worked out entry by entry, where no value is known but those of constants.
+fn evaluate_entries(
+    image: &[u64],
+    l: Layout,
+    angles: &[u64; FRAME_ANGLE_WORDS],
+    kept_values: &mut [u64],
+    e: u64,
+) -> Evaluation
+    requires { ⌜ AngleContext (now image) l (anglesIn (now angles)) (now «kept_values») × AcceptedExpression (now image) e ⌝ }
+    ensures { λ r. ⌜ EvaluatesTo (evaluate (now (image .entry)) (anglesIn (now (angles .entry))) mostLevels e) r × ConstantsKept (now (image .entry)) (now («kept_values» .exit)) ⌝ }
+{
+    let mut known = [false; image::MOST_EXPRESSIONS];
+    evaluate(image, l, angles, &mut known, kept_values, e)
+}
+
+// The angle of an expression where no value is known but those of constants. A constant, and a parameter alone, are read straight away.
 pub fn evaluate_anew(
     image: &[u64],
     l: Layout,
@@ -284,8 +299,7 @@ pub fn evaluate_anew(
     if image::word(image, at) == 3 {
         return nullary(angles, 3, image::word(image, at + 1));
     }
-    let mut known = [false; image::MOST_EXPRESSIONS];
-    evaluate(image, l, angles, &mut known, kept_values, e)
+    evaluate_entries(image, l, angles, kept_values, e)
 }
 
 // ---- the parameters of a call

@@ -2,7 +2,7 @@
 use Prim.Native.Nat.{ℕ, suc, _+_, _-_, _*_, _^_, _≤_, _<_}
 use native.Mathlib.Numerals.{add-one, add-two}
 use native.Mathlib.Omega.{arith}
-use mathlib.Core.Path.{_≡_, refl, sym, _∙_}
+use mathlib.Core.Path.{_≡_, refl, sym, ap, _∙_}
 use mathlib.Core.Bool.{true, cond}
 use mathlib.Core.List.{List, [], _∷_, _++_, flatMap, append-nil}
 use lib.ListN.{length, set, take, getD, replicate, length-append}
@@ -53,6 +53,15 @@ pub u-words : (theta phi lambda : Value) (qubit : ℕ) {a b c : List ℕ} → a 
     → encode (Record.U theta phi lambda qubit) ≡ set c 13 qubit
 unfolding encode kind fields angleWords fractionWords
 u-words theta phi lambda qubit e f g = rw (g, f, e) refl
+
+-- a U has 14 words
+pub u-long : (theta phi lambda : Value) (qubit : ℕ) → 14 ≡ length (encode (Record.U theta phi lambda qubit))
+unfolding encode kind fields angleWords fractionWords
+u-long theta phi lambda qubit = refl
+
+pub u-length : (theta phi lambda : Value) (qubit : ℕ) {a b c : List ℕ} → a ≡ sets (set (replicate 14 0) 0 1) 1 (angleWords theta) → b ≡ sets a 5 (angleWords phi) → c ≡ sets b 9 (angleWords lambda)
+    → length (set c 13 qubit) ≡ 14
+u-length theta phi lambda qubit e f g = sym (u-long theta phi lambda qubit ∙ ap length (u-words theta phi lambda qubit e f g))
 
 pub opaque-words : (gate p q : ℕ) (angles : List Value) (qubits : List ℕ) {a b : List ℕ} → length angles ≡ 16 → p ≤ 16 → length qubits ≡ 16 → q ≤ 16
     → a ≡ sets (set (set (set (set (replicate 84 0) 0 3) 1 gate) 2 p) 3 q) 4 (flatMap angleWords (take p angles)) → b ≡ sets a (4 + 4 * p) (take q qubits)

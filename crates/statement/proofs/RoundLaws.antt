@@ -18,6 +18,7 @@ use Rattle.record_writer.specs.declared.Linearized.{Linearized}
 use Rattle.record_writer.specs.declared.Linearized.the-variants as linearized
 use Rattle.record_writer.specs.Promise.{outputFullAt, InOutput, WroteSteps, refusalAnswer, stateAt}
 use Rattle.record_writer.proofs.WroteStepsLaws.{record-refused}
+use Rattle.record_writer.proofs.AngleWordsLaws.{u-long}
 use Rattle.argument.specs.declared.Argument.{Argument}
 use Rattle.argument.specs.Frames.{scopeFrame, quantumArgument, numberInRound, ScopeContext}
 use Rattle.argument.proofs.ArgumentLaws.{few-rounds, resolved-below, one-round-range}
@@ -52,6 +53,10 @@ module _ (image : List ℕ) (scope : ℕ) (angles : List Value) (qubits : List �
 pub u-round : (x : Argument) (theta phi lambda : Value) (i : ℕ) {q : ℕ} → q ≡ numberInRound x i → _≡_ {A = List Step} (write [] (Record.U theta phi lambda q) ∷ []) (uRound x theta phi lambda i)
 unfolding uRound
 u-round x theta phi lambda i e = ap (λ (q : ℕ). write [] (Record.U theta phi lambda q) ∷ []) e
+
+pub u-full : (x : Argument) (theta phi lambda : Value) (i : ℕ) {out : List ℕ} {at : Position} → InOutput out at → length out < at .words + 14 → WroteSteps (uRound x theta phi lambda i) out at (outputFullAt at) out
+unfolding uRound
+u-full x theta phi lambda i {out} {at} o h = record-refused (Record.U theta phi lambda (numberInRound x i)) o (subst (λ (n : ℕ). length out < at .words + n) (u-long theta phi lambda (numberInRound x i)) h)
 
 -- the qubits of an accepted argument are few
 pub few-qubits : {image : List ℕ} {l : Layout} {register-starts : List ℕ} {scope : ℕ} {qubits : List ℕ} → ScopeContext image l register-starts scope qubits → (a : ℕ) {x : Argument} → T (argumentOk image scope a) → x ≡ quantumArgument image scope qubits a → FewQubits x

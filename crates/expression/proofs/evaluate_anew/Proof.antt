@@ -1,4 +1,4 @@
--- A constant is read back, a parameter alone is read from the frame, and anything else is evaluated with no value known.
+-- A constant is read back, a parameter alone is read from the frame, and anything else is worked out entry by entry.
 use Prim.Native.Nat.{_<_, _+_, _*_}
 use native.Mathlib.Omega.{arith}
 use mathlib.Core.Path.{refl, sym, ap, _∙_}
@@ -9,7 +9,7 @@ use Rattle.model.specs.Image.{expressions, expressionAt, expressionOf, word}
 use Rattle.model.specs.Evaluate.{valueOf, evaluate as evaluated}
 use Rattle.expression.specs.Angles.{anglesIn}
 use Rattle.expression.proofs.EntryLaws.{inside, entry, value-is}
-use Rattle.expression.proofs.KeptValuesLaws.{keeps-none, constant-value}
+use Rattle.expression.proofs.KeptValuesLaws.{constant-value}
 use Rattle.expression.proofs.evaluate_anew.Statement.{statement}
 use Rattle.expression.proofs.evaluate_anew.Tie as tie
 
@@ -78,18 +78,14 @@ returns-2 c =
     let b = word image (expression-at .result + 2) in
     (record { is = c .nullary .ensures .value _ b ∙ ap (λ k. valueOf (anglesIn (now (s .args .angles))) (evaluated image (anglesIn (now (s .args .angles))) 32) (expressionOf k (c .before .word2 .result) b)) (sym (c .before .before .if2 .taken)) ∙ sym (value-is image (anglesIn (now (s .args .angles))) (s .args .e) (s .pre .1) _ _ _ b (expression-at .ensures .in-image _ (s .pre .0 .laid)) (c .before .before .before .word .ensures) (c .before .word2 .ensures) refl); sound = c .nullary .ensures .sound }, s .pre .0 .constants)
 
-evaluate-requires : tie.Need-evaluate-requires
-evaluate-requires c κs =
-    let s = c .before .before .before .before .before .before .before .before .before in
-    (s .pre .0 .laid, s .pre .0 .sound, s .pre .1, keeps-none _ _ _ (omega (arith, s .pre .0 .laid .whole, s .pre .0 .laid .short)) (s .pre .0 .constants))
+evaluate-entries-requires : tie.Need-evaluate-entries-requires
+evaluate-entries-requires c κs = search needs
 
 same-length-2 : tie.Need-same-length-2
 same-length-2 c = search needs
 
 returns-3 : tie.Need-returns-3
-returns-3 c =
-    let evaluate = c .before .before .evaluate .ensures in
-    (evaluate .0, evaluate .1 .constants)
+returns-3 c = search needs
 
 pub evaluate-anew-spec : {M : Type 1} → statement M
 evaluate-anew-spec =
@@ -109,6 +105,6 @@ evaluate-anew-spec =
     word-requires-2
     nullary-requires
     returns-2
-    evaluate-requires
+    evaluate-entries-requires
     same-length-2
     returns-3)
