@@ -366,24 +366,26 @@ pub fn parameter_values(
         × ConstantsKept (now (image .entry)) (now («kept_values» .exit))
         ⌝ }
 {
-    let mut values = [zero(); image::FRAME_ANGLES];
+    let none = [zero(); image::FRAME_ANGLES];
+    let done = Linearized::Done(at);
+    let mut given = ParameterValues {
+        angles: none,
+        answer: done,
+    };
     let mut i = 0;
     while i < n {
         let e = image::word(image, place + i);
         let r = evaluate_anew(image, l, angles, kept_values, e);
         let Evaluation::Value(x) = r else {
+            let values = given.angles;
             let answer = refused(l, e, r, at);
             return ParameterValues {
                 angles: values,
                 answer,
             };
         };
-        values[i as usize] = x;
+        given.angles[i as usize] = x;
         i += 1;
     }
-    let answer = Linearized::Done(at);
-    ParameterValues {
-        angles: values,
-        answer,
-    }
+    given
 }

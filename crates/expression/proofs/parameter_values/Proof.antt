@@ -9,6 +9,7 @@ use Rattle.model.specs.Image.{word}
 use Rattle.expression.specs.Operands.{AcceptedExpression}
 use Rattle.expression.specs.Angles.{anglesIn}
 use Rattle.expression.specs.KeptValues.{ConstantsKept}
+use Rattle.record_writer.specs.declared.Linearized.the-variants as linearized
 use Rattle.expression.proofs.EntryLaws.{inside, no-value}
 use Rattle.expression.proofs.AnglesLaws.{repeated-sound}
 use Rattle.expression.proofs.ParameterLaws.{Front, front-none, front-next, front-done, front-refuses}
@@ -16,10 +17,11 @@ use Rattle.expression.proofs.parameter_values.Statement.{statement}
 use Rattle.expression.proofs.parameter_values.Tie as tie
 
 abbrev Inv-loop : tie.InvT-loop
-Inv-loop image l angles kept₀ place n at values₀ i₀ kept values i = (i ≤ n) × Front image (anglesIn angles) (λ k. word image (place + k)) i values × ConstantsKept image kept × (length kept ≡ length kept₀)
+Inv-loop image l angles kept-values₀ place n at given₀ i₀ kept-values given i =
+    (i ≤ n) × Front image (anglesIn angles) (λ k. word image (place + k)) i (given .angles) × ConstantsKept image kept-values × (length kept-values ≡ length kept-values₀) × (given .answer ≡ linearized.Done at)
 
 abbrev μ-loop : tie.MeasureT-loop
-μ-loop image l angles kept₀ place n at values₀ i₀ kept values i = n - i
+μ-loop image l angles kept-values₀ place n at given₀ i₀ kept-values given i = n - i
 
 -- where an expression's number is read
 abbrev Read : Type 0
@@ -37,7 +39,7 @@ zero-requires c κs = search needs
 loop-holds : tie.Need-loop-holds Inv-loop μ-loop
 loop-holds c =
     let s = c .before .before .before in
-    (search needs, front-none _ _ _ _ (repeated-sound _ (c .zero .ensures .1)), s .pre .0 .constants, refl)
+    (search needs, front-none _ _ _ _ (repeated-sound _ (c .zero .ensures .1)), s .pre .0 .constants, refl, refl)
 
 add-word : tie.Need-add-word Inv-loop μ-loop
 add-word c = search needs
@@ -55,52 +57,41 @@ enum-known-r c = search needs
 
 refused-requires : tie.Need-refused-requires Inv-loop μ-loop
 refused-requires c κs =
-    let loop-test = c .before .before .before .before .before .before .loop-test .taken in
-    let w = c .before .before .before .before .before in
+    let w = c .before .before .before .before .before .before in
     let s = start w in
-    (s .pre .0 .laid .limits, omega (arith, loop-test, s .pre .1 .few, s .pre .0 .laid .whole, s .pre .0 .laid .short, inside (now (s .args .image)) (w .word .result) (named w)), no-value _ (c .match .keys2))
+    (s .pre .0 .laid .limits, omega (arith, inside (now (s .args .image)) (w .word .result) (named w), s .pre .0 .laid .whole, s .pre .0 .laid .short), no-value _ (c .before .match .keys2))
 
 same-length : tie.Need-same-length Inv-loop μ-loop
-same-length c =
-    let loop = c .before .before .before .before .before .before .before .before .loop in
-    omega (arith, loop .inv .3, c .before .before .before .kept-values .given)
+same-length c = omega (arith, c .before .before .before .before .before .before .before .before .before .loop .inv .3, c .before .before .before .before .kept-values .given)
 
 returns : tie.Need-returns Inv-loop μ-loop
 returns c =
-    let evaluate-anew = c .before .before .before .before .evaluate-anew .ensures in
-    let w = c .before .before .before .before .before .before in
-    let loop-test = c .before .before .before .before .before .before .before .loop-test .taken in
-    let l = c .before .before .before .before .before .before .before .before .loop in
+    let v = c .before .before .before .before .before .evaluate-anew .ensures in
+    let w = c .before .before .before .before .before .before .before in
+    let l = c .before .before .before .before .before .before .before .before .before .loop in
     let a = start w .args in
-    (front-refuses (now (a .image)) (anglesIn (now (a .angles))) (λ k. word (now (a .image)) (a .place + k)) (l .i) (a .n) (w .word .result) _ _ (a .at) _ loop-test (l .inv .1) (w .word .ensures) (evaluate-anew .0) (c .refused .ensures _ (start w .pre .0 .laid)), evaluate-anew .1)
+    (front-refuses (now (a .image)) (anglesIn (now (a .angles))) (λ k. word (now (a .image)) (a .place + k)) (l .i) (a .n) (w .word .result) _ _ (a .at) _ (c .before .before .before .before .before .before .before .before .loop-test .taken) (l .inv .1) (w .word .ensures) (v .0) (c .refused .ensures _ (start w .pre .0 .laid)), v .1)
 
-mul-values : tie.Need-mul-values Inv-loop μ-loop
-mul-values c =
-    let s = start (c .before .before .before .before .before .before .before) in
-    record { fits = omega (arith, c .before .before .before .before .before .before .before .before .loop-test .taken, s .pre .1 .few) }
+mul-x : tie.Need-mul-x Inv-loop μ-loop
+mul-x c = record { fits = omega (arith, c .before .before .before .before .before .before .before .before .loop-test .taken, start (c .before .before .before .before .before .before .before) .pre .1 .few) }
 
-array-set-from-values : tie.Need-array-set-from-values Inv-loop μ-loop
-array-set-from-values c =
-    let s = start (c .before .before .before .before .before .before .before) in
-    omega (arith, c .before .before .before .before .before .before .before .before .loop-test .taken, s .pre .1 .few)
+element-set-from-x : tie.Need-element-set-from-x Inv-loop μ-loop
+element-set-from-x c = omega (arith, c .before .before .before .before .before .before .before .before .loop-test .taken, start (c .before .before .before .before .before .before .before) .pre .1 .few)
 
 add-i : tie.Need-add-i Inv-loop μ-loop
-add-i c =
-    let s = start (c .before .before .before .before .before .before .before) in
-    record { fits = omega (arith, c .before .before .before .before .before .before .before .before .loop-test .taken, s .pre .1 .few) }
+add-i c = record { fits = omega (arith, c .before .before .before .before .before .before .before .before .loop-test .taken, start (c .before .before .before .before .before .before .before) .pre .1 .few) }
 
 loop-less : tie.Need-loop-less Inv-loop μ-loop
 loop-less c = omega (arith, c .before .before .before .before .before .before .before .before .loop-test .taken)
 
 loop-again : tie.Need-loop-again Inv-loop μ-loop
 loop-again c =
-    let kept-values = c .before .before .before .before .kept-values in
     let v = c .before .before .before .before .before .evaluate-anew .ensures in
     let w = c .before .before .before .before .before .before .before in
     let loop-test = c .before .before .before .before .before .before .before .before .loop-test .taken in
     let l = c .before .before .before .before .before .before .before .before .before .loop in
     let a = start w .args in
-    (omega (arith, loop-test), front-next (now (a .image)) (anglesIn (now (a .angles))) (λ k. word (now (a .image)) (a .place + k)) (l .i) (w .word .result) (l .values) _ _ (omega (arith, loop-test, start w .pre .1 .few)) (l .inv .1) (w .word .ensures) (v .0) (c .before .r .given .1), v .1, omega (arith, l .inv .3, kept-values .given))
+    (omega (arith, loop-test), front-next (now (a .image)) (anglesIn (now (a .angles))) (λ k. word (now (a .image)) (a .place + k)) (l .i) (w .word .result) (l .given .angles) _ _ (omega (arith, loop-test, start w .pre .1 .few)) (l .inv .1) (w .word .ensures) (v .0) (c .before .r .given .1), v .1, omega (arith, l .inv .3, c .before .before .before .before .kept-values .given), l .inv .4)
 
 same-length-2 : tie.Need-same-length-2 Inv-loop μ-loop
 same-length-2 c = c .before .loop .inv .3
@@ -109,7 +100,7 @@ returns-2 : tie.Need-returns-2 Inv-loop μ-loop
 returns-2 c =
     let a = c .before .before .before .before .before .args in
     let l = c .before .loop in
-    (front-done (now (a .image)) (anglesIn (now (a .angles))) (λ k. word (now (a .image)) (a .place + k)) (l .i) (a .n) (l .values) (a .at) (l .inv .0) (c .loop-test .left) (l .inv .1), l .inv .2)
+    (rw (l .inv .4) (front-done (now (a .image)) (anglesIn (now (a .angles))) (λ k. word (now (a .image)) (a .place + k)) (l .i) (a .n) (l .given .angles) (a .at) (l .inv .0) (c .loop-test .left) (l .inv .1)), l .inv .2)
 
 pub parameter-values-spec : {M : Type 1} → statement M
 parameter-values-spec =
@@ -126,8 +117,8 @@ parameter-values-spec =
     refused-requires
     same-length
     returns
-    mul-values
-    array-set-from-values
+    mul-x
+    element-set-from-x
     add-i
     loop-less
     loop-again
