@@ -16,7 +16,7 @@
  *   - The answer, the output and the trace are written. They must not overlap each other or the image, not even
  *     where lengths are such that nothing is written. The image is only read.
  *   - The answer has as many words as stated below, all of which are written.
- *   - A run has up to 1.4 MiB of stack: 0.3 MiB, and 9 KiB for each gate call that it is in, at most 128 of them. Check
+ *   - A run has up to 1.2 MiB of stack: 0.3 MiB, and 7.5 KiB for each gate call that it is in, at most 128 of them. Check
  *     and tally have less than 0.1 MiB. (Measured with the kit that README.md names. The main thread and a thread of
  *     2 MiB are large enough.)
  *
