@@ -10,28 +10,26 @@ use lib.ListN.{length, getD, set, take, drop, length-map, length-append}
 use lib.Seq.{sets, sets-eq, length-sets, take-set-le, drop-set-add, drop-at, take-at, length-take-le}
 use borrow.Author.Tests.{eqb-true, eqb-false, eq-eqb, ne-eqb, not-true}
 use Rattle.value.specs.declared.Value.{Value}
 use Rattle.model.specs.Image.{gates, gateArguments}
 use Rattle.model.specs.Lists.{all}
 use Rattle.model.specs.Records.{Record, kind, fields, encode, angleWords, fractionWords}
 use Rattle.model.specs.Steps.{Step, openGate, opening}
 use Rattle.model.specs.Run.{done, play, output}
 use Rattle.model.specs.Playing.{OutputState, room, Plays}
 use Rattle.model.specs.Claims.{differ}
 use Rattle.model.proofs.All.{test, all-All, All-getD}
 use Rattle.model.specs.All.{All, nil, cons}
 use Rattle.model.specs.Accepted.{Accepted}
 use Rattle.model.proofs.Lengths.{length-words}
 use Rattle.model.proofs.ReadBack.{words-enough}
 use Rattle.model.proofs.PlayLaws.{output-fits}
-use Rattle.model.proofs.Silent.{bodyFrame, Silent, silent-plays, plays-silent, openings-hushed}
-use Rattle.model.proofs.Renamed.{renamedRecord, Renamed, Formals, Levels, gate-renamed, Again, renamed-plays, shorter}
+use Rattle.copy.specs.Renaming.{renaming, renamedRecord, copiedWords}
+use Rattle.copy.specs.BodyRecord.{Plain, plain-U, plain-CX, plain-opaque}
+use Rattle.copy.specs.BodyKept.{bodyFrame, BodyKept}
+use Rattle.copy.proofs.Silent.{Silent, silent-plays, plays-silent, openings-hushed}
+use Rattle.copy.proofs.Renamed.{Renamed, Formals, Levels, gate-renamed, Again, renamed-plays, shorter}
 
 -- ---- the renaming of some qubits to others, by their places: what the code looks up
-
-unfoldable pub renaming : List ℕ → List ℕ → ℕ → ℕ
-renaming [] qs′ x = x
-renaming (q ∷ qs) [] x = x
-renaming (q ∷ qs) (q′ ∷ qs′) x = let later = renaming qs qs′ x in cond (eqb x q) q′ later
 
 not-T : (b : Bool) → T (not b) → b ≡ false
 not-T true k = absurd k
@@ -96,23 +94,13 @@ part-new at ws l h =
 
 -- ---- the table's invariant
 
--- gate g, opened n deep with these values and qubits, was played to its end, and its words stand in the output before `at`
-pub record Kept (image out : List ℕ) (at g n : ℕ) (vs : List Value) (qs : List ℕ) (from words records : ℕ) : Type 0 where
-  pub ahead : ℕ
-  pub trace : List ℕ
-  pub finished : play ahead (openGate (opening image n) (bodyFrame trace g vs qs) g) .answer ≡ done
-  pub long : words ≡ length (output (play ahead (openGate (opening image n) (bodyFrame trace g vs qs) g)))
-  pub stands : take words (drop from out) ≡ output (play ahead (openGate (opening image n) (bodyFrame trace g vs qs) g))
-  pub counted : records ≡ length (play ahead (openGate (opening image n) (bodyFrame trace g vs qs) g) .written)
-  pub before : from + words ≤ at
-
 -- the records that stand there
-abbrev pub keptRecords : {image out : List ℕ} {at g n : ℕ} {vs : List Value} {qs : List ℕ} {from words records : ℕ} → Kept image out at g n vs qs from words records → List Record
+abbrev pub keptRecords : {image out : List ℕ} {at g n : ℕ} {vs : List Value} {qs : List ℕ} {from words records : ℕ} → BodyKept image out at g n vs qs from words records → List Record
 keptRecords {image} {g = g} {n = n} {vs = vs} {qs = qs} k = play (k .ahead) (openGate (opening image n) (bodyFrame (k .trace) g vs qs) g) .written
 
-module _ {image out : List ℕ} {at g n : ℕ} {vs : List Value} {qs : List ℕ} {from words records : ℕ} (k : Kept image out at g n vs qs from words records) where
+module _ {image out : List ℕ} {at g n : ℕ} {vs : List Value} {qs : List ℕ} {from words records : ℕ} (k : BodyKept image out at g n vs qs from words records) where
   -- what is written later leaves it
-  pub kept-later : (ws : List ℕ) (to : ℕ) → at ≤ to → Kept image (sets out at ws) to g n vs qs from words records
+  pub kept-later : (ws : List ℕ) (to : ℕ) → at ≤ to → BodyKept image (sets out at ws) to g n vs qs from words records
   kept-later ws to h =
       record {
         ahead = k .ahead;
@@ -126,7 +114,7 @@ module _ {image out : List ℕ} {at g n : ℕ} {vs : List Value} {qs : List ℕ}
 
 -- a body that has just been played to its end
 pub kept-new : (image : List ℕ) (g n : ℕ) (t : List ℕ) (vs : List Value) (qs : List ℕ) {p q : OutputState} → Plays (openGate (opening image n) (bodyFrame t g vs qs) g) p q done
-    → p .words ≤ length (p .out) → Kept image (q .out) (q .words) g n vs qs (p .words) (q .words - p .words) (q .records - p .records)
+    → p .words ≤ length (p .out) → BodyKept image (q .out) (q .words) g n vs qs (p .words) (q .words - p .words) (q .records - p .records)
 kept-new image g n t vs qs {p} {q} h f =
     let fits = output-fits (room p) (openGate (opening image n) (bodyFrame t g vs qs) g) in
     let long : q .words - p .words ≡ length (output (play (room p) (openGate (opening image n) (bodyFrame t g vs qs) g))) = omega (arith, h .position) in
@@ -146,9 +134,6 @@ renamed-shorter : (r : ℕ → ℕ) (l : List Record) → length (flatMap encode
 unfolding flatMap
 renamed-shorter r [] = omega arith
 renamed-shorter r (x ∷ l) = simp length-append (omega (arith, shorter r x, renamed-shorter r l))
-
-abbrev pub copiedWords : (ℕ → ℕ) → List Record → List ℕ
-copiedWords r rs = flatMap encode (map (renamedRecord r) rs)
 
 abbrev pub copiedPlace : (ℕ → ℕ) → List Record → OutputState → OutputState
 copiedPlace r rs p = record { out = sets (p .out) (p .words) (copiedWords r rs); words = p .words + length (copiedWords r rs); records = p .records + length rs }
@@ -172,7 +157,7 @@ copied-plays r ahead {ss} {ss′} h d p f =
     }
 
 -- The law that the code's copy rests on: the table's entry, the same values, levels as before or enough in both, the formals renamed, and room for the words.
-pub kept-copies : {image : List ℕ} → Accepted image → (r : ℕ → ℕ) (p : OutputState) (g n n′ : ℕ) (vs : List Value) (qs qs′ t′ : List ℕ) {from words records : ℕ} (k : Kept image (p .out) (p .words) g n vs qs from words records)
+pub kept-copies : {image : List ℕ} → Accepted image → (r : ℕ → ℕ) (p : OutputState) (g n n′ : ℕ) (vs : List Value) (qs qs′ t′ : List ℕ) {from words records : ℕ} (k : BodyKept image (p .out) (p .words) g n vs qs from words records)
     → g < gates image → Levels r g n n′ → Formals r (gateArguments image g) qs qs′ → p .words + words ≤ length (p .out)
     → Plays (openGate (opening image n′) (bodyFrame t′ g vs qs′) g) p (copiedPlace r (keptRecords k) p) done
 kept-copies {image} acc r p g n n′ vs qs qs′ t′ k h l f fits =
@@ -204,12 +189,6 @@ qubitsFrom (Record.Measure q b) = 0
 qubitsFrom (Record.Reset q) = 1
 qubitsFrom (Record.ConditionalStart b n v) = 0
 qubitsFrom Record.ConditionalEnd = 0
-
--- U, CX and opaque gates
-pub data Plain : Record → Type 0 where
-  plain-U : {theta phi lambda : Value} {q : ℕ} → Plain (Record.U theta phi lambda q)
-  plain-CX : {a b : ℕ} → Plain (Record.CX a b)
-  plain-opaque : {g : ℕ} {xs : List Value} {qs : List ℕ} → Plain (Record.Opaque g xs qs)
 
 -- word by word: what stands before the qubits is copied, and each qubit looked up
 pub plain-words : (r : ℕ → ℕ) {x : Record} → Plain x → encode (renamedRecord r x) ≡ take (qubitsFrom x) (encode x) ++ map r (drop (qubitsFrom x) (encode x))

@@ -8,21 +8,17 @@ use mathlib.Core.Option.{Option, none, some}
 use lib.Dec.{eqb, leb}
 use lib.ListN.{length}
 use Rattle.value.specs.declared.Value.{Value}
 use Rattle.model.specs.Lists.{range}
 use Rattle.model.specs.Image.{Statement, Gate, Conditional, statement, gates, gateArguments, gateBody, scopeStatements}
 use Rattle.model.specs.Records.{Record, encode}
 use Rattle.model.specs.Steps.{Refusal, Step, write, enter, refuse, Frame, Opening, Values, have, lack, given, inRounds, overlap, qubitIn, withValues, writeU, writeCX, distinctly, writeOpaque, pushFrame, openGate, visitGate, visitPlain, visitConditional, visitStatement, visitBody, opening}
 use Rattle.model.specs.Run.{full, Played, stop, after, play}
 use Rattle.model.proofs.All.{All-members}
 use Rattle.model.specs.All.{All, nil, cons}
 use Rattle.model.specs.Accepted.{Accepted, Facts}
 use Rattle.model.proofs.Facts.{facts}
-use Rattle.model.proofs.Silent.{bodyFrame}
-use Rattle.model.proofs.CopyLaws.{Plain, plain-U, plain-CX, plain-opaque}
-
-pub data Body : Record → Type 0 where
-  plain : {x : Record} → Plain x → Body x
-  barrier : {qs : List ℕ} → Body (Record.Barrier qs)
+use Rattle.copy.specs.BodyKept.{bodyFrame}
+use Rattle.copy.specs.BodyRecord.{plain-U, plain-CX, plain-opaque, Body, plain, barrier}
 
 pub data Bodily : List Step → Type 0 where
   nothing : Bodily []

@@ -9,7 +9,7 @@ use lib.ListN.{length, getD, take, drop, length-drop}
 use lib.Seq.{sets, length-take-le, getD-drop, getD-take}
 use borrow.Author.Tests.{eq-eqb, ne-eqb}
 use Rattle.model.proofs.PlayLaws.{sets-append}
-use Rattle.model.proofs.CopyLaws.{part-stays}
+use Rattle.copy.proofs.BodyKeptLaws.{part-stays}
 use Rattle.copy.specs.CopiedRecord.{wordsBeforeQubits, qubitCount, copiedLength, renamedWords}
 
 module _ (out : List ℕ) (from : ℕ) where

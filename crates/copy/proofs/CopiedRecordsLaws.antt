@@ -12,8 +12,9 @@ use Rattle.model.specs.All.{All, nil, cons}
 use Rattle.model.proofs.ListLaws.{flat-append}
 use Rattle.model.proofs.Lengths.{length-words}
 use Rattle.model.proofs.PlayLaws.{sets-append}
-use Rattle.model.proofs.Renamed.{renamedRecord}
-use Rattle.model.proofs.CopyLaws.{Plain, plain-U, plain-CX, plain-opaque, qubitsFrom, plain-words, copiedWords, part-stays}
+use Rattle.copy.specs.Renaming.{renamedRecord, copiedWords}
+use Rattle.copy.specs.BodyRecord.{Plain, plain-U, plain-CX, plain-opaque}
+use Rattle.copy.proofs.BodyKeptLaws.{qubitsFrom, plain-words, part-stays}
 use Rattle.copy.specs.CopiedRecord.{wordsBeforeQubits, qubitCount, copiedLength, renamedWords}
 use Rattle.copy.specs.CopiedRecords.{RecordsStand, RecordsCopied, CopiedSoFar}
 use Rattle.copy.proofs.CopiedRecordLaws.{some-words, fixed-U, fixed-CX, fixed-opaque, count-U, count-CX, count-opaque}

@@ -6,7 +6,7 @@ use mathlib.Core.List.{List, _++_, map}
 use lib.Dec.{eqb}
 use lib.ListN.{length, getD, take, drop}
 use Rattle.model.specs.Limits.{mostArguments}
-use Rattle.model.proofs.CopyLaws.{renaming}
+use Rattle.copy.specs.Renaming.{renaming}
 
 -- the first n of sixteen qubits are renamed to the first n of sixteen others
 pub record RenamingGiven (old new : List ℕ) (n : ℕ) : Type 0 where

@@ -6,7 +6,8 @@ use lib.ListN.{length, take, drop}
 use lib.Seq.{sets}
 use Rattle.model.specs.Records.{Record, encode}
 use Rattle.model.specs.All.{All}
-use Rattle.model.proofs.CopyLaws.{Plain, copiedWords}
+use Rattle.copy.specs.Renaming.{copiedWords}
+use Rattle.copy.specs.BodyRecord.{Plain}
 
 -- some words of the output are records of bodies, none of them a barrier
 pub record RecordsStand (out : List ℕ) (from words : ℕ) : Type 0 where

@@ -24,11 +24,7 @@ pub mod Tally16
 pub mod Deep
 pub mod EvaluateLaws
 pub mod Facts
-pub mod Silent
 pub mod RisingLaws
-pub mod Renamed
-pub mod CopyLaws
-pub mod BodyRecords
 pub mod StatementOfLaws
 pub mod FlawLaws
 pub mod SetsLaws
