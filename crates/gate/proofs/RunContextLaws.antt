@@ -24,6 +24,8 @@ use Rattle.statement.specs.declared.Site.{Site}
 use Rattle.statement.specs.declared.Call.{Call}
 use Rattle.statement.specs.Statements.{CallContext, callRounds}
 use Rattle.statement.proofs.LoopedLaws.{Looped}
+use Rattle.kept_body.specs.KeptBodies.{BodiesKept, CalledGate, BodyRun}
+use Rattle.kept_body.proofs.KeptBodiesLaws.{bodies-later}
 use Rattle.gate.specs.RunContext.{nested, mostTraceWords, StatementContext, RunContext, TraceRoom}
 use Rattle.gate.specs.PlainStatement.{PlainStatement}
 use Rattle.gate.specs.RanSteps.{RanSteps, plainSteps}
@@ -47,37 +49,44 @@ module _ {image : List ℕ} {l : Layout} {register-starts : List ℕ} where
   with-angles c a = record { laid = c .in-scope .laid; sound = a; constants = c .constants }
 
   -- a call, beside its context
-  pub call-context : {kept-values qubits out trace : List ℕ} {call : Call} {at : Position} → RunContext image l register-starts kept-values (call .site .scope) qubits out trace at → CallStatement image l call → CallContext image l register-starts qubits call
+  pub call-context : {kept-values kept-bodies qubits out trace : List ℕ} {call : Call} {at : Position} → RunContext image l register-starts kept-values kept-bodies (call .site .scope) qubits out trace at → CallStatement image l call → CallContext image l register-starts qubits call
   call-context r c = record { in-scope = r .context .in-scope; arguments-fit = c .arguments-fit }
 
-  -- other values are kept, and another position has the same words
-  pub context-kept : {scope : ℕ} {kept-values kept-values′ qubits out trace : List ℕ} {at p : Position} → RunContext image l register-starts kept-values scope qubits out trace at → ConstantsKept image kept-values′ → InOutput out p
-      → RunContext image l register-starts kept-values′ scope qubits out trace p
-  context-kept r f o = record { context = record { in-scope = r .context .in-scope; with-bits = r .context .with-bits; constants = f; in-output = o }; trace-length = r .trace-length }
+  -- other values are kept, and another position has as many words
+  pub context-kept : {scope : ℕ} {kept-values kept-values′ kept-bodies qubits out trace : List ℕ} {at p : Position} → RunContext image l register-starts kept-values kept-bodies scope qubits out trace at → ConstantsKept image kept-values′ → InOutput out p → p .words ≡ at .words
+      → RunContext image l register-starts kept-values′ kept-bodies scope qubits out trace p
+  context-kept r f o e =
+      record {
+        context = record { in-scope = r .context .in-scope; with-bits = r .context .with-bits; constants = f; in-output = o };
+        bodies = rw e (r .bodies);
+        trace-length = r .trace-length;
+      }
 
   -- where a loop over statements or rounds has come to
-  pub context-on : {scope : ℕ} {kept-values kept-values′ qubits out trace out′ trace′ : List ℕ} {at position : Position} {g : ℕ → List Step} {n i : ℕ} → RunContext image l register-starts kept-values scope qubits out trace at → Looped g n out at i out′ position → trace′ ≡ trace → ConstantsKept image kept-values′
-      → RunContext image l register-starts kept-values′ scope qubits out′ trace′ position
-  context-on r k e f =
+  pub context-on : {scope : ℕ} {kept-values kept-values′ kept-bodies kept-bodies′ qubits out trace out′ trace′ : List ℕ} {at position : Position} {g : ℕ → List Step} {n i : ℕ} → RunContext image l register-starts kept-values kept-bodies scope qubits out trace at → Looped g n out at i out′ position → trace′ ≡ trace → ConstantsKept image kept-values′ → BodiesKept image kept-bodies′ out′ (position .words)
+      → RunContext image l register-starts kept-values′ kept-bodies′ scope qubits out′ trace′ position
+  context-on r k e f b =
       record {
         context = record { in-scope = r .context .in-scope; with-bits = r .context .with-bits; constants = f; in-output = k .in-output };
+        bodies = b;
         trace-length = subst (λ (t : List ℕ). mostTraceWords ≤ length t) (sym e) (r .trace-length);
       }
 
   -- the frame of a round
-  pub context-opened : {i : ℕ} {call : Call} {kept-values qubits found out trace : List ℕ} {at : Position} → RunContext image l register-starts kept-values (call .site .scope) qubits out trace at → CallStatement image l call
-      → RoundQubits image (call .site .scope) qubits (call .argument) (call .arguments) i found → i < callRounds image call → RunContext image l register-starts kept-values (suc (call .gate)) found out trace at
+  pub context-opened : {i : ℕ} {call : Call} {kept-values kept-bodies qubits found out trace : List ℕ} {at : Position} → RunContext image l register-starts kept-values kept-bodies (call .site .scope) qubits out trace at → CallStatement image l call
+      → RoundQubits image (call .site .scope) qubits (call .argument) (call .arguments) i found → i < callRounds image call → RunContext image l register-starts kept-values kept-bodies (suc (call .gate)) found out trace at
   context-opened r c k h =
       record {
         context = record { in-scope = opened-in-scope c k (r .context .in-scope) h; with-bits = r .context .with-bits; constants = r .context .constants; in-output = r .context .in-output };
+        bodies = r .bodies;
         trace-length = r .trace-length;
       }
 
   -- where a body runs a statement
-  pub context-in-body : {g : ℕ} {kept-values qubits out trace : List ℕ} {at : Position} → RunContext image l register-starts kept-values (suc g) qubits out trace at → RunContext image l register-starts kept-values (g + 1) qubits out trace at
+  pub context-in-body : {g : ℕ} {kept-values kept-bodies qubits out trace : List ℕ} {at : Position} → RunContext image l register-starts kept-values kept-bodies (suc g) qubits out trace at → RunContext image l register-starts kept-values kept-bodies (g + 1) qubits out trace at
   context-in-body {g} r = rw (add-one g) r
 
-  pub statement-in-body : {g i : ℕ} {kept-values qubits out trace : List ℕ} {at : Position} {r : Span} → RunContext image l register-starts kept-values (suc g) qubits out trace at → g < l .gates → StatementsOf image l (g + 1) r → i < r .count → (levels-left : ℕ)
+  pub statement-in-body : {g i : ℕ} {kept-values kept-bodies qubits out trace : List ℕ} {at : Position} {r : Span} → RunContext image l register-starts kept-values kept-bodies (suc g) qubits out trace at → g < l .gates → StatementsOf image l (g + 1) r → i < r .count → (levels-left : ℕ)
       → PlainStatement image l (record { scope = g + 1; statement = r .first + i; «levels_left» = levels-left })
   statement-in-body {g} {i} {r = r} d h k lt levels-left =
       let st = d .context .in-scope in
@@ -95,12 +104,13 @@ step-in-body image g levels-left angles q first i f = rw (add-one g) (statement-
 pub ran-open : {ss : List Step} {out out′ trace trace′ : List ℕ} {at p : Position} {r : Linearized} → InOutput out at → RanSteps ss out at trace r out′ trace′ → r ≡ linearized.Done p → InOutput out′ p
 ran-open o w e = wrote-open o (ran-wrote w e .0)
 
-pub context-wrote : {image : List ℕ} {l : Layout} {register-starts : List ℕ} {scope : ℕ} {ss : List Step} {kept-values qubits out out′ trace : List ℕ} {at p : Position} {r : Linearized}
-    → RunContext image l register-starts kept-values scope qubits out trace at → WroteSteps ss out at r out′ → r ≡ linearized.Done p → RunContext image l register-starts kept-values scope qubits out′ trace p
+pub context-wrote : {image : List ℕ} {l : Layout} {register-starts : List ℕ} {scope : ℕ} {ss : List Step} {kept-values kept-bodies qubits out out′ trace : List ℕ} {at p : Position} {r : Linearized}
+    → RunContext image l register-starts kept-values kept-bodies scope qubits out trace at → WroteSteps ss out at r out′ → r ≡ linearized.Done p → RunContext image l register-starts kept-values kept-bodies scope qubits out′ trace p
 context-wrote {ss = ss} {out} {out′} {at = at} {p} d w e =
     let v : WroteSteps ss out at (linearized.Done p) out′ = rw e at w in
     record {
       context = record { in-scope = d .context .in-scope; with-bits = d .context .with-bits; constants = d .context .constants; in-output = wrote-open (d .context .in-output) v };
+      bodies = bodies-later (v .plays) (d .bodies);
       trace-length = d .trace-length;
     }
 

@@ -1,5 +1,6 @@
 // Opens gate calls: a statement runs a gate's body, and the body its statements, in turn.
 use image::Layout;
+use kept_body::BodyCopy;
 use record_writer::Linearized;
 use record_writer::Position;
 use statement::Call;
@@ -14,11 +15,12 @@ ghost use Rattle.model.specs.Image.{word, statementAt};
 ghost use Rattle.model.specs.Steps.{inRounds};
 ghost use Rattle.model.specs.Limits.{mostWords};
 ghost use Rattle.image.specs.Layout.{WithinLimits, Small, LayoutOf};
-ghost use Rattle.record_writer.specs.Promise.{SoundAngles, AnglesGiven, WroteSteps};
+ghost use Rattle.record_writer.specs.Promise.{SoundAngles, AnglesGiven, WroteSteps, positionOf};
 ghost use Rattle.expression.specs.Angles.{anglesIn};
 ghost use Rattle.expression.specs.KeptValues.{ConstantsKept};
 ghost use Rattle.argument.specs.Frames.{scopeFrame};
 ghost use Rattle.statement.specs.Statements.{callRounds};
+ghost use Rattle.kept_body.specs.KeptBodies.{BodiesKept};
 ghost use Rattle.gate.specs.RunContext.{nested, StatementContext, RunContext, TraceRoom, SiteContext};
 ghost use Rattle.gate.specs.PlainStatement.{PlainStatement, IsCall};
 ghost use Rattle.gate.specs.RanSteps.{RanSteps, statementSteps, openedSteps, Popped};
@@ -180,6 +182,7 @@ pub fn visit_statement(
     l: Layout,
     register_starts: &[u64],
     kept_values: &mut [u64],
+    kept_bodies: &mut [u64],
     angles: &[u64; expression::FRAME_ANGLE_WORDS],
     qubits: &[u64; image::FRAME_QUBITS],
     site: Site,
@@ -188,13 +191,14 @@ pub fn visit_statement(
     at: Position,
 ) -> Linearized
     requires { ⌜
-        SiteContext (now image) l (now «register_starts») (now «kept_values») (now angles) (now qubits) site (now out) (now trace) at
+        SiteContext (now image) l (now «register_starts») (now «kept_values») (now «kept_bodies») (now angles) (now qubits) site (now out) (now trace) at
         × PlainStatement (now image) l site
         ⌝ }
     ensures { λ r. ⌜
         RanSteps (statementSteps (now (image .entry)) (now (angles .entry)) (now (qubits .entry)) site)
         (now (out .entry)) at (now (trace .entry)) r (now (out .exit)) (now (trace .exit))
         × ConstantsKept (now (image .entry)) (now («kept_values» .exit))
+        × BodiesKept (now (image .entry)) (now («kept_bodies» .exit)) (now (out .exit)) (positionOf r .words)
         ⌝ }
 {
     if image::word(image, l.statement_at(site.statement)) == 3 {
@@ -203,6 +207,7 @@ pub fn visit_statement(
             l,
             register_starts,
             kept_values,
+            kept_bodies,
             angles,
             qubits,
             site,
@@ -230,6 +235,7 @@ fn visit_call(
     l: Layout,
     register_starts: &[u64],
     kept_values: &mut [u64],
+    kept_bodies: &mut [u64],
     angles: &[u64; expression::FRAME_ANGLE_WORDS],
     qubits: &[u64; image::FRAME_QUBITS],
     site: Site,
@@ -238,7 +244,7 @@ fn visit_call(
     at: Position,
 ) -> Linearized
     requires { ⌜
-        SiteContext (now image) l (now «register_starts») (now «kept_values») (now angles) (now qubits) site (now out) (now trace) at
+        SiteContext (now image) l (now «register_starts») (now «kept_values») (now «kept_bodies») (now angles) (now qubits) site (now out) (now trace) at
         × PlainStatement (now image) l site
         × IsCall (now image) site
         ⌝ }
@@ -246,6 +252,7 @@ fn visit_call(
         RanSteps (statementSteps (now (image .entry)) (now (angles .entry)) (now (qubits .entry)) site)
         (now (out .entry)) at (now (trace .entry)) r (now (out .exit)) (now (trace .exit))
         × ConstantsKept (now (image .entry)) (now («kept_values» .exit))
+        × BodiesKept (now (image .entry)) (now («kept_bodies» .exit)) (now (out .exit)) (positionOf r .words)
         ⌝ }
 {
     let call = call_at(image, l, site);
@@ -266,6 +273,7 @@ fn visit_call(
             l,
             register_starts,
             kept_values,
+            kept_bodies,
             qubits,
             call,
             values,
@@ -283,6 +291,7 @@ fn visit_gate(
     l: Layout,
     register_starts: &[u64],
     kept_values: &mut [u64],
+    kept_bodies: &mut [u64],
     qubits: &[u64; image::FRAME_QUBITS],
     call: Call,
     angles: [Value; image::FRAME_ANGLES],
@@ -291,7 +300,7 @@ fn visit_gate(
     at: Position,
 ) -> Linearized
     requires { ⌜
-        RunContext (now image) l (now «register_starts») (now «kept_values») (call .site .scope) (now qubits) (now out) (now trace) at
+        RunContext (now image) l (now «register_starts») (now «kept_values») (now «kept_bodies») (call .site .scope) (now qubits) (now out) (now trace) at
         × TraceRoom at (nested (call .site .scope))
         × AnglesGiven angles (call .parameters)
         × CallStatement (now image) l call
@@ -300,6 +309,7 @@ fn visit_gate(
         RanSteps (callSteps (now (image .entry)) (scopeFrame (now (image .entry)) (call .site .scope) [] (now (qubits .entry))) call (take (call .parameters) angles))
         (now (out .entry)) at (now (trace .entry)) r (now (out .exit)) (now (trace .exit))
         × ConstantsKept (now (image .entry)) (now («kept_values» .exit))
+        × BodiesKept (now (image .entry)) (now («kept_bodies» .exit)) (now (out .exit)) (positionOf r .words)
         ⌝ }
 {
     if call.body == 0 {
@@ -315,6 +325,7 @@ fn visit_gate(
         l,
         register_starts,
         kept_values,
+        kept_bodies,
         qubits,
         call,
         angles,
@@ -331,6 +342,7 @@ fn visit_rounds(
     l: Layout,
     register_starts: &[u64],
     kept_values: &mut [u64],
+    kept_bodies: &mut [u64],
     qubits: &[u64; image::FRAME_QUBITS],
     call: Call,
     angles: [Value; image::FRAME_ANGLES],
@@ -339,7 +351,7 @@ fn visit_rounds(
     at: Position,
 ) -> Linearized
     requires { ⌜
-        RunContext (now image) l (now «register_starts») (now «kept_values») (call .site .scope) (now qubits) (now out) (now trace) at
+        RunContext (now image) l (now «register_starts») (now «kept_values») (now «kept_bodies») (call .site .scope) (now qubits) (now out) (now trace) at
         × TraceRoom at (call .gate)
         × AnglesGiven angles (call .parameters)
         × OpenedCall (now image) l call
@@ -348,6 +360,7 @@ fn visit_rounds(
         RanSteps (inRounds (callRounds (now (image .entry)) call) (openedRound (now (image .entry)) (now (qubits .entry)) call (take (call .parameters) angles)))
         (now (out .entry)) at (now (trace .entry)) r (now (out .exit)) (now (trace .exit))
         × ConstantsKept (now (image .entry)) (now («kept_values» .exit))
+        × BodiesKept (now (image .entry)) (now («kept_bodies» .exit)) (now (out .exit)) (positionOf r .words)
         ⌝ }
 {
     let n = statement::call_rounds(image, l, call);
@@ -364,6 +377,7 @@ fn visit_rounds(
             l,
             register_starts,
             kept_values,
+            kept_bodies,
             frame,
             call,
             out,
@@ -382,12 +396,13 @@ fn visit_rounds(
     Linearized::Done(position)
 }
 
-// The statements of a gate's body in turn, in the frame of a call.
+// The body of a gate in the frame of a call: it is copied if it was run before, and run otherwise.
 fn open_gate(
     image: &[u64],
     l: Layout,
     register_starts: &[u64],
     kept_values: &mut [u64],
+    kept_bodies: &mut [u64],
     frame: Frame,
     call: Call,
     out: &mut [u64],
@@ -395,7 +410,7 @@ fn open_gate(
     at: Position,
 ) -> Linearized
     requires { ⌜
-        RunContext (now image) l (now «register_starts») (now «kept_values») (suc (call .gate)) (frame .qubits) (now out) (now trace) at
+        RunContext (now image) l (now «register_starts») (now «kept_values») (now «kept_bodies») (suc (call .gate)) (frame .qubits) (now out) (now trace) at
         × TraceRoom at (call .gate)
         × AnglesGiven (frame .angles) (call .parameters)
         × OpenedCall (now image) l call
@@ -404,12 +419,58 @@ fn open_gate(
         RanSteps (openedSteps (now (image .entry)) call (frame .angles) (frame .qubits))
         (now (out .entry)) at (now (trace .entry)) r (now (out .exit)) (now (trace .exit))
         × ConstantsKept (now (image .entry)) (now («kept_values» .exit))
+        × BodiesKept (now (image .entry)) (now («kept_bodies» .exit)) (now (out .exit)) (positionOf r .words)
         ⌝ }
 {
     let values = frame.angles;
     let qubits = frame.qubits;
     let mut angles = [0u64; expression::FRAME_ANGLE_WORDS];
     expression::put_frame_angles(values, call.parameters, &mut angles);
+    match kept_body::copy_body(kept_bodies, call, &angles, &qubits, out, at) {
+        BodyCopy::Copied(next) => Linearized::Done(next),
+        BodyCopy::NotKept => visit_body(
+            image,
+            l,
+            register_starts,
+            kept_values,
+            kept_bodies,
+            &angles,
+            &qubits,
+            call,
+            out,
+            trace,
+            at,
+        ),
+    }
+}
+
+// The statements of a gate's body in turn. A body that is run to its end is kept.
+fn visit_body(
+    image: &[u64],
+    l: Layout,
+    register_starts: &[u64],
+    kept_values: &mut [u64],
+    kept_bodies: &mut [u64],
+    angles: &[u64; expression::FRAME_ANGLE_WORDS],
+    qubits: &[u64; image::FRAME_QUBITS],
+    call: Call,
+    out: &mut [u64],
+    trace: &mut [u64],
+    at: Position,
+) -> Linearized
+    requires { ⌜
+        RunContext (now image) l (now «register_starts») (now «kept_values») (now «kept_bodies») (suc (call .gate)) (now qubits) (now out) (now trace) at
+        × TraceRoom at (call .gate)
+        × SoundAngles (anglesIn (now angles))
+        × OpenedCall (now image) l call
+        ⌝ }
+    ensures { λ r. ⌜
+        RanSteps (openedSteps (now (image .entry)) call (anglesIn (now (angles .entry))) (now (qubits .entry)))
+        (now (out .entry)) at (now (trace .entry)) r (now (out .exit)) (now (trace .exit))
+        × ConstantsKept (now (image .entry)) (now («kept_values» .exit))
+        × BodiesKept (now (image .entry)) (now («kept_bodies» .exit)) (now (out .exit)) (positionOf r .words)
+        ⌝ }
+{
     let body = image::statements_of(image, l, call.gate + 1);
     let mut position = at;
     let mut i = 0u64;
@@ -420,8 +481,9 @@ fn open_gate(
             l,
             register_starts,
             kept_values,
-            &angles,
-            &qubits,
+            kept_bodies,
+            angles,
+            qubits,
             site,
             out,
             trace,
@@ -436,5 +498,6 @@ fn open_gate(
         }
         i += 1;
     }
+    kept_body::keep_body(kept_bodies, call, angles, qubits, at, position);
     Linearized::Done(position)
 }

@@ -44,7 +44,7 @@ no-holder q x (b ∷ l) e = go (eqb x (q b)) refl e (λ d. no-holder q x l d)
 abbrev Apart : (ℕ → ℕ) → List ℕ → ℕ → Type 0
 Apart q l b = All (λ a. T (not (eqb (q a) (q b)))) l
 
-no-overlap : (q : ℕ → ℕ) (before l : List ℕ) → overlap q before l ≡ none → T (differ (map q l)) × All (Apart q l) before
+pub no-overlap : (q : ℕ → ℕ) (before l : List ℕ) → overlap q before l ≡ none → T (differ (map q l)) × All (Apart q l) before
 unfolding overlap clash differ
 no-overlap q before [] e = (tt, All-members before (λ b m. nil))
 no-overlap q before (a ∷ l) e = go (holder q (q a) before) refl e (λ d. no-overlap q (before ++ a ∷ []) l d)

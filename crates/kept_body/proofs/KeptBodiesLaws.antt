@@ -1,0 +1,140 @@
+-- The table of kept bodies: when a body is put into its slot, what is written later, and what a slot says of a later call.
+use Prim.Native.Nat.{ℕ, zero, suc, _+_, _-_, _*_, _≤_, _<_}
+use native.Mathlib.Nat.{add-zero, eq-or-lt-of-le}
+use native.Mathlib.Omega.{arith}
+use mathlib.Core.Path.{_≡_, refl, sym, ap, ap₂, subst, _∙_}
+use mathlib.Core.Logic.{_⊎_, inl, inr}
+use mathlib.Core.Bool.{Bool, true, false}
+use mathlib.Core.List.{List, [], _∷_, _++_, map}
+use lib.Dec.{T, eqb, ltb}
+use borrow.Author.Tests.{eqb-true, eqb-false, ltb-true, ltb-false}
+use borrow.Rule.Slice.PartMut.{putMid, postOf, same-len-mid, mid-len, take-put, drop-put}
+use lib.ListN.{length, getD, take, drop, length-drop}
+use lib.Seq.{sets, length-sets, length-take-le, take-at, drop-at, take-take, drop-drop, getD-take, getD-drop, ext-getD}
+use Rattle.rational.specs.declared.Rational64.{Rational64}
+use Rattle.value.specs.declared.Value.{Value}
+use Rattle.model.specs.Image.{gates, gateParameters, gateArguments}
+use Rattle.model.specs.Accepted.{Accepted}
+use Rattle.model.specs.Claims.{differ}
+use Rattle.model.specs.Evaluate.{zeroValue}
+use Rattle.model.specs.Records.{Record, encode}
+use Rattle.model.specs.Run.{Answer, done, play, output}
+use Rattle.model.specs.Playing.{OutputState, room, Plays}
+use Rattle.model.specs.Steps.{Step}
+use Rattle.model.proofs.ListLaws.{drop-take}
+use Rattle.model.proofs.Accepted.{few-parameters}
+use Rattle.record_writer.specs.declared.Position.{Position}
+use Rattle.record_writer.specs.declared.Linearized.the-variants as linearized
+use Rattle.record_writer.specs.Promise.{stateAt, WroteSteps, WroteStepsTo}
+use Rattle.expression.specs.Angles.{fractionAt, valueAt, anglesIn}
+use Rattle.expression.proofs.AnglesLaws.{angle-at, sixteen}
+use Rattle.statement.specs.declared.Call.{Call}
+use Rattle.copy.specs.BodyKept.{bodyFrame, BodyKept}
+use Rattle.copy.proofs.BodyKeptLaws.{kept-later, kept-new}
+use Rattle.kept_body.specs.Slot.{keptBodyWords, slotOf, slotLevels, slotStart, slotWords, slotRecords, slotQubits, slotAngles, SameAngles, SlotFilled}
+use Rattle.kept_body.specs.KeptBodies.{SlotKept, BodiesKept, CalledGate, BodyRun}
+
+-- ---- slots of a table in which one was put anew
+
+-- the table with the slot of gate g put anew, as the code lends it
+abbrev pub putInto : List ℕ → List ℕ → ℕ → List ℕ
+putInto table slot g = putMid (keptBodyWords * g) (keptBodyWords * g + keptBodyWords - keptBodyWords * g) table slot
+
+module _ (table slot : List ℕ) (g : ℕ) (whole : length slot ≡ keptBodyWords) (room : keptBodyWords * (g + 1) ≤ length table) where
+  abbrev first : ℕ
+  first = keptBodyWords * g
+
+  abbrev end : ℕ
+  end = first + keptBodyWords
+
+  abbrev put : List ℕ
+  put = putInto table slot g
+
+  pub slot-put : slotOf put g ≡ slot
+  slot-put = ap (take keptBodyWords) (drop-at (take first table) (slot ++ postOf first (end - first) table) first (length-take-le first table (omega arith))) ∙ take-at slot (postOf first (end - first) table) keptBodyWords whole
+
+  pub length-put : length put ≡ length table
+  length-put = same-len-mid first (end - first) table slot (whole ∙ sym (mid-len first end table (omega arith) ∙ omega arith))
+
+  slot-before : (h : ℕ) → h < g → slotOf put h ≡ slotOf table h
+  slot-before h l = before put ∙ ap (λ (t : List ℕ). take keptBodyWords (drop (keptBodyWords * h) t)) (take-put first (end - first) table slot (omega arith)) ∙ sym (before table)
+    where
+      before : (t : List ℕ) → slotOf t h ≡ take keptBodyWords (drop (keptBodyWords * h) (take first t))
+      before t = sym (ap (take keptBodyWords) (drop-take (keptBodyWords * h) first t (omega arith)) ∙ take-take keptBodyWords (first - keptBodyWords * h) (drop (keptBodyWords * h) t) (omega arith))
+
+  slot-after : (h : ℕ) → g < h → slotOf put h ≡ slotOf table h
+  slot-after h l = behind put ∙ ap (λ (t : List ℕ). take keptBodyWords (drop (keptBodyWords * h - end) t)) (drop-put first end table slot (omega arith) (omega arith) (omega (arith, whole))) ∙ sym (behind table)
+    where
+      behind : (t : List ℕ) → slotOf t h ≡ take keptBodyWords (drop (keptBodyWords * h - end) (drop end t))
+      behind t = let e : keptBodyWords * h ≡ end + (keptBodyWords * h - end) = omega arith in ap (λ (k : ℕ). take keptBodyWords (drop k t)) e ∙ ap (take keptBodyWords) (sym (drop-drop (keptBodyWords * h - end) end t))
+
+  pub slot-other : (h : ℕ) → ¬ (h ≡ g) → slotOf put h ≡ slotOf table h
+  slot-other h n = go (ltb h g) refl
+    where
+      go : (b : Bool) → ltb h g ≡ b → slotOf put h ≡ slotOf table h
+      go true e = slot-before h (ltb-true h g e)
+      go false e = slot-after h (let k = ltb-false h g e in omega arith)
+
+-- ---- the angles of a slot
+
+fraction-same : (v w : List ℕ) (p q : ℕ) → getD v p 0 ≡ getD w q 0 → getD v (p + 1) 0 ≡ getD w (q + 1) 0 → getD v (p + 2) 0 ≡ getD w (q + 2) 0 → fractionAt v p ≡ fractionAt w q
+fraction-same v w p q e f g = rw (e, f, g) refl
+
+pub angles-same : (slot angles : List ℕ) (n : ℕ) → n ≤ 16 → SameAngles slot angles (6 * n) → slotAngles slot n ≡ take n (anglesIn angles)
+angles-same slot angles n few s =
+    let long : (w : List ℕ) → length (take n (anglesIn w)) ≡ n = λ w. length-take-le n (anglesIn w) (omega (arith, sixteen w)) in
+    ext-getD zeroValue (slotAngles slot n) (take n (anglesIn angles)) (long (drop 20 slot) ∙ sym (long angles)) (λ i h.
+    let k : i < n = omega (arith, long (drop 20 slot)) in
+    getD-take n (anglesIn (drop 20 slot)) i zeroValue k ∙ angle-at (drop 20 slot) i zeroValue (omega arith) ∙ value i k ∙ sym (getD-take n (anglesIn angles) i zeroValue k ∙ angle-at angles i zeroValue (omega arith)))
+  where
+    word-same : (j : ℕ) → j < 6 * n → getD (drop 20 slot) j 0 ≡ getD angles j 0
+    word-same j h = getD-drop 20 slot j 0 ∙ s .each j h
+    value : (i : ℕ) → i < n → valueAt (drop 20 slot) (6 * i) ≡ valueAt angles (6 * i)
+    value i h =
+        ap₂ (λ (a b : Rational64). record { a = a; b = b })
+        (fraction-same (drop 20 slot) angles (6 * i) (6 * i) (word-same (6 * i) (omega arith)) (word-same (6 * i + 1) (omega arith)) (word-same (6 * i + 2) (omega arith)))
+        (fraction-same (drop 20 slot) angles (6 * i + 3) (6 * i + 3) (word-same (6 * i + 3) (omega arith)) (word-same (6 * i + 3 + 1) (omega arith)) (word-same (6 * i + 3 + 2) (omega arith)))
+
+-- ---- what is written later leaves what is kept
+
+pub bodies-later : {image table : List ℕ} {ss : List Step} {p q : OutputState} {a : Answer} → Plays ss p q a → BodiesKept image table (p .out) (p .words) → BodiesKept image table (q .out) (q .words)
+bodies-later {image} {table} {ss} {p} {q} w b =
+    record {
+      room = b .room;
+      each = λ g h k.
+          let s = b .each g h k in
+          record { body = rw (w .contents) (kept-later (s .body) (output (play (room p) ss)) (q .words) (omega (arith, w .position))); distinct = s .distinct };
+    }
+
+-- ---- a body that was run is put into its slot
+
+module _ {image : List ℕ} {call : Call} {angles qubits out out′ : List ℕ} {at next : Position} (r : BodyRun image call (anglesIn angles) qubits out at next out′) where
+  slot-kept : {slot : List ℕ} {levels start words records : ℕ} → levels ≡ call .site .«levels_left» → start ≡ at .words → words ≡ next .words - at .words → records ≡ next .records - at .records
+      → SlotFilled slot levels start words records qubits (call .arguments) angles (6 * call .parameters) → (¬ (words ≡ 0) → T (differ (take (call .arguments) qubits))) → SlotKept image slot out′ (next .words) (call .gate)
+  slot-kept {slot} e₁ e₂ e₃ e₄ f d =
+      let c = r .called in
+      let few : call .parameters ≤ 16 = omega (arith, c .parameters-are, few-parameters (c .accepted) (call .gate) (c .listed)) in
+      let vs : slotAngles slot (gateParameters image (call .gate)) ≡ take (call .parameters) (anglesIn angles) = ap (slotAngles slot) (sym (c .parameters-are)) ∙ angles-same slot angles (call .parameters) few (f .angles-are) in
+      let qs : slotQubits slot (gateArguments image (call .gate)) ≡ take (call .arguments) qubits = ap (slotQubits slot) (sym (c .arguments-are)) ∙ f .qubits-are in
+      record {
+        body = rw (vs, qs, f .levels-are ∙ e₁, f .start-is ∙ e₂, f .words-are ∙ e₃, f .records-are ∙ e₄) (kept-new image (call .gate) (call .site .«levels_left») [] (take (call .parameters) (anglesIn angles)) (take (call .arguments) qubits) (r .wrote .plays) (r .inside));
+        distinct = λ n. subst (λ (l : List ℕ). T (differ l)) (sym qs) (d (λ e. n (f .words-are ∙ e)));
+      }
+
+  pub bodies-put : (table slot : List ℕ) → keptBodyWords * (call .gate + 1) ≤ length table → BodiesKept image table out′ (next .words)
+      → SlotFilled slot (call .site .«levels_left») (at .words) (next .words - at .words) (next .records - at .records) qubits (call .arguments) angles (6 * call .parameters)
+      → (¬ (next .words - at .words ≡ 0) → T (differ (take (call .arguments) qubits)))
+      → BodiesKept image (putInto table slot (call .gate)) out′ (next .words)
+  bodies-put table slot room b f d =
+      record {
+        room = subst (λ (n : ℕ). keptBodyWords * gates image ≤ n) (sym (length-put table slot (call .gate) (f .whole) room)) (b .room);
+        each = λ g h k. go g h k (eqb g (call .gate)) refl;
+      }
+    where
+      go : (g : ℕ) → g < gates image → ¬ (slotLevels (slotOf (putInto table slot (call .gate)) g) ≡ 0) → (c : Bool) → eqb g (call .gate) ≡ c → SlotKept image (slotOf (putInto table slot (call .gate)) g) out′ (next .words) g
+      go g h k true e =
+          let same = eqb-true g (call .gate) e in
+          rw (same, slot-put table slot (call .gate) (f .whole) room) (slot-kept refl refl refl refl f d)
+      go g h k false e =
+          let other = slot-other table slot (call .gate) (f .whole) room g (eqb-false g (call .gate) e) in
+          rw other (b .each g h (λ z. k (ap slotLevels other ∙ z)))

@@ -1,0 +1,67 @@
+-- A body that may be copied is put into the slot of its gate, and the other slots stay.
+use denote.Ref.{now}
+use borrow.Author.Needs.{needs}
+use borrow.Author.Tests.{not-false}
+use Rattle.kept_body.proofs.KeptBodiesLaws.{bodies-put}
+use borrow.Author.Needs.{needs}
+use Rattle.kept_body.proofs.keep_body.Statement.{statement}
+use Rattle.kept_body.proofs.keep_body.Tie as tie
+use Rattle.kept_body.proofs.keep_body.Reads as reads
+use Rattle.kept_body.proofs.keep_body.Lts as lts
+use Rattle.kept_body.proofs.may_be_copied.Reads as may-be-copied-reads
+use Rattle.kept_body.proofs.put_body.Reads as put-body-reads
+
+sub-may-be-copied : tie.Need-sub-may-be-copied
+sub-may-be-copied c = search needs
+
+may-be-copied-requires : tie.Need-may-be-copied-requires
+may-be-copied-requires c κs = search needs
+
+returns : tie.Need-returns
+returns c = search needs
+
+mul-first : tie.Need-mul-first
+mul-first c = search needs
+
+add-end : tie.Need-add-end
+add-end c = search needs
+
+mul-put-body : tie.Need-mul-put-body
+mul-put-body c = search needs
+
+sub-put-body : tie.Need-sub-put-body
+sub-put-body c = search needs
+
+part-put-body-start : tie.Need-part-put-body-start
+part-put-body-start c = search needs
+
+part-put-body-end : tie.Need-part-put-body-end
+part-put-body-end c = search needs
+
+put-body-requires : tie.Need-put-body-requires
+put-body-requires c κs = search needs
+
+same-length : tie.Need-same-length
+same-length c = search needs
+
+returns-2 : tie.Need-returns-2
+returns-2 c =
+    let s = c .before .before .before .before .before .before .before .before .before in
+    λ image out out′ r b. bodies-put r (now (s .args .kept-bodies)) (c .before .before .put-body .last .0) (s .pre .0 .room) b (c .before .before .put-body .ensures) (c .before .before .before .before .before .may-be-copied .ensures (not-false _ (c .before .before .before .before .if1 .left)))
+
+pub keep-body-spec : {M : Type 1} → statement M
+keep-body-spec =
+    tie.close
+    (tie.spec
+    sub-may-be-copied
+    may-be-copied-requires
+    returns
+    mul-first
+    add-end
+    mul-put-body
+    sub-put-body
+    part-put-body-start
+    part-put-body-end
+    put-body-requires
+    same-length
+    returns-2)

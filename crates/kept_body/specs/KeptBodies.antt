@@ -1,0 +1,64 @@
+-- The table of bodies that were run to their end, a slot for each gate, and what it says of a later call.
+use Prim.Native.Nat.{ℕ, _+_, _*_, _≤_, _<_}
+use mathlib.Core.Path.{_≡_}
+use mathlib.Core.List.{List, []}
+use lib.Dec.{T}
+use lib.ListN.{length, take}
+use Rattle.value.specs.declared.Value.{Value}
+use Rattle.model.specs.Limits.{mostGates, mostParameters}
+use Rattle.model.specs.Image.{gates, gateParameters, gateArguments}
+use Rattle.model.specs.Accepted.{Accepted}
+use Rattle.model.specs.Claims.{differ}
+use Rattle.model.specs.Steps.{Step}
+use Rattle.record_writer.specs.declared.Position.{Position}
+use Rattle.record_writer.specs.Promise.{InOutput, QubitsGiven, WroteStepsTo}
+use Rattle.statement.specs.declared.Call.{Call}
+use Rattle.copy.specs.BodyKept.{bodySteps, BodyKept}
+use Rattle.kept_body.specs.declared.BodyCopy.{BodyCopy}
+use Rattle.kept_body.specs.declared.BodyCopy.the-variants as bodyCopy
+use Rattle.kept_body.specs.Slot.{keptBodyWords, slotOf, slotLevels, slotStart, slotWords, slotRecords, slotQubits, slotAngles, SlotStands}
+
+-- a slot keeps a body of gate g: it was run to its end, its records stand in the output, and if there are any it was run with different qubits
+pub record SlotKept (image slot out : List ℕ) (at g : ℕ) : Type 0 where
+  pub body : BodyKept image out at g (slotLevels slot) (slotAngles slot (gateParameters image g)) (slotQubits slot (gateArguments image g)) (slotStart slot) (slotWords slot) (slotRecords slot)
+  pub distinct : ¬ (slotWords slot ≡ 0) → T (differ (slotQubits slot (gateArguments image g)))
+
+-- the table has a slot for each gate, and each slot keeps a body of its gate or none
+pub record BodiesKept (image table out : List ℕ) (at : ℕ) : Type 0 where
+  pub room : keptBodyWords * gates image ≤ length table
+  pub each : (g : ℕ) → g < gates image → ¬ (slotLevels (slotOf table g) ≡ 0) → SlotKept image (slotOf table g) out at g
+
+-- a call of a gate of an accepted image
+pub record CalledGate (image : List ℕ) (call : Call) : Type 0 where
+  pub accepted : Accepted image
+  pub listed : call .gate < gates image
+  pub parameters-are : call .parameters ≡ gateParameters image (call .gate)
+  pub arguments-are : call .arguments ≡ gateArguments image (call .gate)
+
+-- the steps of a call's body, with as many of some angles and qubits as its gate has
+abbrev pub calledSteps : List ℕ → Call → List Value → List ℕ → List Step
+calledSteps image call angles qubits = bodySteps image (call .site .«levels_left») [] (call .gate) (take (call .parameters) angles) (take (call .arguments) qubits)
+
+-- the table has a slot for the gate of a call, the call has no more parameters than a gate may have, and its qubits are given
+pub record SlotGiven (table : List ℕ) (call : Call) (qubits : List ℕ) : Type 0 where
+  pub few-gates : call .gate < mostGates
+  pub few-parameters : call .parameters ≤ mostParameters
+  pub given : QubitsGiven qubits (call .arguments)
+  pub room : keptBodyWords * (call .gate + 1) ≤ length table
+
+-- what the slot of a call's gate keeps, if it keeps anything, stands in the output
+pub record CopyGiven (table out : List ℕ) (call : Call) (qubits : List ℕ) (at : Position) : Type 0 where
+  pub slot : SlotGiven table call qubits
+  pub stands : ¬ (slotLevels (slotOf table (call .gate)) ≡ 0) → SlotStands (slotOf table (call .gate)) out (at .words)
+  pub in-output : InOutput out at
+
+-- a body was copied: to do so was to play its steps; or it was not, and nothing was written
+abbrev pub BodyCopied : List ℕ → Call → List Value → List ℕ → List ℕ → Position → BodyCopy → List ℕ → Type 0
+BodyCopied image call angles qubits out at (bodyCopy.Copied next) out′ = WroteStepsTo (calledSteps image call angles qubits) out at next out′
+BodyCopied image call angles qubits out at bodyCopy.NotKept out′ = out′ ≡ out
+
+-- the body of a call was run to its end between two positions
+pub record BodyRun (image : List ℕ) (call : Call) (angles : List Value) (qubits out : List ℕ) (at next : Position) (out′ : List ℕ) : Type 0 where
+  pub called : CalledGate image call
+  pub inside : at .words ≤ length out
+  pub wrote : WroteStepsTo (calledSteps image call angles qubits) out at next out′

@@ -1,0 +1,78 @@
+-- The words that the table of kept bodies has for a gate: its slot.
+use Prim.Native.Nat.{ℕ, _+_, _*_, _≤_, _<_}
+use mathlib.Core.Path.{_≡_}
+use mathlib.Core.Logic.{_⊎_}
+use mathlib.Core.List.{List, map}
+use lib.ListN.{length, getD, take, drop}
+use Rattle.value.specs.declared.Value.{Value}
+use Rattle.model.specs.Lists.{range}
+use Rattle.expression.specs.Angles.{valueWords, anglesIn}
+use Rattle.statement.specs.declared.Call.{Call}
+use Rattle.copy.specs.CopiedRecords.{RecordsStand}
+
+-- the words of a slot: four numbers, sixteen qubits, and six words for each of sixteen angles
+abbrev pub keptBodyWords : ℕ
+keptBodyWords = 116
+
+-- the slot of gate g
+abbrev pub slotOf : List ℕ → ℕ → List ℕ
+slotOf table g = take keptBodyWords (drop (keptBodyWords * g) table)
+
+-- the levels that were left when the body was opened; 0 where no body is kept, since a body is opened with a level left
+abbrev pub slotLevels : List ℕ → ℕ
+slotLevels slot = getD slot 0 0
+
+-- where the body's records start in the output, how many words they are, and how many records
+abbrev pub slotStart : List ℕ → ℕ
+slotStart slot = getD slot 1 0
+
+abbrev pub slotWords : List ℕ → ℕ
+slotWords slot = getD slot 2 0
+
+abbrev pub slotRecords : List ℕ → ℕ
+slotRecords slot = getD slot 3 0
+
+-- the qubits and the angles that the body was run with, for n arguments and n parameters
+abbrev pub slotQubits : List ℕ → ℕ → List ℕ
+slotQubits slot n = take n (drop 4 slot)
+
+abbrev pub slotAngles : List ℕ → ℕ → List Value
+slotAngles slot n = take n (anglesIn (drop 20 slot))
+
+-- ---- whether a body is the one that is kept
+
+-- A body of gate g that was opened with n levels left and wrote so many words is opened alike with n′: as many levels are left; or it wrote nothing and no fewer are left; or every call in it is opened in both.
+abbrev pub OpenedAlike : ℕ → ℕ → ℕ → ℕ → Type 0
+OpenedAlike g n n′ words = (n ≡ n′) ⊎ (((words ≡ 0) × (n ≤ n′)) ⊎ ((g < n) × (g < n′)))
+
+-- the first n words of a slot's angles are those of others
+pub record SameAngles (slot angles : List ℕ) (n : ℕ) : Type 0 where
+  pub each : (j : ℕ) → j < n → getD slot (20 + j) 0 ≡ getD angles j 0
+
+-- a slot keeps the body of a call with these words of angles
+pub record SameBody (slot : List ℕ) (call : Call) (angles : List ℕ) : Type 0 where
+  pub kept : ¬ (slotLevels slot ≡ 0)
+  pub alike : OpenedAlike (call .gate) (slotLevels slot) (call .site .«levels_left») (slotWords slot)
+  pub same : SameAngles slot angles (valueWords * call .parameters)
+
+-- ---- what a slot holds
+
+-- the records that a slot tells of stand in the output before a word
+pub record SlotStands (slot out : List ℕ) (at : ℕ) : Type 0 where
+  pub stands : RecordsStand out (slotStart slot) (slotWords slot)
+  pub before : slotStart slot + slotWords slot ≤ at
+  pub fewer : slotRecords slot ≤ slotWords slot
+
+-- the first n of some words
+abbrev pub firstWords : List ℕ → ℕ → List ℕ
+firstWords words n = map (λ j. getD words j 0) (range 0 n)
+
+-- a slot was filled with numbers, the first n of some qubits and the first m words of some angles
+pub record SlotFilled (slot : List ℕ) (levels start words records : ℕ) (qubits : List ℕ) (n : ℕ) (angles : List ℕ) (m : ℕ) : Type 0 where
+  pub whole : length slot ≡ keptBodyWords
+  pub levels-are : slotLevels slot ≡ levels
+  pub start-is : slotStart slot ≡ start
+  pub words-are : slotWords slot ≡ words
+  pub records-are : slotRecords slot ≡ records
+  pub qubits-are : slotQubits slot n ≡ take n qubits
+  pub angles-are : SameAngles slot angles m
