@@ -1,18 +1,17 @@
 -- What the words of a finished body, standing in the output, say of a later call of its gate.
-use Prim.Native.Nat.{ℕ, zero, suc, _+_, _-_, _*_, _≤_, _<_}
+use Prim.Native.Nat.{ℕ, zero, suc, _+_, _-_, _≤_, _<_}
 use native.Mathlib.Nat.{add-zero}
 use native.Mathlib.Omega.{arith}
-use mathlib.Core.Path.{_≡_, refl, sym, ap, ap₂, _∙_, subst}
+use mathlib.Core.Path.{_≡_, refl, sym, ap, ap₂, _∙_}
 use mathlib.Core.Bool.{Bool, true, false, not, cond}
 use mathlib.Core.List.{List, [], _∷_, _++_, map, flatMap, append-assoc}
 use lib.Dec.{T, eqb}
 use lib.ListN.{length, getD, set, take, drop, length-map, length-append}
 use lib.Seq.{sets, sets-eq, length-sets, take-set-le, drop-set-add, drop-at, take-at, length-take-le}
-use borrow.Author.Tests.{eqb-true, eqb-false, eq-eqb, ne-eqb, not-true}
+use borrow.Author.Tests.{eqb-true, eqb-false, eq-eqb, ne-eqb}
 use Rattle.value.specs.declared.Value.{Value}
 use Rattle.model.specs.Image.{gates, gateArguments}
-use Rattle.model.specs.Lists.{all}
-use Rattle.model.specs.Records.{Record, kind, fields, encode, angleWords, fractionWords}
+use Rattle.model.specs.Records.{Record, encode}
 use Rattle.model.specs.Steps.{Step, openGate, opening}
 use Rattle.model.specs.Run.{done, play, output}
 use Rattle.model.specs.Playing.{OutputState, room, Plays}
@@ -20,14 +19,12 @@ use Rattle.model.specs.Claims.{differ}
 use Rattle.model.proofs.All.{test, all-All, All-getD}
 use Rattle.model.specs.All.{All, nil, cons}
 use Rattle.model.specs.Accepted.{Accepted}
-use Rattle.model.proofs.Lengths.{length-words}
 use Rattle.model.proofs.ReadBack.{words-enough}
 use Rattle.model.proofs.PlayLaws.{output-fits}
 use Rattle.copy.specs.Renaming.{renaming, renamedRecord, copiedWords}
-use Rattle.copy.specs.BodyRecord.{Plain, plain-U, plain-CX, plain-opaque}
 use Rattle.copy.specs.BodyKept.{bodyFrame, BodyKept}
 use Rattle.copy.proofs.Silent.{Silent, silent-plays, plays-silent, openings-hushed}
-use Rattle.copy.proofs.Renamed.{Renamed, Formals, Levels, gate-renamed, Again, renamed-plays, shorter}
+use Rattle.copy.proofs.Renamed.{Renamed, Formals, Levels, gate-renamed, renamed-plays, shorter}
 
 -- ---- the renaming of some qubits to others, by their places: what the code looks up
 
@@ -130,7 +127,8 @@ kept-new image g n t vs qs {p} {q} h f =
 
 -- ---- the call that is copied
 
-renamed-shorter : (r : ℕ → ℕ) (l : List Record) → length (flatMap encode (map (renamedRecord r) l)) ≤ length (flatMap encode l)
+-- a renamed record is never longer
+pub renamed-shorter : (r : ℕ → ℕ) (l : List Record) → length (flatMap encode (map (renamedRecord r) l)) ≤ length (flatMap encode l)
 unfolding flatMap
 renamed-shorter r [] = omega arith
 renamed-shorter r (x ∷ l) = simp length-append (omega (arith, shorter r x, renamed-shorter r l))
@@ -177,29 +175,6 @@ copied-long r r′ ahead {ss} {ss′} h h′ d =
     let e = ap (λ l. length (flatMap encode l)) (a .records) in
     let e′ = ap (λ l. length (flatMap encode l)) (b .records) in
     omega arith
-
--- a record of a body: the words of one before its qubits
-unfoldable pub qubitsFrom : Record → ℕ
-qubitsFrom (Record.U theta phi lambda q) = 13
-qubitsFrom (Record.CX a b) = 1
-qubitsFrom (Record.Opaque g xs qs) = 4 + length xs * 4
-qubitsFrom (Record.Head qs bs) = 0
-qubitsFrom (Record.Barrier qs) = 2
-qubitsFrom (Record.Measure q b) = 0
-qubitsFrom (Record.Reset q) = 1
-qubitsFrom (Record.ConditionalStart b n v) = 0
-qubitsFrom Record.ConditionalEnd = 0
-
--- word by word: what stands before the qubits is copied, and each qubit looked up
-pub plain-words : (r : ℕ → ℕ) {x : Record} → Plain x → encode (renamedRecord r x) ≡ take (qubitsFrom x) (encode x) ++ map r (drop (qubitsFrom x) (encode x))
-unfolding encode kind fields angleWords fractionWords renamedRecord qubitsFrom
-plain-words r plain-U = refl
-plain-words r plain-CX = refl
-plain-words r (plain-opaque {g} {xs} {qs}) =
-    let front : List ℕ = 3 ∷ g ∷ length xs ∷ length qs ∷ flatMap angleWords xs in
-    let n : length front ≡ 4 + length xs * 4 = omega (arith, length-words xs) in
-    ap (λ m. 3 ∷ g ∷ length xs ∷ m ∷ (flatMap angleWords xs ++ map r qs)) (length-map qs r)
-    ∙ sym (ap₂ (λ a b. a ++ map r b) (take-at front qs (4 + length xs * 4) n) (drop-at front qs (4 + length xs * 4) n))
 
 -- ---- silent bodies, as the code plays them
 

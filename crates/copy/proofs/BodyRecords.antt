@@ -1,7 +1,6 @@
 -- The records of a body: U, CX, kind 3 and barriers.
-use Prim.Native.Nat.{ℕ, zero, suc, _+_, _-_, _≤_, _<_}
+use Prim.Native.Nat.{ℕ, zero, suc, _-_, _<_}
 use native.Mathlib.Omega.{arith}
-use mathlib.Core.Path.{_≡_, refl}
 use mathlib.Core.Bool.{Bool, true, false, cond}
 use mathlib.Core.List.{List, [], _∷_, _++_, map, flatMap}
 use mathlib.Core.Option.{Option, none, some}
@@ -12,17 +11,17 @@ use Rattle.model.specs.Lists.{range}
 use Rattle.model.specs.Image.{Statement, Gate, Conditional, statement, gates, gateArguments, gateBody, scopeStatements}
 use Rattle.model.specs.Records.{Record, encode}
 use Rattle.model.specs.Steps.{Refusal, Step, write, enter, refuse, Frame, Opening, Values, have, lack, given, inRounds, overlap, qubitIn, withValues, writeU, writeCX, distinctly, writeOpaque, pushFrame, openGate, visitGate, visitPlain, visitConditional, visitStatement, visitBody, opening}
-use Rattle.model.specs.Run.{full, Played, stop, after, play}
+use Rattle.model.specs.Run.{full, stop, after, play}
 use Rattle.model.proofs.All.{All-members}
 use Rattle.model.specs.All.{All, nil, cons}
 use Rattle.model.specs.Accepted.{Accepted, Facts}
 use Rattle.model.proofs.Facts.{facts}
 use Rattle.copy.specs.BodyKept.{bodyFrame}
-use Rattle.copy.specs.BodyRecord.{plain-U, plain-CX, plain-opaque, Body, plain, barrier}
+use Rattle.copy.specs.BodyRecord.{BodyRecord, body-U, body-CX, body-opaque, body-barrier}
 
 pub data Bodily : List Step → Type 0 where
   nothing : Bodily []
-  writes : {t : List ℕ} {x : Record} {ss : List Step} → Body x → Bodily ss → Bodily (write t x ∷ ss)
+  writes : {t : List ℕ} {x : Record} {ss : List Step} → BodyRecord x → Bodily ss → Bodily (write t x ∷ ss)
   enters : {t : List ℕ} {g : ℕ} {ss : List Step} → Bodily ss → Bodily (enter t g ∷ ss)
   refuses : {t : List ℕ} {x : Refusal} {ss : List Step} → Bodily ss → Bodily (refuse t x ∷ ss)
 
@@ -55,14 +54,14 @@ bodily-cond true h k = h
 bodily-cond false h k = k
 
 -- what of them is written
-pub bodily-plays : (room : ℕ) {ss : List Step} → Bodily ss → All Body (play room ss .written)
+pub bodily-plays : (room : ℕ) {ss : List Step} → Bodily ss → All BodyRecord (play room ss .written)
 unfolding play
 bodily-plays room nothing = nil
 bodily-plays room (refuses h) = nil
 bodily-plays room (enters h) = bodily-plays room h
 bodily-plays room (writes {t} {x} {ss} p h) = go (leb (length (encode x)) room) (bodily-plays (room - length (encode x)) h)
   where
-    go : (b : Bool) → All Body (play (room - length (encode x)) ss .written) → All Body (cond b (after x (play (room - length (encode x)) ss)) (stop (full t)) .written)
+    go : (b : Bool) → All BodyRecord (play (room - length (encode x)) ss .written) → All BodyRecord (cond b (after x (play (room - length (encode x)) ss)) (stop (full t)) .written)
     go true k = cons p k
     go false k = nil
 
@@ -79,20 +78,20 @@ module _ (image : List ℕ) (acc : Accepted image) where
     opaque-bodily h al xs i = go (overlap (qubitIn image fr i) [] al)
       where
         go : (o : Option (ℕ × ℕ)) → Bodily (distinctly image t o (Record.Opaque h xs (map (qubitIn image fr i) al)))
-        go none = writes (plain plain-opaque) nothing
+        go none = writes body-opaque nothing
         go (some ab) = refuses nothing
 
     cx-bodily : (a b i : ℕ) → Bodily (writeCX image fr a b i)
     unfolding writeCX
-    cx-bodily a b i = bodily-cond (eqb (qubitIn image fr i a) (qubitIn image fr i b)) (refuses nothing) (writes (plain plain-CX) nothing)
+    cx-bodily a b i = bodily-cond (eqb (qubitIn image fr i a) (qubitIn image fr i b)) (refuses nothing) (writes body-CX nothing)
 
     plain-bodily : {op : Opening} → Opens op → (s : ℕ) (x : Statement) → Facts image (suc g) x → Bodily (visitPlain image (visitConditional image op fr) op fr s x)
     unfolding visitPlain withValues writeU visitGate pushFrame
-    plain-bodily f s (Statement.U theta phi lambda q) m = bodily-given t _ _ λ xs. bodily-rounds _ _ λ i. writes (plain plain-U) nothing
+    plain-bodily f s (Statement.U theta phi lambda q) m = bodily-given t _ _ λ xs. bodily-rounds _ _ λ i. writes body-U nothing
     plain-bodily f s (Statement.CX a b) m = bodily-rounds _ _ (cx-bodily a b)
     plain-bodily f s (Gate h p a) m =
         bodily-given t _ _ λ xs. bodily-rounds _ _ λ i. bodily-cond (eqb (gateBody image h) 0) (opaque-bodily h (range a (gateArguments image h)) xs i) (f .opens _ h xs _ (m .0))
-    plain-bodily f s (Statement.Barrier a n) m = writes barrier nothing
+    plain-bodily f s (Statement.Barrier a n) m = writes body-barrier nothing
     plain-bodily f s (Statement.Measure q c) m = absurd (omega (arith, m .0))
     plain-bodily f s (Statement.Reset q) m = absurd (omega (arith, m .0))
     plain-bodily f s (Conditional x v u) m = absurd (omega (arith, m .0))
@@ -107,5 +106,5 @@ module _ (image : List ℕ) (acc : Accepted image) where
   -- the law: nothing else is written by an opened gate
   pub openings-bodily : (n : ℕ) → Opens (opening image n)
   unfolding opening openGate
-  openings-bodily zero = record { opens = λ t h vs qs k. writes (plain plain-opaque) nothing }
+  openings-bodily zero = record { opens = λ t h vs qs k. writes body-opaque nothing }
   openings-bodily (suc n) = record { opens = λ t h vs qs k. enters (body-bodily t h vs qs k (openings-bodily n)) }

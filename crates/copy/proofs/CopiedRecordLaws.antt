@@ -1,16 +1,16 @@
--- The words of a record from a place on: how many are before its qubits, how many are qubits, and both copied.
-use Prim.Native.Nat.{ℕ, zero, suc, _+_, _*_, _≤_, _<_}
+-- The words of a record from a place on: of a gate how many are before its qubits, how many are qubits, and both copied; and which are those of a gate and which of a barrier.
+use Prim.Native.Nat.{ℕ, _+_, _*_, _≤_}
 use native.Mathlib.Omega.{arith}
-use mathlib.Core.Path.{_≡_, refl, sym, ap, ap₂, _∙_}
+use mathlib.Core.Path.{_≡_, sym, ap, ap₂, _∙_}
 use mathlib.Core.Bool.{Bool, true, false, cond}
-use mathlib.Core.List.{List, [], _∷_, _++_, map}
+use mathlib.Core.List.{List, _++_, map}
 use lib.Dec.{eqb}
-use lib.ListN.{length, getD, take, drop, length-drop}
-use lib.Seq.{sets, length-take-le, getD-drop, getD-take}
+use lib.ListN.{length, getD, take, drop, length-drop, length-append, length-map}
+use lib.Seq.{sets, length-take-le}
 use borrow.Author.Tests.{eq-eqb, ne-eqb}
-use Rattle.model.proofs.PlayLaws.{sets-append}
+use Rattle.model.proofs.SetsLaws.{put-more}
 use Rattle.copy.proofs.BodyKeptLaws.{part-stays}
-use Rattle.copy.specs.CopiedRecord.{wordsBeforeQubits, qubitCount, copiedLength, renamedWords}
+use Rattle.copy.specs.CopiedRecord.{WordsPut, wordsBeforeQubits, qubitCount, gateLength, renamedGate, barrierLength, renamedBarrier, recordLength, renamedWords}
 
 module _ (out : List ℕ) (from : ℕ) where
   pub some-words : 1 ≤ wordsBeforeQubits out from
@@ -51,12 +51,48 @@ module _ (out : List ℕ) (from : ℕ) where
 
 -- the two parts, one after the other
 pub both-parts : (r : ℕ → ℕ) (out out′ out″ : List ℕ) (from to fixed count : ℕ) → fixed ≡ wordsBeforeQubits out from → count ≡ qubitCount out from
-    → from + copiedLength out from ≤ to → to + copiedLength out from ≤ length out
+    → from + gateLength out from ≤ to → to + gateLength out from ≤ length out
     → out′ ≡ sets out to (take fixed (drop from out)) → out″ ≡ sets out′ (to + fixed) (map r (take count (drop (from + fixed) out′)))
-    → out″ ≡ sets out to (renamedWords r out from)
+    → WordsPut out to (renamedGate r out from) (fixed + count) out″
 both-parts r out out′ out″ from to fixed count f c before fits e d =
-    d
-    ∙ ap (λ l. sets out′ (to + fixed) (map r l)) (ap (λ l. take count (drop (from + fixed) l)) e ∙ part-stays (from + fixed) count to (take fixed (drop from out)) out (omega arith))
-    ∙ ap₂ (λ l k. sets l (to + k) (map r (take count (drop (from + fixed) out)))) e (sym (length-take-le fixed (drop from out) (simp length-drop (omega arith))))
-    ∙ sets-append out to (take fixed (drop from out)) (map r (take count (drop (from + fixed) out)))
-    ∙ ap₂ (λ a b. sets out to (take a (drop from out) ++ map r (take b (drop (from + a) out)))) f c
+    let front = take fixed (drop from out) in
+    let back = map r (take count (drop (from + fixed) out)) in
+    let front-long : length front ≡ fixed = length-take-le fixed (drop from out) (simp length-drop (omega arith)) in
+    let back-long : length back ≡ count = length-map (take count (drop (from + fixed) out)) r ∙ length-take-le count (drop (from + fixed) out) (simp length-drop (omega arith)) in
+    let words : front ++ back ≡ renamedGate r out from = ap₂ (λ a b. take a (drop from out) ++ map r (take b (drop (from + a) out))) f c in
+    record {
+      counted = sym (ap length (sym words) ∙ length-append front back ∙ ap₂ _+_ front-long back-long);
+      contents =
+          put-more out to (to + fixed) front back (omega arith) e
+          (d ∙ ap (λ l. sets out′ (to + fixed) (map r l)) (ap (λ l. take count (drop (from + fixed) l)) e ∙ part-stays (from + fixed) count to front out (omega arith)))
+          ∙ ap (sets out to) words;
+    }
+
+-- ---- a record by its kind
+
+module _ (out : List ℕ) (from : ℕ) where
+  module _ (e : getD out from 0 ≡ 4) where
+    pub length-barrier : recordLength out from ≡ barrierLength out from
+    unfolding recordLength
+    length-barrier = ap (λ b. cond b (barrierLength out from) (gateLength out from)) (eq-eqb _ 4 e)
+
+    pub words-barrier : (r : ℕ → ℕ) → renamedWords r out from ≡ renamedBarrier r out from
+    unfolding renamedWords
+    words-barrier r = ap (λ b. cond b (renamedBarrier r out from) (renamedGate r out from)) (eq-eqb _ 4 e)
+
+  module _ (e : ¬ (getD out from 0 ≡ 4)) where
+    pub length-gate : recordLength out from ≡ gateLength out from
+    unfolding recordLength
+    length-gate = ap (λ b. cond b (barrierLength out from) (gateLength out from)) (ne-eqb _ 4 e)
+
+    pub words-gate : (r : ℕ → ℕ) → renamedWords r out from ≡ renamedGate r out from
+    unfolding renamedWords
+    words-gate r = ap (λ b. cond b (renamedBarrier r out from) (renamedGate r out from)) (ne-eqb _ 4 e)
+
+  pub record-some : 1 ≤ recordLength out from
+  unfolding recordLength
+  record-some = go (eqb (getD out from 0) 4)
+    where
+      go : (b : Bool) → 1 ≤ cond b (barrierLength out from) (gateLength out from)
+      go true = omega arith
+      go false = omega (arith, some-words out from)

@@ -2,6 +2,9 @@ pub mod Silent
 pub mod Renamed
 pub mod BodyKeptLaws
 pub mod BodyRecords
+pub mod SetsLaws
 pub mod CopiedWordsLaws
+pub mod PlacedLaws
+pub mod RenamedBarrierLaws
 pub mod CopiedRecordLaws
 pub mod CopiedRecordsLaws

@@ -1,34 +1,24 @@
 -- Records that stand one after another in the output, and their copy.
-use Prim.Native.Nat.{ℕ, _+_, _≤_}
+use Prim.Native.Nat.{ℕ}
 use mathlib.Core.Path.{_≡_}
-use mathlib.Core.List.{List, _++_, flatMap}
+use mathlib.Core.List.{List, flatMap}
 use lib.ListN.{length, take, drop}
 use lib.Seq.{sets}
 use Rattle.model.specs.Records.{Record, encode}
 use Rattle.model.specs.All.{All}
 use Rattle.copy.specs.Renaming.{copiedWords}
-use Rattle.copy.specs.BodyRecord.{Plain}
+use Rattle.copy.specs.BodyRecord.{BodyRecord}
 
--- some words of the output are records of bodies, none of them a barrier
+-- some words of the output are records of bodies
 pub record RecordsStand (out : List ℕ) (from words : ℕ) : Type 0 where
   pub records : List Record
-  pub plain : All Plain records
+  pub each : All BodyRecord records
   pub stands : take words (drop from out) ≡ flatMap encode records
 
--- such records were copied, their qubits renamed; which records they are the words say (`copied-once`)
-pub record RecordsCopied (r : ℕ → ℕ) (out : List ℕ) (from words to : ℕ) (out′ : List ℕ) : Type 0 where
+-- such records were copied, their qubits renamed, and the words of the copy counted; which records they are the words say (`copied-once`)
+pub record RecordsCopied (r : ℕ → ℕ) (out : List ℕ) (from words to written : ℕ) (out′ : List ℕ) : Type 0 where
   pub records : List Record
-  pub plain : All Plain records
+  pub each : All BodyRecord records
   pub stands : take words (drop from out) ≡ flatMap encode records
+  pub counted : written ≡ length (copiedWords r records)
   pub contents : out′ ≡ sets out to (copiedWords r records)
-
--- some of such records are copied, up to two places, and the rest still stands
-pub record CopiedSoFar (r : ℕ → ℕ) (out : List ℕ) (from words to a b : ℕ) (out′ : List ℕ) : Type 0 where
-  pub before : List Record
-  pub rest : List Record
-  pub plain-before : All Plain before
-  pub plain-rest : All Plain rest
-  pub stands : take words (drop from out) ≡ flatMap encode before ++ flatMap encode rest
-  pub read : a ≡ from + length (flatMap encode before)
-  pub written : b ≡ to + length (flatMap encode before)
-  pub contents : out′ ≡ sets out to (copiedWords r before)
