@@ -1,6 +1,7 @@
 -- What the words of a finished body, standing in the output, say of a later call of its gate.
 use Prim.Native.Nat.{ℕ, zero, suc, _+_, _-_, _≤_, _<_}
-use native.Mathlib.Nat.{add-zero}
+use native.Mathlib.Nat.{add-zero, le-refl}
+use mathlib.Core.Logic.{_⊎_, inl, inr}
 use native.Mathlib.Omega.{arith}
 use mathlib.Core.Path.{_≡_, refl, sym, ap, ap₂, _∙_}
 use mathlib.Core.Bool.{Bool, true, false, not, cond}
@@ -22,8 +23,10 @@ use Rattle.model.specs.Accepted.{Accepted}
 use Rattle.model.proofs.ReadBack.{words-enough}
 use Rattle.model.proofs.PlayLaws.{output-fits}
 use Rattle.copy.specs.Renaming.{renaming, renamedRecord, copiedWords}
-use Rattle.copy.specs.BodyKept.{bodyFrame, BodyKept}
-use Rattle.copy.proofs.Silent.{Silent, silent-plays, plays-silent, openings-hushed}
+use Rattle.copy.specs.BodyKept.{bodyFrame, bodySteps, BodyKept}
+use Rattle.copy.proofs.Silent as silent
+use Rattle.copy.proofs.Renamed as renamed
+use Rattle.copy.proofs.Silent.{Silent, after-enter, no-write, no-refusal, silent-plays, plays-silent, openings-hushed}
 use Rattle.copy.proofs.Renamed.{Renamed, Formals, Levels, gate-renamed, renamed-plays, shorter}
 
 -- ---- the renaming of some qubits to others, by their places: what the code looks up
@@ -178,15 +181,7 @@ copied-long r r′ ahead {ss} {ss′} h h′ d =
 
 -- ---- silent bodies, as the code plays them
 
--- steps that came to their end where they began are silent
-pub plays-nothing : {ss : List Step} {p q : OutputState} → Plays ss p q done → q .words ≡ p .words → Silent ss
-plays-nothing {ss} {p} h e = plays-silent (room p) ss (empty (play (room p) ss .written) (omega (arith, h .position, words-enough (play (room p) ss .written)))) (sym (h .answers))
-  where
-    empty : (l : List Record) → length l ≡ 0 → l ≡ []
-    empty [] d = refl
-    empty (x ∷ l) d = absurd (omega arith)
-
--- and silent ones are played from any place to that place
+-- silent steps are played from any place to that place
 pub silent-stays : {ss : List Step} → Silent ss → (p : OutputState) → p .words ≤ length (p .out) → Plays ss p p done
 unfolding output flatMap
 silent-stays {ss} h p f =
@@ -205,3 +200,32 @@ silent-stays {ss} h p f =
 pub hushed-plays : (image : List ℕ) (g n n′ : ℕ) (vs : List Value) (t t′ qs qs′ : List ℕ) → Silent (openGate (opening image n) (bodyFrame t g vs qs) g) → n ≤ n′
     → (p : OutputState) → p .words ≤ length (p .out) → Plays (openGate (opening image n′) (bodyFrame t′ g vs qs′) g) p p done
 hushed-plays image g n n′ vs t t′ qs qs′ h l p f = silent-stays (openings-hushed image n n′ l .hushed t t′ g vs qs qs′ h) p f
+
+-- a body that was played to its end and wrote no word
+kept-quiet : {image out : List ℕ} {at g n : ℕ} {vs : List Value} {qs : List ℕ} {from words records : ℕ} (k : BodyKept image out at g n vs qs from words records) → words ≡ 0 → Silent (bodySteps image n (k .trace) g vs qs)
+unfolding output
+kept-quiet {image} {g = g} {n = n} {vs = vs} {qs = qs} k e =
+    plays-silent (k .ahead) (bodySteps image n (k .trace) g vs qs) (empty (keptRecords k) (omega (arith, k .long, words-enough (keptRecords k)))) (k .finished)
+  where
+    empty : (l : List Record) → length l ≡ 0 → l ≡ []
+    empty [] d = refl
+    empty (x ∷ l) d = absurd (omega arith)
+
+-- a renamed list of steps is as silent as the other
+renamed-quiet : {r : ℕ → ℕ} {ss ss′ : List Step} → Renamed r ss ss′ → Silent ss → Silent ss′
+renamed-quiet renamed.nothing h = silent.nothing
+renamed-quiet (renamed.enters k) h = silent.enters (renamed-quiet k (after-enter h))
+renamed-quiet (renamed.writes e k) h = absurd (no-write h)
+renamed-quiet (renamed.refuses k) h = absurd (no-refusal h)
+
+-- The law that a call of such a body rests on: with the same values, no fewer levels or every call opened in both, and any qubits, nothing is to be done.
+pub kept-silent : {image : List ℕ} → Accepted image → (p : OutputState) (g n n′ : ℕ) (vs : List Value) (qs qs′ t′ : List ℕ) {out : List ℕ} {at from words records : ℕ} → BodyKept image out at g n vs qs from words records → words ≡ 0
+    → g < gates image → length qs ≡ gateArguments image g → (n ≤ n′) ⊎ ((g < n) × (g < n′)) → p .words ≤ length (p .out) → Plays (bodySteps image n′ t′ g vs qs′) p p done
+kept-silent {image} acc p g n n′ vs qs qs′ t′ k e h l (inl m) f = hushed-plays image g n n′ vs (k .trace) t′ qs qs′ (kept-quiet k e) m p f
+kept-silent {image} acc p g n n′ vs qs qs′ t′ k e h l (inr m) f =
+    let same : Formals (λ x. x) (gateArguments image g) qs qs = record { many = l; each = sym (map-same qs); apart = λ i j _ _. refl } in
+    hushed-plays image g n′ n′ vs t′ t′ qs qs′ (renamed-quiet (gate-renamed (λ x. x) image acc n n′ (k .trace) t′ g vs qs qs h (inr m) same) (kept-quiet k e)) (le-refl n′) p f
+  where
+    map-same : (l : List ℕ) → map (λ x. x) l ≡ l
+    map-same [] = refl
+    map-same (x ∷ l) = ap (λ (m : List ℕ). x ∷ m) (map-same l)

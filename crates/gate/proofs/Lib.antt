@@ -3,3 +3,4 @@ pub mod CallStatementLaws
 pub mod OpenGateLaws
 pub mod RunContextLaws
 pub mod PrimitiveStatementLaws
+pub mod BodiesKeptLaws

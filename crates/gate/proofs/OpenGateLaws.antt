@@ -42,7 +42,7 @@ rounds-under u h n = range-under u h (range 0 n)
 
 module _ {image : List ℕ} {l : Layout} {call : Call} (c : CallStatement image l call) where
   -- what it says of its gate
-  arguments-are : call .arguments ≡ gateArguments image (call .gate)
+  pub arguments-are : call .arguments ≡ gateArguments image (call .gate)
   arguments-are = ap (λ (x : Call). x .arguments) (c .read) ∙ sym (ap (λ (x : Call). gateArguments image (x .gate)) (c .read))
 
   pub parameters-are : call .parameters ≡ gateParameters image (call .gate)

@@ -9,7 +9,7 @@ use mathlib.Core.List.{List, [], _∷_, _++_, map}
 use lib.Dec.{T, eqb, ltb}
 use borrow.Author.Tests.{eqb-true, eqb-false, ltb-true, ltb-false}
 use borrow.Rule.Slice.PartMut.{putMid, postOf, same-len-mid, mid-len, take-put, drop-put}
-use lib.ListN.{length, getD, take, drop, length-drop}
+use lib.ListN.{length, getD, take, drop, replicate, length-replicate, getD-replicate}
 use lib.Seq.{sets, length-sets, length-take-le, take-at, drop-at, take-take, drop-drop, getD-take, getD-drop, ext-getD}
 use Rattle.rational.specs.declared.Rational64.{Rational64}
 use Rattle.value.specs.declared.Value.{Value}
@@ -30,8 +30,12 @@ use Rattle.expression.specs.Angles.{fractionAt, valueAt, anglesIn}
 use Rattle.expression.proofs.AnglesLaws.{angle-at, sixteen}
 use Rattle.statement.specs.declared.Call.{Call}
 use Rattle.copy.specs.BodyKept.{bodyFrame, BodyKept}
-use Rattle.copy.proofs.BodyKeptLaws.{kept-later, kept-new}
-use Rattle.kept_body.specs.Slot.{keptBodyWords, slotOf, slotLevels, slotStart, slotWords, slotRecords, slotQubits, slotAngles, SameAngles, SlotFilled}
+use Rattle.model.proofs.ReadBack.{words-enough}
+use Rattle.model.specs.All.{All}
+use Rattle.copy.specs.BodyRecord.{BodyRecord}
+use Rattle.copy.proofs.BodyRecords.{openings-bodily, bodily-plays}
+use Rattle.copy.proofs.BodyKeptLaws.{keptRecords, kept-later, kept-new}
+use Rattle.kept_body.specs.Slot.{keptBodyWords, slotOf, slotLevels, slotStart, slotWords, slotRecords, slotQubits, slotAngles, SameAngles, SlotStands, SlotFilled}
 use Rattle.kept_body.specs.KeptBodies.{SlotKept, BodiesKept, CalledGate, BodyRun}
 
 -- ---- slots of a table in which one was put anew
@@ -138,3 +142,29 @@ module _ {image : List ℕ} {call : Call} {angles qubits out out′ : List ℕ} 
       go g h k false e =
           let other = slot-other table slot (call .gate) (f .whole) room g (eqb-false g (call .gate) e) in
           rw other (b .each g h (λ z. k (ap slotLevels other ∙ z)))
+
+-- ---- what a slot tells of stands in the output
+
+pub kept-each : {image slot out : List ℕ} {at g : ℕ} → Accepted image → g < gates image → (s : SlotKept image slot out at g) → All BodyRecord (keptRecords (s .body))
+kept-each {image} {slot} {g = g} acc h s =
+    let k = s .body in
+    bodily-plays (k .ahead) (openings-bodily image acc (slotLevels slot) .opens (k .trace) g (slotAngles slot (gateParameters image g)) (slotQubits slot (gateArguments image g)) h)
+
+pub slot-stands : {image slot out : List ℕ} {at g : ℕ} → Accepted image → g < gates image → SlotKept image slot out at g → SlotStands slot out at
+unfolding output
+slot-stands {image} {slot} {out} {at} {g} acc h s =
+    let k = s .body in
+    record {
+      stands = record { records = keptRecords k; each = kept-each acc h s; stands = k .stands };
+      before = k .before;
+      fewer = omega (arith, k .counted, k .long, words-enough (keptRecords k));
+    }
+
+-- ---- no body is kept at first
+
+pub no-bodies : (image out : List ℕ) (n at : ℕ) → keptBodyWords * gates image ≤ n → BodiesKept image (replicate n 0) out at
+no-bodies image out n at h =
+    record {
+      room = subst (λ (k : ℕ). keptBodyWords * gates image ≤ k) (sym (length-replicate n 0)) h;
+      each = λ g l k. absurd (k (getD-take keptBodyWords (drop (keptBodyWords * g) (replicate n 0)) 0 0 (omega arith) ∙ getD-drop (keptBodyWords * g) (replicate n 0) 0 0 ∙ getD-replicate n (keptBodyWords * g + 0) 0 0 (omega arith)));
+    }

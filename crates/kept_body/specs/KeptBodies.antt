@@ -52,10 +52,10 @@ pub record CopyGiven (table out : List ℕ) (call : Call) (qubits : List ℕ) (a
   pub stands : ¬ (slotLevels (slotOf table (call .gate)) ≡ 0) → SlotStands (slotOf table (call .gate)) out (at .words)
   pub in-output : InOutput out at
 
--- a body was copied: to do so was to play its steps; or it was not, and nothing was written
-abbrev pub BodyCopied : List ℕ → Call → List Value → List ℕ → List ℕ → Position → BodyCopy → List ℕ → Type 0
-BodyCopied image call angles qubits out at (bodyCopy.Copied next) out′ = WroteStepsTo (calledSteps image call angles qubits) out at next out′
-BodyCopied image call angles qubits out at bodyCopy.NotKept out′ = out′ ≡ out
+-- a body was copied, and to do so was to play its steps; or it was not, and nothing was written
+pub record BodyCopied (image : List ℕ) (call : Call) (angles : List Value) (qubits out : List ℕ) (at : Position) (r : BodyCopy) (out′ : List ℕ) : Type 0 where
+  pub wrote : (next : Position) → r ≡ bodyCopy.Copied next → WroteStepsTo (calledSteps image call angles qubits) out at next out′
+  pub untouched : r ≡ bodyCopy.NotKept → out′ ≡ out
 
 -- the body of a call was run to its end between two positions
 pub record BodyRun (image : List ℕ) (call : Call) (angles : List Value) (qubits out : List ℕ) (at next : Position) (out′ : List ℕ) : Type 0 where

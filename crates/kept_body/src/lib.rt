@@ -110,7 +110,36 @@ pub fn copy_body(
         → BodyCopied image call (anglesIn (now (angles .entry))) (now (qubits .entry)) (now (out .entry)) at r (now (out .exit)))
         ⌝ }
 {
-    BodyCopy::NotKept
+    let first = KEPT_BODY_WORDS * call.gate as usize;
+    let end = first + KEPT_BODY_WORDS;
+    let slot = &kept_bodies[first..end];
+    if !is_same_body(slot, call, angles) {
+        return BodyCopy::NotKept;
+    }
+    let words = slot[2] as usize;
+    if words == 0 {
+        return BodyCopy::Copied(at);
+    }
+    if record_writer::is_full(out, at, words) {
+        return BodyCopy::NotKept;
+    }
+    if !are_distinct(qubits, call.arguments) {
+        return BodyCopy::NotKept;
+    }
+    let written = copy::copy_records(
+        out,
+        &slot[QUBITS_AT..ANGLES_AT],
+        qubits,
+        call.arguments as usize,
+        slot[1] as usize,
+        words,
+        at.words as usize,
+    );
+    BodyCopy::Copied(Position {
+        records: at.records + slot[3],
+        words: at.words + written as u64,
+        trace: at.trace,
+    })
 }
 
 // ---- keeping
