@@ -93,6 +93,7 @@ angles-same slot angles n few s =
   where
     word-same : (j : ℕ) → j < 6 * n → getD (drop 20 slot) j 0 ≡ getD angles j 0
     word-same j h = getD-drop 20 slot j 0 ∙ s .each j h
+
     value : (i : ℕ) → i < n → valueAt (drop 20 slot) (6 * i) ≡ valueAt angles (6 * i)
     value i h =
         ap₂ (λ (a b : Rational64). record { a = a; b = b })

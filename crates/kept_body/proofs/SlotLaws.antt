@@ -88,10 +88,12 @@ slot-filled slot qubits angles levels start words records n m {slot₁} {slot₂
     first-number [] a b c d h = absurd (omega arith)
     first-number (x ∷ []) a b c d h = refl
     first-number (x ∷ y ∷ l) a b c d h = refl
+
     second-number : (slot : List ℕ) (a b c d : ℕ) → 3 < length slot → getD (set (set (set (set slot 0 a) 1 b) 2 c) 3 d) 1 0 ≡ b
     second-number [] a b c d h = absurd (omega arith)
     second-number (x ∷ []) a b c d h = absurd (omega arith)
     second-number (x ∷ y ∷ l) a b c d h = refl
+
     third-number : (slot : List ℕ) (a b c d : ℕ) → 3 < length slot → getD (set (set (set (set slot 0 a) 1 b) 2 c) 3 d) 2 0 ≡ c
     third-number [] a b c d h = absurd (omega arith)
     third-number (x ∷ []) a b c d h = absurd (omega arith)

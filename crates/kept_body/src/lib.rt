@@ -21,6 +21,7 @@ pub const KEPT_BODY_WORDS: usize = ANGLES_AT + expression::FRAME_ANGLE_WORDS;
 
 // Where they hold the body's qubits, and the words of its angles.
 const QUBITS_AT: usize = 4;
+
 const ANGLES_AT: usize = QUBITS_AT + image::FRAME_QUBITS;
 
 // Whether a body was copied, and where the run stands then.
@@ -78,7 +79,11 @@ fn is_same_body(slot: &[u64], call: Call, angles: &[u64; expression::FRAME_ANGLE
     if !is_opened_alike(levels, slot[2], call) {
         return false;
     }
-    same_angles(slot, angles, (expression::VALUE_WORDS * call.parameters) as usize)
+    same_angles(
+        slot,
+        angles,
+        (expression::VALUE_WORDS * call.parameters) as usize,
+    )
 }
 
 // Whether the first n of sixteen qubits are n different ones.
@@ -192,7 +197,11 @@ fn put_body(
     slot[2] = next.words - at.words;
     slot[3] = next.records - at.records;
     put_qubits(slot, qubits, call.arguments as usize);
-    put_angle_words(slot, angles, (expression::VALUE_WORDS * call.parameters) as usize);
+    put_angle_words(
+        slot,
+        angles,
+        (expression::VALUE_WORDS * call.parameters) as usize,
+    );
 }
 
 // Whether a body that wrote so many words with these qubits may be copied for others: with a qubit twice it may do something else than with two

@@ -28,6 +28,7 @@ use Rattle.expression.specs.KeptValues.{ConstantsKept}
 use Rattle.expression.proofs.AnglesLaws.{zeros-sound}
 use Rattle.record_writer.specs.declared.Position.{Position}
 use Rattle.record_writer.specs.Promise.{InOutput, WroteSteps}
+use Rattle.kept_body.specs.KeptBodies.{BodiesKept}
 use Rattle.gate.specs.RunContext.{RunContext}
 use Rattle.gate.specs.PlainStatement.{PlainStatement}
 use Rattle.gate.specs.RanSteps.{plainSteps}
@@ -95,8 +96,8 @@ module _ (image : List ℕ) (site : Site) where
 
 module _ {image : List ℕ} {l : Layout} {register-starts out trace : List ℕ} {at : Position} (m : MainContext image l register-starts out trace at) where
   -- where main's statements are run
-  pub main-context : {kept-values qubits : List ℕ} → ConstantsKept image kept-values → length qubits ≡ 16 → RunContext image l register-starts kept-values 0 qubits out trace at
-  main-context f h =
+  pub main-context : {kept-values kept-bodies qubits : List ℕ} → ConstantsKept image kept-values → BodiesKept image kept-bodies out (at .words) → length qubits ≡ 16 → RunContext image l register-starts kept-values kept-bodies 0 qubits out trace at
+  main-context f b h =
       record {
         context = record {
           in-scope = record { laid = m .start .laid; accepted = m .start .accepted; starts = m .starts .quantum; sixteen = h; frame = refl };
@@ -104,6 +105,7 @@ module _ {image : List ℕ} {l : Layout} {register-starts out trace : List ℕ} 
           constants = f;
           in-output = m .start .in-output;
         };
+        bodies = b;
         trace-length = m .start .trace-length;
       }
 

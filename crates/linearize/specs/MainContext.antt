@@ -15,6 +15,10 @@ use Rattle.gate.specs.RunContext.{mostTraceWords}
 abbrev pub fewRegisters : ℕ
 fewRegisters = 128
 
+-- the most gates of a program that has few
+abbrev pub fewGates : ℕ
+fewGates = 16
+
 -- an accepted image with its layout, a trace of full length, and a position in the output at which no call is on the stack
 pub record StartContext (image : List ℕ) (l : Layout) (out trace : List ℕ) (at : Position) : Type 0 where
   pub laid : LayoutOf image l

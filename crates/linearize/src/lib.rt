@@ -12,10 +12,12 @@ ghost use lib.ListN.{length};
 ghost use Rattle.model.specs.Steps.{steps};
 ghost use Rattle.image_check.specs.Statements.{fewExpressions};
 ghost use Rattle.expression.specs.KeptValues.{ConstantsKept};
+ghost use Rattle.record_writer.specs.Promise.{positionOf};
+ghost use Rattle.kept_body.specs.KeptBodies.{BodiesKept};
 ghost use Rattle.gate.specs.RunContext.{SiteContext};
 ghost use Rattle.gate.specs.PlainStatement.{PlainStatement};
 ghost use Rattle.gate.specs.RanSteps.{RanSteps};
-ghost use Rattle.linearize.specs.MainContext.{fewRegisters, StartContext, MainContext};
+ghost use Rattle.linearize.specs.MainContext.{fewRegisters, fewGates, StartContext, MainContext};
 ghost use Rattle.linearize.specs.MainStatement.{MainStatement, IsConditional, mainStatementSteps, innerSteps, mainSteps};
 ghost use Rattle.linearize.specs.Linearizes.{refusedWith, Linearizes};
 
@@ -24,6 +26,9 @@ pub const TRACE_WORDS: usize = 2 * (image::MOST_GATES as usize);
 
 // The most registers of a program that has few.
 const FEW_REGISTERS: usize = 128;
+
+// The most gates of a program that has few.
+const FEW_GATES: usize = 16;
 
 // The most registers of any program: each has a word of the image.
 const MOST_REGISTERS: usize = image::MOST_WORDS as usize;
@@ -45,6 +50,7 @@ fn visit_inner_statement(
     l: Layout,
     register_starts: &[u64],
     kept_values: &mut [u64],
+    kept_bodies: &mut [u64],
     angles: &[u64; expression::FRAME_ANGLE_WORDS],
     qubits: &[u64; image::FRAME_QUBITS],
     site: Site,
@@ -53,13 +59,14 @@ fn visit_inner_statement(
     at: Position,
 ) -> Linearized
     requires { ⌜
-        SiteContext (now image) l (now «register_starts») (now «kept_values») (now angles) (now qubits) site (now out) (now trace) at
+        SiteContext (now image) l (now «register_starts») (now «kept_values») (now «kept_bodies») (now angles) (now qubits) site (now out) (now trace) at
         × PlainStatement (now image) l site
         ⌝ }
     ensures { λ r. ⌜
         RanSteps (innerSteps (now (image .entry)) (now (angles .entry)) (now (qubits .entry)) site)
         (now (out .entry)) at (now (trace .entry)) r (now (out .exit)) (now (trace .exit))
         × ConstantsKept (now (image .entry)) (now («kept_values» .exit))
+        × BodiesKept (now (image .entry)) (now («kept_bodies» .exit)) (now (out .exit)) (positionOf r .words)
         ⌝ }
 {
     match gate::visit_statement(
@@ -67,6 +74,7 @@ fn visit_inner_statement(
         l,
         register_starts,
         kept_values,
+        kept_bodies,
         angles,
         qubits,
         site,
@@ -85,6 +93,7 @@ fn visit_conditional(
     l: Layout,
     register_starts: &[u64],
     kept_values: &mut [u64],
+    kept_bodies: &mut [u64],
     angles: &[u64; expression::FRAME_ANGLE_WORDS],
     qubits: &[u64; image::FRAME_QUBITS],
     site: Site,
@@ -93,7 +102,7 @@ fn visit_conditional(
     at: Position,
 ) -> Linearized
     requires { ⌜
-        SiteContext (now image) l (now «register_starts») (now «kept_values») (now angles) (now qubits) site (now out) (now trace) at
+        SiteContext (now image) l (now «register_starts») (now «kept_values») (now «kept_bodies») (now angles) (now qubits) site (now out) (now trace) at
         × MainStatement (now image) l site
         × IsConditional (now image) site
         ⌝ }
@@ -101,6 +110,7 @@ fn visit_conditional(
         RanSteps (mainStatementSteps (now (image .entry)) (now (angles .entry)) (now (qubits .entry)) site)
         (now (out .entry)) at (now (trace .entry)) r (now (out .exit)) (now (trace .exit))
         × ConstantsKept (now (image .entry)) (now («kept_values» .exit))
+        × BodiesKept (now (image .entry)) (now («kept_bodies» .exit)) (now (out .exit)) (positionOf r .words)
         ⌝ }
 {
     let place = l.statement_at(site.statement);
@@ -120,6 +130,7 @@ fn visit_conditional(
             l,
             register_starts,
             kept_values,
+            kept_bodies,
             angles,
             qubits,
             inner,
@@ -137,6 +148,7 @@ fn visit_main(
     l: Layout,
     register_starts: &[u64],
     kept_values: &mut [u64],
+    kept_bodies: &mut [u64],
     angles: &[u64; expression::FRAME_ANGLE_WORDS],
     qubits: &[u64; image::FRAME_QUBITS],
     site: Site,
@@ -145,13 +157,14 @@ fn visit_main(
     at: Position,
 ) -> Linearized
     requires { ⌜
-        SiteContext (now image) l (now «register_starts») (now «kept_values») (now angles) (now qubits) site (now out) (now trace) at
+        SiteContext (now image) l (now «register_starts») (now «kept_values») (now «kept_bodies») (now angles) (now qubits) site (now out) (now trace) at
         × MainStatement (now image) l site
         ⌝ }
     ensures { λ r. ⌜
         RanSteps (mainStatementSteps (now (image .entry)) (now (angles .entry)) (now (qubits .entry)) site)
         (now (out .entry)) at (now (trace .entry)) r (now (out .exit)) (now (trace .exit))
         × ConstantsKept (now (image .entry)) (now («kept_values» .exit))
+        × BodiesKept (now (image .entry)) (now («kept_bodies» .exit)) (now (out .exit)) (positionOf r .words)
         ⌝ }
 {
     if image::word(image, l.statement_at(site.statement)) == 7 {
@@ -160,6 +173,7 @@ fn visit_main(
             l,
             register_starts,
             kept_values,
+            kept_bodies,
             angles,
             qubits,
             site,
@@ -173,6 +187,7 @@ fn visit_main(
         l,
         register_starts,
         kept_values,
+        kept_bodies,
         angles,
         qubits,
         site,
@@ -188,6 +203,7 @@ fn visit_program(
     l: Layout,
     register_starts: &[u64],
     kept_values: &mut [u64],
+    kept_bodies: &mut [u64],
     levels_left: u64,
     out: &mut [u64],
     trace: &mut [u64],
@@ -196,6 +212,7 @@ fn visit_program(
     requires { ⌜
         MainContext (now image) l (now «register_starts») (now out) (now trace) at
         × ConstantsKept (now image) (now «kept_values»)
+        × BodiesKept (now image) (now «kept_bodies») (now out) (at .words)
         ⌝ }
     ensures { λ r. ⌜
         RanSteps (mainSteps (now (image .entry)) «levels_left»)
@@ -213,6 +230,7 @@ fn visit_program(
             l,
             register_starts,
             kept_values,
+            kept_bodies,
             &angles,
             &qubits,
             main_site(s, levels_left),
@@ -230,6 +248,113 @@ fn visit_program(
         s += 1;
     }
     Linearized::Done(position)
+}
+
+// The main statements of a program with few gates.
+fn visit_few_gates(
+    image: &[u64],
+    l: Layout,
+    register_starts: &[u64],
+    kept_values: &mut [u64],
+    levels_left: u64,
+    out: &mut [u64],
+    trace: &mut [u64],
+    at: Position,
+) -> Linearized
+    requires { ⌜
+        MainContext (now image) l (now «register_starts») (now out) (now trace) at
+        × ConstantsKept (now image) (now «kept_values»)
+        × (l .gates ≤ fewGates)
+        ⌝ }
+    ensures { λ r. ⌜
+        RanSteps (mainSteps (now (image .entry)) «levels_left»)
+        (now (out .entry)) at (now (trace .entry)) r (now (out .exit)) (now (trace .exit))
+        ⌝ }
+{
+    let mut kept_bodies = [0u64; kept_body::KEPT_BODY_WORDS * FEW_GATES];
+    visit_program(
+        image,
+        l,
+        register_starts,
+        kept_values,
+        &mut kept_bodies,
+        levels_left,
+        out,
+        trace,
+        at,
+    )
+}
+
+// The main statements, with room for the bodies of as many gates as an image may have.
+fn visit_many_gates(
+    image: &[u64],
+    l: Layout,
+    register_starts: &[u64],
+    kept_values: &mut [u64],
+    levels_left: u64,
+    out: &mut [u64],
+    trace: &mut [u64],
+    at: Position,
+) -> Linearized
+    requires { ⌜ MainContext (now image) l (now «register_starts») (now out) (now trace) at × ConstantsKept (now image) (now «kept_values») ⌝ }
+    ensures { λ r. ⌜
+        RanSteps (mainSteps (now (image .entry)) «levels_left»)
+        (now (out .entry)) at (now (trace .entry)) r (now (out .exit)) (now (trace .exit))
+        ⌝ }
+{
+    let mut kept_bodies = [0u64; kept_body::KEPT_BODY_WORDS * (image::MOST_GATES as usize)];
+    visit_program(
+        image,
+        l,
+        register_starts,
+        kept_values,
+        &mut kept_bodies,
+        levels_left,
+        out,
+        trace,
+        at,
+    )
+}
+
+// The main statements, with room for what is kept of bodies: a small program should not pay for clearing the room of a large one.
+fn visit_with_kept_bodies(
+    image: &[u64],
+    l: Layout,
+    register_starts: &[u64],
+    kept_values: &mut [u64],
+    levels_left: u64,
+    out: &mut [u64],
+    trace: &mut [u64],
+    at: Position,
+) -> Linearized
+    requires { ⌜ MainContext (now image) l (now «register_starts») (now out) (now trace) at × ConstantsKept (now image) (now «kept_values») ⌝ }
+    ensures { λ r. ⌜
+        RanSteps (mainSteps (now (image .entry)) «levels_left»)
+        (now (out .entry)) at (now (trace .entry)) r (now (out .exit)) (now (trace .exit))
+        ⌝ }
+{
+    if l.gates <= FEW_GATES as u64 {
+        return visit_few_gates(
+            image,
+            l,
+            register_starts,
+            kept_values,
+            levels_left,
+            out,
+            trace,
+            at,
+        );
+    }
+    visit_many_gates(
+        image,
+        l,
+        register_starts,
+        kept_values,
+        levels_left,
+        out,
+        trace,
+        at,
+    )
 }
 
 // The main statements of a program with few expressions.
@@ -250,7 +375,7 @@ fn visit_few_expressions(
 {
     let mut kept_values = [0u64; (expression::KEPT_VALUE_WORDS as usize)
         * image_check::FEW_EXPRESSIONS];
-    visit_program(
+    visit_with_kept_bodies(
         image,
         l,
         register_starts,
@@ -279,7 +404,7 @@ fn visit_many_expressions(
         ⌝ }
 {
     let mut kept_values = [0u64; (expression::KEPT_VALUE_WORDS as usize) * image::MOST_EXPRESSIONS];
-    visit_program(
+    visit_with_kept_bodies(
         image,
         l,
         register_starts,

@@ -195,10 +195,10 @@ open-gate-returns t c =
     (opened, pre .0 .context .constants, bodies-ran opened (pre .0 .bodies))
 
 open-gate-same-length : (t : ℕ) → open-gate-lts.Need-same-length (open-gate-callees t) (open-gate-at t) open-gate.Post
-open-gate-same-length t c = ran-lengths (open-gate-returns t c .0) .0
+open-gate-same-length t c = refl
 
 open-gate-same-length-2 : (t : ℕ) → open-gate-lts.Need-same-length-2 (open-gate-callees t) (open-gate-at t) open-gate.Post
-open-gate-same-length-2 t c = ran-lengths (open-gate-returns t c .0) .1
+open-gate-same-length-2 t c = ran-lengths (open-gate-returns t c .0) .0
 
 open-gate-same-length-3 : (t : ℕ) → open-gate-lts.Need-same-length-3 (open-gate-callees t) (open-gate-at t) open-gate.Post
 open-gate-same-length-3 t c = omega (arith, c .before .before .before .before .before .before .before .kept-values .given)
@@ -450,8 +450,8 @@ visit-gate-returns-2 t c =
     let pre = s .pre .1 in
     let image = now (s .args .image) in
     let w =
-        ran-steps (cut-rounds (pre .3) (now (s .args .qubits)) [] _ (c .before .before .before .before .before .before .before .before .before .before .before .before .if1 .left) (c .before .before .before .before .before .before .before .before .if2 .taken))
-        (ran-popped image (s .args .call) _ (wrote-ran _ (c .before .before .before .before .before .before .visit-cut .ensures)) (c .before .before .before .before .before .before .before .before .before .before .with-trace-words .ensures) (c .before .before .pop-call .ensures image (pre .0 .context .in-scope .laid))) in
+    ran-steps (cut-rounds (pre .3) (now (s .args .qubits)) [] _ (c .before .before .before .before .before .before .before .before .before .before .before .before .if1 .left) (c .before .before .before .before .before .before .before .before .if2 .taken))
+    (ran-popped image (s .args .call) _ (wrote-ran _ (c .before .before .before .before .before .before .visit-cut .ensures)) (c .before .before .before .before .before .before .before .before .before .before .with-trace-words .ensures) (c .before .before .pop-call .ensures image (pre .0 .context .in-scope .laid))) in
     (w, pre .0 .context .constants, bodies-ran w (pre .0 .bodies))
 
 visit-gate-same-length-3 : (t : ℕ) → visit-gate-lts.Need-same-length-3 (visit-gate-callees t) (visit-gate-at t) visit-gate.Post
@@ -485,7 +485,7 @@ visit-gate-returns-3 t c =
       ran-steps (opened-rounds (pre .3) (now (s .args .qubits)) [] _ (c .before .before .before .before .before .before .before .before .before .before .before .before .before .before .before .before .before .before .before .before .before .if1 .left))
           (ran-popped image (s .args .call) _ (v .0) (c .before .before .before .before .before .before .before .before .before .before .before .before .before .before .before .before .before .before .before .with-trace-words .ensures) (c .before .before .pop-call2 .ensures image (pre .0 .context .in-scope .laid))),
       v .1,
-      bodies-popped (s .args .call) (s .args .at) _ _ _ _ (c .before .before .pop-call2 .ensures image (pre .0 .context .in-scope .laid)) (v .2),
+      bodies-popped (s .args .call) (s .args .at) (c .before .before .before .before .before .before .before .before .before .before .before .before .visit-rounds .result) (c .before .before .before .before .before .before .before .before .before .before .before .before .visit-rounds .last .1 .1 .1 .1 .1 .1 .1 .1 .1 .0) (c .before .before .pop-call2 .result) (c .before .before .pop-call2 .last .1 .1 .0) (c .before .before .pop-call2 .ensures image (pre .0 .context .in-scope .laid)) (v .2),
     )
 
 visit-gate-same-length-6 : (t : ℕ) → visit-gate-lts.Need-same-length-6 (visit-gate-callees t) (visit-gate-at t) visit-gate.Post

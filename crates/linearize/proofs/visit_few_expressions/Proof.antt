@@ -3,17 +3,21 @@ use native.Mathlib.Omega.{arith}
 use borrow.Author.Needs.{needs}
 use denote.Ref.{now}
 use Rattle.expression.proofs.KeptValuesLaws.{no-constants}
+use borrow.Author.Needs.{needs}
 use Rattle.linearize.proofs.visit_few_expressions.Statement.{statement}
 use Rattle.linearize.proofs.visit_few_expressions.Tie as tie
+use Rattle.linearize.proofs.visit_few_expressions.Reads as reads
+use Rattle.linearize.proofs.visit_few_expressions.Lts as lts
+use Rattle.linearize.proofs.visit_with_kept_bodies.Reads as visit-with-kept-bodies-reads
 
-slice-aggregate-visit-program : tie.Need-slice-aggregate-visit-program
-slice-aggregate-visit-program c = search needs
+slice-aggregate-visit-with-kept-bodies : tie.Need-slice-aggregate-visit-with-kept-bodies
+slice-aggregate-visit-with-kept-bodies c = search needs
 
-visit-program-requires : tie.Need-visit-program-requires
-visit-program-requires c κs =
-    let pre = c .before .before .before .before .before .before .before .pre in
-    let laid = pre .0 .start .laid in
-    (pre .0, no-constants (now (c .before .before .before .before .before .before .before .args .image)) 896 (omega (arith, pre .1, laid .expressions-is)))
+visit-with-kept-bodies-requires : tie.Need-visit-with-kept-bodies-requires
+visit-with-kept-bodies-requires c κs =
+    let s = c .before .before .before .before .before .before .before in
+    let laid = s .pre .0 .start .laid in
+    (s .pre .0, no-constants (now (s .args .image)) 896 (omega (arith, s .pre .1, laid .expressions-is)))
 
 same-length : tie.Need-same-length
 same-length c = search needs
@@ -28,8 +32,8 @@ pub visit-few-expressions-spec : {M : Type 1} → statement M
 visit-few-expressions-spec =
     tie.close
     (tie.spec
-    slice-aggregate-visit-program
-    visit-program-requires
+    slice-aggregate-visit-with-kept-bodies
+    visit-with-kept-bodies-requires
     same-length
     same-length-2
     returns)

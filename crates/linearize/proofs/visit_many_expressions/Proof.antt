@@ -3,17 +3,21 @@ use native.Mathlib.Omega.{arith}
 use borrow.Author.Needs.{needs}
 use denote.Ref.{now}
 use Rattle.expression.proofs.KeptValuesLaws.{no-constants}
+use borrow.Author.Needs.{needs}
 use Rattle.linearize.proofs.visit_many_expressions.Statement.{statement}
 use Rattle.linearize.proofs.visit_many_expressions.Tie as tie
+use Rattle.linearize.proofs.visit_many_expressions.Reads as reads
+use Rattle.linearize.proofs.visit_many_expressions.Lts as lts
+use Rattle.linearize.proofs.visit_with_kept_bodies.Reads as visit-with-kept-bodies-reads
 
-slice-aggregate-visit-program : tie.Need-slice-aggregate-visit-program
-slice-aggregate-visit-program c = search needs
+slice-aggregate-visit-with-kept-bodies : tie.Need-slice-aggregate-visit-with-kept-bodies
+slice-aggregate-visit-with-kept-bodies c = search needs
 
-visit-program-requires : tie.Need-visit-program-requires
-visit-program-requires c κs =
-    let pre = c .before .before .before .before .before .before .before .pre in
-    let laid = pre .start .laid in
-    (pre, no-constants (now (c .before .before .before .before .before .before .before .args .image)) 19089 (omega (arith, laid .whole, laid .short)))
+visit-with-kept-bodies-requires : tie.Need-visit-with-kept-bodies-requires
+visit-with-kept-bodies-requires c κs =
+    let s = c .before .before .before .before .before .before .before in
+    let laid = s .pre .start .laid in
+    (s .pre, no-constants (now (s .args .image)) 19089 (omega (arith, laid .whole, laid .short)))
 
 same-length : tie.Need-same-length
 same-length c = search needs
@@ -28,8 +32,8 @@ pub visit-many-expressions-spec : {M : Type 1} → statement M
 visit-many-expressions-spec =
     tie.close
     (tie.spec
-    slice-aggregate-visit-program
-    visit-program-requires
+    slice-aggregate-visit-with-kept-bodies
+    visit-with-kept-bodies-requires
     same-length
     same-length-2
     returns)
