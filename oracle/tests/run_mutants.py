@@ -3,12 +3,16 @@ run_vectors.py each of them fails.
 
     python3 -m oracle.tests.run_mutants
 
+Some are mutants of a run that keeps what each body has written, and copies it when
+the gate is called again.
+
 The program ends with an error if a mutant fails no line, or if the run itself
-fails one.  Lines with a long output are left out, which only makes the counts
-smaller.
+fails one, with copies or without.  Lines with a long output are left out, which
+only makes the counts smaller.
 """
 
 import sys
+from collections import namedtuple
 
 from oracle.reference import angles, reference
 from oracle.reference.reference import (
@@ -787,6 +791,374 @@ class InnermostPlace(Unchanged):
             raise Refusal(refusal.number, self.image.place(EXPRESSIONS, entry), refusal.second) from None
 
 
+# -------------------------------------------------------- bodies that are copied
+
+# What is kept of a body that was run to its end: its qubits, and its records.
+Kept = namedtuple("Kept", "qubits records")
+
+
+class Copying(Unchanged):
+    """A run that keeps the records of each opened body, by the gate, its angles and the
+    levels that are left, and copies them when the gate is called so again.  A body on
+    equal qubits is neither kept nor copied, unless it has written nothing."""
+
+    def __init__(self, *case):
+        super().__init__(*case)
+        self.kept = {}
+
+    def open(self, gate, frame):
+        number, levels = frame.scope - 1, self.depth - len(self.stack)
+        key = self.key(number, self.numbers(frame), self.levels(number, levels))
+        kept = self.kept.get(key)
+        if kept and self.fits(kept, frame.qubits):
+            for record in kept.records:
+                self.copy(kept, record, frame.qubits)
+            return
+        start = len(self.output)
+        super().open(gate, frame)
+        written = self.of_body(list(reference.records_of(self.output[start:])))
+        if self.keeps(frame.qubits, written):
+            self.kept[key] = Kept(frame.qubits, written)
+
+    def key(self, number, values, levels):
+        return number, values, levels
+
+    def numbers(self, frame):
+        return tuple(angles.numbers(value) for value in frame.angles)
+
+    def levels(self, number, levels):
+        """Gates call smaller ones: with as many levels as this everything is opened."""
+        return min(levels, number + 1)
+
+    def fits(self, kept, qubits):
+        return not kept.records or self.apart(qubits) and self.has_room(kept.records)
+
+    def keeps(self, qubits, records):
+        return not records or self.apart(qubits)
+
+    def apart(self, qubits):
+        return len(set(qubits)) == len(qubits)
+
+    def has_room(self, records):
+        return sum(map(len, records)) <= self.output_length - len(self.output)
+
+    def of_body(self, records):
+        return records
+
+    def copy(self, kept, record, qubits):
+        self.write(*self.renamed(record, dict(zip(kept.qubits, qubits))))
+
+    def renamed(self, record, names):
+        first = self.first_qubit(record)
+        renamed = [names[qubit] for qubit in record[first:]]
+        return *record[:first], *self.in_order(record, renamed)
+
+    def first_qubit(self, record):
+        return 4 + 4 * record[2] if record[0] == CALL else {U: 13, CX: 1, BARRIER: 2}[record[0]]
+
+    def in_order(self, record, qubits):
+        return sorted(qubits) if record[0] == BARRIER else qubits
+
+
+@mutant("copies: of another gate with these angles")
+class CopiesAnyGate(Copying):
+    def key(self, number, values, levels):
+        return number % 16, values, levels
+
+
+@mutant("copies: whatever the angles")
+class CopiesAnyAngle(Copying):
+    def numbers(self, frame):
+        return ()
+
+
+@mutant("copies: the first angle alone compared")
+class CopiesFirstAngle(Copying):
+    def numbers(self, frame):
+        return super().numbers(frame)[:1]
+
+
+@mutant("copies: the last angle not compared")
+class CopiesNotLast(Copying):
+    def numbers(self, frame):
+        return super().numbers(frame)[:-1]
+
+
+@mutant("copies: 15 angles compared")
+class CopiesFifteen(Copying):
+    def numbers(self, frame):
+        return super().numbers(frame)[:15]
+
+
+@mutant("copies: angles compared in any order")
+class CopiesSorted(Copying):
+    def numbers(self, frame):
+        return tuple(sorted(super().numbers(frame)))
+
+
+@mutant("copies: an angle's numerator not compared")
+class CopiesNumerator(Copying):
+    def numbers(self, frame):
+        return tuple(numbers[1:] for numbers in super().numbers(frame))
+
+
+@mutant("copies: an angle's denominator not compared")
+class CopiesDenominator(Copying):
+    def numbers(self, frame):
+        return tuple((numbers[0], *numbers[2:]) for numbers in super().numbers(frame))
+
+
+@mutant("copies: an angle's part of pi not compared")
+class CopiesRational(Copying):
+    def numbers(self, frame):
+        return tuple(numbers[:2] for numbers in super().numbers(frame))
+
+
+@mutant("copies: an angle's denominator of pi not compared")
+class CopiesPiDenominator(Copying):
+    def numbers(self, frame):
+        return tuple(numbers[:3] for numbers in super().numbers(frame))
+
+
+@mutant("copies: an angle's sign not compared")
+class CopiesSign(Copying):
+    def numbers(self, frame):
+        return tuple(tuple(map(abs, numbers)) for numbers in super().numbers(frame))
+
+
+@mutant("copies: whatever the levels")
+class CopiesAnyLevel(Copying):
+    def levels(self, number, levels):
+        return 0
+
+
+@mutant("copies: all opened with a level less")
+class CopiesLevelLess(Copying):
+    def levels(self, number, levels):
+        return min(levels, number)
+
+
+@mutant("copies: a level more or less is alike")
+class CopiesLevelPairs(Copying):
+    def levels(self, number, levels):
+        return min(levels, number + 1) // 2
+
+
+@mutant("copies: 4 levels are alike with more")
+class CopiesFourLevels(Copying):
+    def levels(self, number, levels):
+        return min(levels, number + 1, 4)
+
+
+@mutant("copies: nothing written, whatever the levels")
+class SilentAnyLevel(Copying):
+    def open(self, gate, frame):
+        if (silent := (frame.scope, self.numbers(frame))) in self.kept:
+            return
+        start = len(self.output)
+        super().open(gate, frame)
+        if start == len(self.output):
+            self.kept[silent] = True
+
+
+@mutant("copies: nothing written, whatever the angles")
+class SilentAnyAngle(Copying):
+    def open(self, gate, frame):
+        if (silent := (frame.scope, self.depth - len(self.stack))) in self.kept:
+            return
+        start = len(self.output)
+        super().open(gate, frame)
+        if start == len(self.output):
+            self.kept[silent] = True
+
+
+@mutant("copies: on equal qubits")
+class CopiesOnEqual(Copying):
+    def fits(self, kept, qubits):
+        return self.has_room(kept.records)
+
+
+@mutant("copies: on qubits of which the first and last are equal")
+class CopiesOnLastEqual(Copying):
+    def fits(self, kept, qubits):
+        return not kept.records or self.apart(qubits[1:]) and self.has_room(kept.records)
+
+
+@mutant("copies: on qubits of which two neighbours are equal")
+class CopiesOnNeighbours(Copying):
+    def fits(self, kept, qubits):
+        apart = self.apart(qubits[::2]) and self.apart(qubits[1::2])
+        return not kept.records or apart and self.has_room(kept.records)
+
+
+@mutant("copies: of equal qubits")
+class CopiesOfEqual(Copying):
+    def keeps(self, qubits, records):
+        return True
+
+
+@mutant("copies: qubits as they were")
+class CopiesQubits(Copying):
+    def renamed(self, record, names):
+        return record
+
+
+@mutant("copies: renamed one qubit after the other")
+class CopiesInTurn(Copying):
+    def renamed(self, record, names):
+        first = self.first_qubit(record)
+        renamed = record[first:]
+        for old, new in names.items():
+            renamed = [new if qubit == old else qubit for qubit in renamed]
+        return *record[:first], *self.in_order(record, renamed)
+
+
+@mutant("copies: eight qubits renamed")
+class CopiesEight(Copying):
+    def renamed(self, record, names):
+        return super().renamed(record, {old: names[old] if at < 8 else old for at, old in enumerate(names)})
+
+
+@mutant("copies: renamed back")
+class CopiesBack(Copying):
+    def renamed(self, record, names):
+        back = {new: old for old, new in names.items()}
+        return super().renamed(record, {old: back.get(old, new) for old, new in names.items()})
+
+
+@mutant("copies: each word renamed")
+class CopiesEachWord(Copying):
+    def renamed(self, record, names):
+        return record[0], *(names.get(word, word) for word in record[1:])
+
+
+@mutant("copies: an opaque gate's numbers renamed")
+class CopiesCallNumbers(Copying):
+    def renamed(self, record, names):
+        kind, number, *rest = super().renamed(record, names)
+        return kind, names.get(number, number) if kind == CALL else number, *rest
+
+
+@mutant("copies: the last qubit of a record alone renamed")
+class CopiesLast(Copying):
+    def renamed(self, record, names):
+        first = self.first_qubit(record)
+        renamed = [*record[first:-1], *(names[qubit] for qubit in record[first:][-1:])]
+        return *record[:first], *self.in_order(record, renamed)
+
+
+@mutant("copies: a U's qubit not renamed")
+class CopiesU(Copying):
+    def renamed(self, record, names):
+        return record if record[0] == U else super().renamed(record, names)
+
+
+@mutant("copies: a CX's qubits not renamed")
+class CopiesCX(Copying):
+    def renamed(self, record, names):
+        return record if record[0] == CX else super().renamed(record, names)
+
+
+@mutant("copies: an opaque or cut gate's qubits not renamed")
+class CopiesCall(Copying):
+    def renamed(self, record, names):
+        return record if record[0] == CALL else super().renamed(record, names)
+
+
+@mutant("copies: a cut gate's qubits not renamed")
+class CopiesCut(Copying):
+    def renamed(self, record, names):
+        cut = record[0] == CALL and self.image.gate(record[1]).with_body
+        return record if cut else super().renamed(record, names)
+
+
+@mutant("copies: a barrier's qubits not renamed")
+class CopiesBarrier(Copying):
+    def renamed(self, record, names):
+        return record if record[0] == BARRIER else super().renamed(record, names)
+
+
+@mutant("copies: a barrier not rising")
+class CopiesUnsorted(Copying):
+    def in_order(self, record, qubits):
+        return qubits
+
+
+@mutant("copies: a barrier's last qubit not placed")
+class CopiesLastUnsorted(Copying):
+    def in_order(self, record, qubits):
+        return [*sorted(qubits[:-1]), *qubits[-1:]] if record[0] == BARRIER else qubits
+
+
+@mutant("copies: an opaque gate rising")
+class CopiesSortedCall(Copying):
+    def in_order(self, record, qubits):
+        return sorted(qubits) if record[0] != CX else qubits
+
+
+@mutant("copies: records of a copy not counted")
+class CopiesUncounted(Copying):
+    def copy(self, kept, record, qubits):
+        super().copy(kept, record, qubits)
+        self.records -= 1
+
+
+@mutant("copies: a copy counted as one record")
+class CopiesOne(Copying):
+    def copy(self, kept, record, qubits):
+        super().copy(kept, record, qubits)
+        self.records -= record is not kept.records[0]
+
+
+@mutant("copies: without the last record")
+class CopiesButLast(Copying):
+    def of_body(self, records):
+        return records[:-1]
+
+
+@mutant("copies: whatever the room, the trace without the calls inside")
+class CopiesAnyRoom(Copying):
+    def has_room(self, records):
+        return True
+
+
+@mutant("copies: refused as a whole if there is no room")
+class CopiesWhole(Copying):
+    def has_room(self, records):
+        if not super().has_room(records):
+            raise Refusal(14)
+        return True
+
+
+@mutant("copies: a word more than there is room")
+class CopiesPast(Copying):
+    def has_room(self, records):
+        return sum(map(len, records)) <= self.output_length - len(self.output) + 1
+
+
+@mutant("copies: nothing if there is no room")
+class CopiesNothing(Copying):
+    def fits(self, kept, qubits):
+        return not kept.records or self.apart(qubits)
+
+    def copy(self, kept, record, qubits):
+        if self.has_room(kept.records):
+            super().copy(kept, record, qubits)
+
+
+@mutant("copies: what was kept for a gate is kept for good")
+class CopiesFirstKept(Copying):
+    def open(self, gate, frame):
+        kept = self.kept.get(frame.scope)
+        if kept and self.fits(kept, frame.qubits):
+            for record in kept.records:
+                self.copy(kept, record, frame.qubits)
+            return
+        start = len(self.output)
+        Unchanged.open(self, gate, frame)
+        self.kept.setdefault(frame.scope, Kept(frame.qubits, list(reference.records_of(self.output[start:]))))
+
+
 # ------------------------------------------------------- wrong altogether
 
 
@@ -814,7 +1186,7 @@ def failed(cls, lines):
     for case, flaw, numbers in lines:
         try:
             found = run_vectors.numbers_of(cls.outcome(case, flaw))
-        except (IndexError, ValueError):
+        except (IndexError, KeyError, ValueError):
             found = None
         count += found != numbers
     return count
@@ -826,8 +1198,11 @@ def main():
     flaws = {words: reference.check(words) for words in {case.words for case, _ in short}}
     lines = [(case, flaws[case.words], numbers) for case, numbers in short]
     print(len(lines), "of", len(run_vectors.stored), "lines")
-    wrong = failed(Unchanged, lines)
-    print("%6d  the run itself" % wrong)
+    wrong = 0
+    for what, cls in ("the run itself", Unchanged), ("the run with copies", Copying):
+        count = failed(cls, lines)
+        print("%6d  %s" % (count, what), flush=True)
+        wrong += count
     for what, cls in MUTANTS:
         count = failed(cls, lines)
         print("%6d  %s" % (count, what), flush=True)

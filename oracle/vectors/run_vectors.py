@@ -22,6 +22,7 @@ in part, and the program stops where the reference has another outcome.
 
 import sys
 from collections import Counter
+from itertools import permutations
 from random import Random
 
 from oracle.reference import reference
@@ -163,20 +164,21 @@ def head(quantum, classical=()):
 # ------------------------------------------------------------- programs
 
 
+def numbered(tree, entries):
+    """The number of a tree's entry; the entries that are not there are added."""
+    kind, *operands = tree
+    if kind > VARIABLE:
+        operands = [numbered(operand, entries) for operand in operands]
+    entry = (kind, *operands, 0)[:3]
+    if entry not in entries:
+        entries.append(entry)
+    return entries.index(entry)
+
+
 def flat(*trees):
     """The expression entries of some trees, equal ones shared, and their numbers."""
     entries = []
-
-    def number(tree):
-        kind, *operands = tree
-        if kind > VARIABLE:
-            operands = [number(operand) for operand in operands]
-        entry = (kind, *operands, 0)[:3]
-        if entry not in entries:
-            entries.append(entry)
-        return entries.index(entry)
-
-    numbers = [number(tree) for tree in trees]
+    numbers = [numbered(tree, entries) for tree in trees]
     return entries, numbers
 
 
@@ -1073,6 +1075,522 @@ def towers_at_depths():
         expect(words, depth, number=0, records=1 + records)
 
 
+# -------------------------------------------------------- repeated calls
+# A run may keep what a body has written, and copy it when the gate is called again.
+# Each of these runs would end otherwise if a wrong body were copied, or a right one
+# wrongly.
+
+
+class Lists:
+    """Arguments, parameters and expressions, added statement by statement."""
+
+    def __init__(self):
+        self.arguments, self.parameters, self.expressions = [], [], []
+
+    def named(self, arguments):
+        self.arguments += arguments
+        return len(self.arguments) - len(arguments)
+
+    def u(self, formal, *trees):
+        return U, *(numbered(tree, self.expressions) for tree in trees), self.named(formals(formal))
+
+    def cx(self, first, second):
+        at = self.named(formals(first, second))
+        return CX, at, at + 1
+
+    def barrier(self, *numbers):
+        return BARRIER, self.named(formals(*numbers)), len(numbers)
+
+    def call(self, number, arguments, *trees):
+        first = len(self.parameters)
+        self.parameters += [numbered(tree, self.expressions) for tree in trees]
+        return call(number, first, self.named(arguments))
+
+    def program(self, main, gates, inner=(), **lists):
+        return program(main, gates, inner, arguments=self.arguments, parameters=self.parameters,
+                       expressions=self.expressions, **lists)
+
+
+def formals(*numbers):
+    return [(number, 0) for number in numbers]
+
+
+def qubits(*numbers):
+    """Arguments of main: qubits of register 0."""
+    return [(0, number + 1) for number in numbers]
+
+
+def joined(numbers):
+    return " ".join(map(str, numbers))
+
+
+Z = VARIABLE, 2
+ZERO_TEXT = "0 1 0 1"
+
+
+def pair_body(lists):
+    """U of x on the first of two qubits, CX, U of x on the second."""
+    return [lists.u(0, X, ZERO, ZERO), lists.cx(0, 1), lists.u(1, ZERO, X, X)]
+
+
+def pair_texts(angle, first, second):
+    return [f"1 {angle} {ZERO_TEXT} {ZERO_TEXT} {first}", f"2 {first} {second}",
+            f"1 {ZERO_TEXT} {angle} {angle} {second}"]
+
+
+# Angles, each with others that differ from it in one number or two; the last is equal to it.
+HALF = "1 2 0 1", ratio(1, 2)
+BOTH = "1 2 1 2", (PLUS, ratio(1, 2), pi_times(1, 2))
+NEAR = {
+    HALF: (("-1 2 0 1", ratio(-1, 2)), ("3 2 0 1", ratio(3, 2)), ("1 3 0 1", ratio(1, 3)), ("0 1 0 1", ZERO),
+           ("1 2 1 1", (PLUS, ratio(1, 2), PI_TREE)), ("0 1 1 2", pi_times(1, 2)), ("1 2 0 1", ratio(2, 4))),
+    BOTH: (("1 2 1 3", (PLUS, ratio(1, 2), pi_times(1, 3))), ("1 2 -1 2", (PLUS, ratio(1, 2), pi_times(-1, 2))),
+           ("1 3 1 2", (PLUS, ratio(1, 3), pi_times(1, 2))), ("-1 2 -1 2", (NEGATE, BOTH[1])),
+           ("1 2 1 2", (DIVIDE, (PLUS, ONE, PI_TREE), TWO))),
+}
+
+
+def repeated_calls():
+    heading("A gate called again, with the same and another angle, on the same, other and swapped qubits")
+    for one, other in ((one, other) for one, others in NEAR.items() for other in others):
+        lists, main, texts, cut = Lists(), [], [], []
+        for (text, tree), *pair in (
+            (one, 0, 1), (one, 0, 1), (one, 2, 3), (one, 1, 0), (other, 0, 1), (other, 3, 2), (one, 0, 2),
+            (other, 0, 1), (one, 3, 1), (one, 1, 3),
+        ):
+            main.append(lists.call(0, qubits(*pair), tree))
+            texts += pair_texts(text, *pair)
+            cut.append(f"3 0 0 2 {joined(pair)}")
+        words = lists.program(main, [(1, 2, pair_body(lists))], quantum=[4])
+        for depth in 2, WORD_MAX:
+            stated(words, depth, head([4]), *texts, f"done {1 + len(texts)}")
+        stated(words, 1, head([4]), *cut, f"done {1 + len(cut)}")
+
+
+def repeated_parameters():
+    heading("A gate of 1, 2, 3 and 16 parameters called again: each of them another in turn, and all turned round")
+    for count in 1, 2, 3, 16:
+        lists = Lists()
+        # A U for each third parameter k: of k, k + 1 and k + 2, where the first follow on the last.
+        us = [[(VARIABLE, (k + i) % count) for i in range(3)] for k in range(0, count, 3)]
+        gates = [(count, 1, [lists.u(0, *trees) for trees in us])]
+        plain = list(range(count))
+        rows = [plain, plain]
+        for k in range(count):
+            rows += [[*plain[:k], 99, *plain[k + 1 :]], plain]
+        rows += [plain[1:] + plain[:1], plain[::-1], plain]
+        main, texts = [], []
+        for at, row in enumerate(rows):
+            main.append(lists.call(0, qubits(at % 3), *map(whole, row)))
+            for k in range(0, count, 3):
+                named = " ".join(f"{row[(k + i) % count]} 1 0 1" for i in range(3))
+                texts.append(f"1 {named} {at % 3}")
+        words = lists.program(main, gates, quantum=[3])
+        stated(words, 2, head([3]), *texts, f"done {1 + len(texts)}")
+
+
+def repeated_arguments():
+    heading("A gate of 16 arguments called again with them turned round, exchanged, and moved up by one")
+    lists = Lists()
+    body = [lists.cx(k, (k + 1) % 16) for k in range(16)] + [lists.u(15, TWO, ONE, ZERO), lists.barrier(7, 0, 15)]
+    row = list(range(16))
+    rows = [row, row[5:] + row[:5], row[::-1], [1, 0, *row[2:]], [*row[:14], 15, 14], [k + 1 for k in row], row]
+    main = [lists.call(0, qubits(*row)) for row in rows]
+    texts = []
+    for row in rows:
+        texts += [f"2 {row[k]} {row[(k + 1) % 16]}" for k in range(16)]
+        texts.append(f"1 2 1 0 1 1 1 0 1 {ZERO_TEXT} {row[15]}")
+        texts.append(f"4 3 {joined(sorted((row[7], row[0], row[15])))}")
+    words = lists.program(main, [(0, 16, body)], quantum=[17])
+    stated(words, 2, head([17]), *texts, f"done {1 + len(texts)}")
+
+
+def repeated_with_equal_qubits():
+    heading("Formals that stand for one qubit in one call and for two in another, in each order of the calls")
+    # No CX: nothing refuses them.  The barrier holds an equal qubit once, so its length changes.
+    rows = (0, 1, 2), (0, 0, 1), (1, 0, 0), (2, 1, 2), (2, 2, 2)
+    for turn in range(len(rows)):
+        order = [*rows[turn:], *rows[:turn], *rows[turn::-1]]
+        lists = Lists()
+        body = [lists.u(0, ONE, ZERO, ZERO), lists.u(1, TWO, ZERO, ZERO), lists.barrier(1, 0),
+                lists.u(2, ZERO, ONE, ZERO)]
+        gates = [(0, 3, body), (0, 3, [lists.call(0, formals(2, 0, 1))])]
+        for number in 0, 1:
+            main, texts = [], []
+            for row in order:
+                main.append(lists.call(number, qubits(*row)))
+                a, b, c = row if number == 0 else (row[2], row[0], row[1])
+                held = sorted({a, b})
+                texts += [f"1 1 1 0 1 {ZERO_TEXT} {ZERO_TEXT} {a}", f"1 2 1 0 1 {ZERO_TEXT} {ZERO_TEXT} {b}",
+                          f"4 {len(held)} {joined(held)}", f"1 {ZERO_TEXT} 1 1 0 1 {ZERO_TEXT} {c}"]
+            words = lists.program(main, gates, quantum=[3])
+            stated(words, 3, head([3]), *texts, f"done {1 + len(texts)}")
+            if number:
+                cut = [f"3 0 0 3 {c} {a} {b}" for a, b, c in order]
+                stated(words, 2, head([3]), *cut, f"done {1 + len(cut)}")
+
+
+def repeated_overlaps():
+    heading("12 of a body that was fine before: a CX and an opaque gate, called directly and nested")
+    fine, bad = ((0, 1, 2), (2, 1, 0)), (3, 3, 0)
+    for inner in CX, CALL:
+        for numbers in (1, 1, 1), (2, 2, 2), (1, 2, 1), (2, 1, 2), (1,), (2,):
+            lists = Lists()
+            gates, texts, overlapping = overlapping_gates(lists, inner)
+            rows = [*fine[: len(numbers) - 1], bad, fine[0]]
+            main = [lists.call(number, qubits(*row)) for number, row in zip((*numbers, 1), rows)]
+            words = lists.program(main, gates, quantum=[4])
+            done = [line for number, row in zip(numbers[:-1], rows) for line in texts(number, *row)]
+            first, base = place(words, MAIN, 0), place(words, ARGUMENTS, 0)
+            trace = [f"from 0 {first + 5 * (len(numbers) - 1)}"]
+            if numbers[-1] == 2:  # gate 2's one statement stands behind main's and the two of gate 1
+                trace.append(f"from 3 {first + 5 * (len(main) + 2)}")
+            ending = "refused 12 %d %d" % tuple(base + 2 * argument for argument in overlapping)
+            stated(words, 3, head([4]), *done, texts(1, *bad)[0], *trace, ending)
+    heading("12 in a later round of a body that was fine in the rounds before")
+    for inner in CX, CALL:
+        for before in False, True:
+            lists = Lists()
+            gates, texts, overlapping = overlapping_gates(lists, inner)
+            # Registers from 0 and 4: q0[k], q0[2] and q1[k]; before it q1[0], q0[k] and q1[1].
+            main = [lists.call(2, [(1, 1), (0, 0), (1, 2)])] * before + [lists.call(2, [(0, 0), (0, 3), (1, 0)])]
+            words = lists.program(main, gates, quantum=[4, 4])
+            done = [line for k in range(4 * before) for line in texts(2, 4, k, 5)]
+            done += [line for k in range(2) for line in texts(2, k, 2, 4 + k)] + texts(2, 2, 2, 6)[:1]
+            first, base = place(words, MAIN, 0), place(words, ARGUMENTS, 0)
+            trace = f"from 0 {first + 5 * before}", f"from 3 {first + 5 * (len(main) + 2)}"
+            ending = "refused 12 %d %d" % tuple(base + 2 * argument for argument in overlapping)
+            stated(words, 3, head([4, 4]), *done, *trace, ending)
+
+
+def overlapping_gates(lists, inner):
+    """Gate 0 is opaque.  Gate 1 has a U on its third, and a CX or gate 0 on its second and first; gate 2 calls it with
+    these two exchanged.  With them what is written, and the two arguments that overlap, as document 01 tells them."""
+    last = lists.cx(1, 0) if inner == CX else lists.call(0, formals(1, 0), TWO)
+    gates = [(1, 2), (0, 3, [lists.u(2, ONE, ONE, ONE), last]), (0, 3, [lists.call(1, formals(1, 0, 2))])]
+
+    def texts(number, a, b, c):
+        a, b = (a, b) if number == 1 else (b, a)
+        return ["1" + " 1 1 0 1" * 3 + f" {c}", f"2 {b} {a}" if inner == CX else f"3 0 1 2 2 1 0 1 {b} {a}"]
+
+    return gates, texts, (last[1], last[2]) if inner == CX else (last[3] + 1, last[3])
+
+
+def repeated_at_levels():
+    heading("A gate called again with other levels left: its callee is opened in one place and cut in the other")
+    # Gate 0 is U of x and CX, or has no statements; gate n calls the one below it with x, and from 2 on gate 0 too.
+    for silent in False, True:
+        for order in (1, 3, 1, 2), (3, 1, 2, 3), (2, 3, 0, 1), (1, 2, 3, 2, 1), (3, 2, 1, 0, 3):
+            lists = Lists()
+            gates = [(1, 2, [] if silent else [lists.u(0, X, ZERO, ZERO), lists.cx(0, 1)])]
+            for number in 1, 2, 3:
+                body = [lists.call(number - 1, formals(1, 0), X)]
+                gates.append((1, 2, body if number < 2 else body + [lists.call(0, formals(0, 1), X)]))
+
+            def written(number, a, b, levels, text):
+                if levels == 0:
+                    return [f"3 {number} 0 2 {a} {b}"]
+                if number == 0:
+                    return [] if silent else [f"1 {text} {ZERO_TEXT} {ZERO_TEXT} {a}", f"2 {a} {b}"]
+                more = written(0, a, b, levels - 1, text) if number > 1 else []
+                return written(number - 1, b, a, levels - 1, text) + more
+
+            calls = [(number, at % 3, 3, ANGLES[at // 3 % 2 + 1]) for at, number in enumerate(order)]
+            main = [lists.call(number, qubits(a, b), tree) for number, a, b, (_, tree) in calls]
+            words = lists.program(main, gates, quantum=[4])
+            for depth in 0, 1, 2, 3, 4, 5, 6, WORD_MAX:
+                levels = max(depth - 1, 0)
+                texts = [line for number, a, b, (text, _) in calls for line in written(number, a, b, levels, text)]
+                stated(words, depth, head([4]), *texts, f"done {1 + len(texts)}")
+
+
+def repeated_broadcasts():
+    heading("Gates over whole registers, again over others, and on single qubits before, between and after")
+    for barrier in False, True:
+        lists = Lists()
+        body = pair_body(lists) + [lists.barrier(1, 0)] * barrier
+        gates = [(1, 2, body), (1, 2, [lists.call(0, formals(1, 0), X)] * 2)]
+        text, tree = HALF
+        # Registers of 3, 3 and 1 qubits: from 0, 3 and 6.
+        rows = (
+            (0, [(0, 0), (1, 0)], [(0, 3), (1, 4), (2, 5)]), (0, [(1, 2), (0, 2)], [(4, 1)]),
+            (1, [(1, 0), (0, 0)], [(3, 0), (4, 1), (5, 2)]), (0, [(2, 0), (1, 0)], [(6, 3), (6, 4), (6, 5)]),
+            (1, [(0, 0), (2, 1)], [(0, 6), (1, 6), (2, 6)]), (0, [(0, 1), (0, 2)], [(0, 1)]),
+        )
+        for order in rows, rows[::-1]:
+            main, texts = [], []
+            for number, arguments, rounds in order:
+                main.append(lists.call(number, arguments, tree))
+                for a, b in rounds:
+                    pair = (a, b) if number == 0 else (b, a)
+                    lines = pair_texts(text, *pair) + [f"4 2 {joined(sorted(pair))}"] * barrier
+                    texts += lines * (number + 1)
+            words = lists.program(main, gates, quantum=[3, 3, 1])
+            for depth in 3, WORD_MAX:
+                stated(words, depth, head([3, 3, 1]), *texts, f"done {1 + len(texts)}")
+            expect(words, 2, number=0)
+            expect(words, 1, number=0, records=1 + sum(len(rounds) for *_, rounds in rows))
+
+
+def doubling(levels, count, bottom, handed, lists):
+    """Gates of two qubits: each calls the one below as it is called, and then with its qubits swapped."""
+    gates = [(count, 2, bottom)]
+    for number in range(levels - 1):
+        body = [lists.call(number, formals(*pair), *handed) for pair in ((0, 1), (1, 0))]
+        gates.append((count, 2, body))
+    return gates
+
+
+def repeated_doubling():
+    heading("5 levels of doubling, copies of copies: 0, 1 and 3 parameters handed on as they are, and turned round")
+    variables_of = {0: [], 1: [X], 3: [X, Y, Z]}
+    for count, turned in (0, 0), (1, 0), (3, 0), (3, 1):
+        lists = Lists()
+        own = variables_of[count]
+        trees = [*own, ONE, ZERO, TWO][:3]
+        handed = own[turned:] + own[:turned]
+        gates = doubling(5, count, [lists.u(0, *trees), lists.cx(0, 1)], handed, lists)
+        given = [3, 2, 4][:count]
+
+        def written(number, a, b, levels, values):
+            if levels == 0:
+                return [f"3 {number} 0 2 {a} {b}"]
+            if number == 0:
+                texts = " ".join(f"{value} 1 0 1" for value in [*values, 1, 0, 2][:3])
+                return [f"1 {texts} {a}", f"2 {a} {b}"]
+            values = values[turned:] + values[:turned]
+            return [line for pair in ((a, b), (b, a)) for line in written(number - 1, *pair, levels - 1, values)]
+
+        rows = (0, 1), (2, 1), (1, 2)
+        main = [lists.call(4, qubits(*row), *map(whole, given)) for row in rows]
+        words = lists.program(main, gates, quantum=[3])
+        for depth in 0, 2, 3, 4, 5, 6, WORD_MAX:
+            texts = [line for row in rows for line in written(4, *row, max(depth - 1, 0), given)]
+            stated(words, depth, head([3]), *texts, f"done {1 + len(texts)}")
+
+
+def repeated_barriers():
+    heading("Bodies with barriers called again on each order of three qubits of four: the qubits are rising in each")
+    lists = Lists()
+    body = [lists.barrier(0, 1, 2), lists.u(2, ONE, TWO, ONE), lists.barrier(2, 0), lists.cx(2, 1), lists.barrier(1),
+            lists.barrier()]
+    calls = [lists.call(0, formals(1, 2, 0)), lists.barrier(2, 1), lists.call(0, formals(0, 1, 2))]
+    gates = [(0, 3, body), (0, 3, calls)]
+    rows = list(permutations(range(4), 3))
+    for number in 0, 1:
+        main, texts = [], []
+
+        def lines(a, b, c):
+            return [f"4 3 {joined(sorted((a, b, c)))}", f"1 1 1 0 1 2 1 0 1 1 1 0 1 {c}",
+                    f"4 2 {joined(sorted((c, a)))}", f"2 {c} {b}", f"4 1 {b}", "4 0"]
+
+        for a, b, c in rows:
+            main.append(lists.call(number, qubits(a, b, c)))
+            nested = [*lines(b, c, a), f"4 2 {joined(sorted((c, b)))}"] if number else []
+            texts += [*nested, *lines(a, b, c)]
+        words = lists.program(main, gates, quantum=[4])
+        stated(words, 3, head([4]), *texts, f"done {1 + len(texts)}")
+        expect(words, 2, number=0)
+
+
+def repeated_opaque_gates():
+    heading("Bodies with opaque gates called again; angles, counts and gates have the same numbers as the qubits")
+    lists = Lists()
+    # Gates 0 to 3 are opaque, with so many parameters; gates 4 and 5 have bodies.
+    opaque_gates = [(0, 1), (1, 3), (2, 2), (3, 1)]
+    body = [lists.call(2, formals(1, 0), X, TWO), lists.call(1, formals(2, 0, 1), ONE), lists.call(0, formals(2)),
+            lists.call(3, formals(0), ZERO, X, whole(3))]
+    calls = [lists.call(4, formals(2, 1, 0), X), lists.call(4, formals(0, 2, 1), ONE)]
+    gates = [*opaque_gates, (1, 3, body), (1, 3, calls)]
+
+    def lines(x, a, b, c):
+        return [f"3 2 2 2 {x} 1 0 1 2 1 0 1 {b} {a}", f"3 1 1 3 1 1 0 1 {c} {a} {b}", f"3 0 0 1 {c}",
+                f"3 3 3 1 {ZERO_TEXT} {x} 1 0 1 3 1 0 1 {a}"]
+
+    main, texts, half, cut = [], [], [], []
+    for number, x, a, b, c in (
+        (4, 1, 0, 1, 2), (4, 1, 2, 3, 1), (4, 2, 1, 2, 3), (5, 1, 3, 1, 0), (4, 1, 3, 2, 1), (5, 2, 0, 1, 2),
+        (5, 1, 1, 2, 3),
+    ):
+        main.append(lists.call(number, qubits(a, b, c), whole(x)))
+        texts += lines(x, a, b, c) if number == 4 else lines(x, c, b, a) + lines(1, a, c, b)
+        half += lines(x, a, b, c) if number == 4 else [f"3 4 0 3 {c} {b} {a}", f"3 4 0 3 {a} {c} {b}"]
+        cut.append(f"3 {number} 0 3 {a} {b} {c}")
+    words = lists.program(main, gates, quantum=[4])
+    for depth, text in (WORD_MAX, texts), (3, texts), (2, half), (1, cut):
+        stated(words, depth, head([4]), *text, f"done {1 + len(text)}")
+
+
+def repeated_output_ends():
+    heading("14 in a body that is called again: each length of output, direct and nested calls, opened and cut")
+    lists = Lists()
+    gates = [(1, 2, pair_body(lists)), (0, 2, [lists.call(0, formals(1, 0), ONE), lists.barrier(1, 0)]),
+             (0, 2, [lists.call(1, formals(0, 1)), lists.call(1, formals(1, 0))])]
+    main = [lists.call(1, qubits(0, 1)), lists.call(2, qubits(1, 2)), (RESET, lists.named(qubits(2)))]
+    words = lists.program(main, gates, quantum=[3])
+    # The head has 9 words; gate 0 has 14, 3 and 14, and gate 1 a barrier of 4 more.
+    first = place(words, MAIN, 0)
+    bodies = 5 * 3 + 5 * 3  # main's statements, and gate 0's
+    one, two = f"from 0 {first + 5}", [f"from 3 {first + bodies + 10 + 5 * k}" for k in range(2)]
+    inner = f"from 2 {first + bodies}"
+    for lent, records, *trace in (
+        (9 + 34, 4, f"from 0 {first}"), (9 + 35, 5, one, two[0], inner), (9 + 35 + 13, 5, one, two[0], inner),
+        (9 + 35 + 14, 6, one, two[0], inner), (9 + 35 + 30, 7, one, two[0], inner), (9 + 35 + 31, 8, one, two[0]),
+        (9 + 70, 9, one, two[1], inner), (9 + 70 + 16, 10, one, two[1], inner), (9 + 70 + 34, 12, one, two[1]),
+        (9 + 105, 13), (9 + 106, 13),
+    ):
+        for depth in 4, WORD_MAX:
+            outcome = vector(words, depth, lent)
+            expect_outcome(outcome, words, number=14, place=0, second=0, records=records)
+            agree(outcome, text_of(outcome)[records:-1], trace, words)
+    for depth in 1, 2, 3, 4:
+        every_length(words, depth)
+    expect(words, 4, number=0, records=14, written=9 + 105 + 2)
+
+
+def repeated_refusals():
+    heading("9, 10, 11 and 13 of a body that was fine with another angle; the trace has the later call")
+    # The angle is refused with 0, and fine with 1, in the body of gate 0.
+    vanishing = MINUS, (DIVIDE, F32_PI, (PLUS, X, ONE)), PI_TREE  # its f32 is 0 with 0
+    for refused, second, tree in (
+        (9, 0, (DIVIDE, ONE, X)), (10, 0x7F800000, (DIVIDE, ONE, vanishing)),
+        (11, 0, (PLUS, whole(LARGEST), (MINUS, ONE, X))), (13, 0, (SQRT, (MINUS, TWO, X))),
+    ):
+        lists = Lists()
+        body = [lists.u(0, X, ZERO, ZERO), lists.u(0, tree, ZERO, ZERO)]
+        gates = [(1, 1, body), (1, 1, [lists.call(0, formals(0), X)])]
+        named = numbered(tree, lists.expressions)
+        calls = (1, 0, ONE), (0, 1, ONE), (1, 1, ONE), (1, 0, ZERO), (0, 0, ONE)
+        main = [lists.call(number, qubits(qubit), x) for number, qubit, x in calls]
+        words = lists.program(main, gates, quantum=[2])
+        outcome = around(words, 3)
+        at = place(words, EXPRESSIONS, named)
+        expect_outcome(outcome, words, number=refused, place=at, second=second, records=8)
+        first = place(words, MAIN, 0)
+        trace = [f"from 0 {first + 15}", f"from 2 {first + 5 * 7}"]
+        agree(outcome, text_of(outcome)[8:-1], trace, words)
+        expect(words, 2, number=0)
+
+
+def repeated_in_ifs():
+    heading("Calls repeated within ifs and outside of them")
+    lists = Lists()
+    gates = [(1, 2, pair_body(lists))]
+    text, tree = HALF
+    rows = (0, 1), (1, 0), (2, 0)
+    calls = [lists.call(0, qubits(*row), tree) for row in rows]
+    main = [(IF, 0, 1, 5), calls[1], (IF, 0, 2, 6), (IF, 0, 3, 5), calls[2]]
+    words = lists.program(main, gates, [calls[0], calls[2]], quantum=[3], classical=[2])
+    one, two, three = (pair_texts(text, *row) for row in rows)
+    texts = ["7 0 2 1", *one, "8", *two, "7 0 2 2", *three, "8", "7 0 2 3", *one, "8", *three]
+    stated(words, 2, head([3], [2]), *texts, f"done {1 + len(texts)}")
+    every_length(words, 2)
+
+
+def repeated_among_many():
+    heading("Many gates, each with an angle of its own, called in turn and again in turn")
+    for count, step in (40, 1), (40, 16), (128, 1), (128, 64), (33, 32):
+        lists = Lists()
+        gates = [(0, 1, [lists.u(0, whole(number), ZERO, ONE)]) for number in range(count)]
+        # Those with one rest by the step, twice; then those with the next rest.
+        order = [number for rest in range(step) for _ in range(2) for number in range(rest, count, step)]
+        main = [lists.call(number, qubits(at % 3)) for at, number in enumerate(order)]
+        one_u_each(lists.program(main, gates, quantum=[3]), order)
+    heading("One gate with many angles, called in turn and again in turn")
+    for count in 3, 20, 70:
+        lists = Lists()
+        gates = [(1, 1, [lists.u(0, X, ZERO, ONE)])]
+        order = [*range(count), *range(count), *reversed(range(count))]
+        main = [lists.call(0, qubits(at % 3), whole(x)) for at, x in enumerate(order)]
+        one_u_each(lists.program(main, gates, quantum=[3]), order)
+
+
+def one_u_each(words, angles):
+    """A line of a run that writes a U for each of these angles, on the qubits in turn."""
+    texts = [f"1 {x} 1 0 1 {ZERO_TEXT} 1 1 0 1 {at % 3}" for at, x in enumerate(angles)]
+    outcome = vector(words, 2, 5000)
+    agree(outcome, text_of(outcome), [head([3]), *texts, f"done {1 + len(texts)}"], words)
+
+
+def repeated_chains():
+    heading("128 gates, each calling the one below, called again at depths: which gate is cut changes with the first")
+    words = program([call(number, 0, at % 3 + 1) for at, number in enumerate(CHAINS)], tower(128, [U_ONE], 1),
+                    arguments=[(0, 0), *qubits(0, 1, 2)], quantum=[3])
+    for depth in 0, 1, 2, 64, 100, 101, 102, 127, 128, 129, WORD_MAX:
+        cut = [number - max(depth - 1, 0) for number in CHAINS]
+        texts = [f"{U_TEXT} {at % 3}" if gate < 0 else f"3 {gate} 0 1 {at % 3}" for at, gate in enumerate(cut)]
+        stated(words, depth, head([3]), *texts, f"done {1 + len(texts)}")
+
+
+CHAINS = 127, 126, 127, 126, 100, 0, 127, 100, 99, 99, 1, 0, 126
+
+
+def repeated_shared_bodies():
+    heading("Gates whose bodies begin with one statement, or end with it, called in turn and again")
+    us = [f"1 {k} 1 0 1 {k} 1 0 1 {k} 1 0 1" for k in range(3)]
+    # Statement 10 + k is a U of k; gates 0 to 4 have some of them.
+    bodies = (0, 1), (0, 2), (1, 2), (0, 3), (2, 1)
+    order = 0, 1, 2, 3, 4, 0, 4, 3, 2, 1
+    words = image(quantum=[3], gates=[gate(0, 1, 10 + first, length) for first, length in bodies],
+                  main=[call(number, 0, at % 3 + 1) for at, number in enumerate(order)],
+                  further=[(U, k, k, k, 0) for k in range(3)], arguments=[(0, 0), *qubits(0, 1, 2)],
+                  expressions=[integer(k) for k in range(3)])
+    texts = []
+    for at, number in enumerate(order):
+        first, length = bodies[number]
+        texts += [f"{us[k]} {at % 3}" for k in range(first, first + length)]
+    stated(words, 2, head([3]), *texts, f"done {1 + len(texts)}")
+
+
+def silent_calls():
+    heading("10 levels of gates that write nothing: doubling, with 0, 1 and 3 parameters; each calling the two below")
+    for words in (*(silent_doubling(10, count) for count in (0, 1, 3)), silent_pairs(10), silent_pairs(10, -1)):
+        for depth in 11, 12, 129, WORD_MAX:
+            stated(words, depth, head([2]), "6 1", "done 2")
+        for depth in 1, 2, 5, 9, 10:  # a gate is cut somewhere, and written
+            expect(words, depth, number=0)
+    heading("Each calls the two below, and three of them have no statements: 9 levels are enough for ten gates")
+    for order in 1, -1:
+        words = silent_pairs(10, order, empty=3)
+        for depth in 9, 10, 11, WORD_MAX:
+            stated(words, depth, head([2]), "6 1", "done 2")
+        for depth in 6, 7, 8:
+            expect(words, depth, number=0)
+    heading("Bodies that write nothing since they call without arguments; another that writes comes between")
+    gates = [(1, 0, [NOTHING]), (0, 0), (0, 1, [call(0), call(1)]), (0, 1, [call(2), call(2)]),
+             (0, 1, [call(3), U_ONE, call(3)])]
+    words = program([call(3), call(4), call(3), call(4), call(2)], gates, quantum=[2], parameters=[0])
+    us = [f"{U_TEXT} {qubit}" for qubit in range(2)]
+    stated(words, 4, head([2]), *us, *us, "done 5")
+    expect(words, 3, number=0)
+    expect(words, 2, number=0)
+    heading("A body that writes nothing with one angle and is refused with another")
+    entries, (x, quotient, one, zero) = flat(X, (DIVIDE, ONE, X), ONE, ZERO)
+    # Gate 0 has no statements; gate 1 calls it with 1/x, gate 2 calls gate 1 with x.
+    gates = [(1, 1, []), (1, 1, [call(0, 1)]), (1, 1, [call(1, 0), call(1, 0)])]
+    lists = dict(parameters=[x, quotient, one, zero], expressions=entries, quantum=[2])
+    words = program([call(2, 2), call(2, 2), call(1, 2), call(2, 3)], gates, **lists)
+    first = place(words, MAIN, 0)
+    trace = f"from 0 {first + 15}", f"from 3 {first + 5 * 5}"
+    stated(words, 4, head([2]), *trace, f"refused 9 {place(words, EXPRESSIONS, quotient)} 0")
+
+
+def silent_doubling(levels, count):
+    """The lowest has no statements, each other calls the one below twice and hands its parameters on."""
+    lists = Lists()
+    gates = doubling(levels, count, [], [X, Y, Z][:count], lists)
+    main = [lists.call(levels - 1, qubits(0, 1), *map(whole, range(1, count + 1))), (RESET, lists.named(qubits(1)))]
+    return lists.program(main, gates, quantum=[2])
+
+
+def silent_pairs(levels, order=1, empty=1):
+    """Each calls the two below it in this order; the lowest have no statements."""
+    gates = [(0, 1, [])] * empty
+    for number in range(empty, levels):
+        gates.append((0, 1, [call(below) for below in (number - 1, number - 2)[::order] if below >= 0]))
+    return program([call(levels - 1, 0, 1), (RESET, 2)], gates, quantum=[2], arguments=[(0, 0), *qubits(0, 1)])
+
+
 # ---------------------------------------------------------------- random
 
 SEED = 20170713
@@ -1163,6 +1681,10 @@ SECTIONS = (
     barriers, body_barriers, ifs, ifs_in_turn, refusals_in_ifs,
     short_outputs, records_too_long, short_outputs_inside, refused_by_the_check,
     empties, longest_images, shared_bodies, towers_at_depths,
+    repeated_calls, repeated_parameters, repeated_arguments, repeated_with_equal_qubits, repeated_overlaps,
+    repeated_at_levels, repeated_broadcasts, repeated_doubling, repeated_barriers, repeated_opaque_gates,
+    repeated_output_ends, repeated_refusals, repeated_in_ifs, repeated_among_many, repeated_chains,
+    repeated_shared_bodies, silent_calls,
 )
 
 

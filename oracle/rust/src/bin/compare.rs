@@ -1,7 +1,7 @@
 //! compare SEED COUNT [FIRST]: the sequence unit beside the published linearizer, on random images.
 //!
-//! Of ten items six are programs, three single expressions and one is damaged. Counts by outcome are printed,
-//! and every difference with its image; the exit status is 1 if there is any.
+//! Of ten items six are programs, three of these with calls that repeat; three are single expressions and one is damaged.
+//! Counts by outcome are printed, and every difference with its image; the exit status is 1 if there is any.
 use oracle::published::{self, Domain, Run};
 use oracle::random::Random;
 use oracle::{generate, record_length, records, unit, with_rising_barriers, Outcome};
@@ -24,6 +24,7 @@ struct Counts {
     kinds: BTreeMap<u64, u64>,
     expressions: u64,
     programs: u64,
+    repeats: u64,
     lowered: u64,
     large: u64,
     runs: u64,
@@ -51,8 +52,7 @@ impl Comparison {
     }
 
     /// An accepted image at a depth, with several lengths lent.
-    fn accepted(&mut self, image: &[u64]) {
-        let mut depth = generate::depth(&mut self.random);
+    fn accepted(&mut self, image: &[u64], mut depth: u64) {
         let mut tally = unit::tally(image, depth);
         if tally[0] != 0 || tally[9] > MOST_ENTRIES {
             self.counts.lowered += 1;
@@ -155,13 +155,12 @@ impl Comparison {
     }
 
     /// Any words: the three operations agree on what check says.
-    fn damaged(&mut self, image: &[u64]) {
+    fn damaged(&mut self, image: &[u64], depth: u64) {
         let answer = unit::check(image);
         *self.counts.damaged.entry(answer[0]).or_default() += 1;
         if answer[0] == 0 {
-            return self.accepted(image);
+            return self.accepted(image, depth);
         }
-        let depth = generate::depth(&mut self.random);
         let refused = Outcome { number: answer[0], place: answer[1], ..Outcome::default() };
         let ours = unit::run(&mut self.random, image, depth, 100, TRACE_ROOM);
         let tally = unit::tally(image, depth);
@@ -170,10 +169,10 @@ impl Comparison {
         }
     }
 
-    fn made(&mut self, image: &[u64]) {
+    fn made(&mut self, image: &[u64], depth: u64) {
         let answer = unit::check(image);
         if answer == [0, 0] {
-            self.accepted(image);
+            self.accepted(image, depth);
         } else {
             self.differ(image, 0, 0, &format!("an image made to be accepted: {answer:?}"));
         }
@@ -192,16 +191,22 @@ fn main() {
     for item in first..first + count {
         comparison.item = item;
         comparison.random = Random::new(seed ^ 0xC, item);
+        let depth = generate::depth(&mut comparison.random);
         match item % 10 {
-            0..=5 => {
+            0..=2 => {
                 comparison.counts.programs += 1;
-                comparison.made(&generate::program(seed, item))
+                comparison.made(&generate::program(seed, item), depth)
+            }
+            3..=5 => {
+                comparison.counts.repeats += 1;
+                let depth = generate::cutting_depth(&mut comparison.random);
+                comparison.made(&generate::repeated_calls(seed, item), depth)
             }
             6..=8 => {
                 comparison.counts.expressions += 1;
-                comparison.made(&generate::expression(seed, item))
+                comparison.made(&generate::expression(seed, item), depth)
             }
-            _ => comparison.damaged(&generate::damaged(seed, item)),
+            _ => comparison.damaged(&generate::damaged(seed, item), depth),
         }
     }
     report(&comparison.counts, count, start.elapsed().as_secs_f64());
@@ -222,7 +227,12 @@ fn shown_depth(depth: u64) -> &'static str {
 }
 
 fn report(counts: &Counts, count: u64, seconds: f64) {
-    println!("{} programs, {} single expressions", counts.programs, counts.expressions);
+    println!(
+        "{} programs, {} with calls that repeat, {} single expressions",
+        counts.programs + counts.repeats,
+        counts.repeats,
+        counts.expressions
+    );
     println!("damaged images by check's answer  {}", listed(&counts.damaged));
     println!("by depth  {}", listed(&counts.depths));
     println!("at an ample length:");

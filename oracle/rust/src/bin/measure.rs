@@ -77,6 +77,202 @@ fn expressions(count: u64, kinds: u64) -> Vec<u64> {
     parts.words()
 }
 
+/// A program on one register, made gate by gate and call by call.
+struct Calls {
+    parts: Parts,
+    pi: u64,
+    two: u64,
+    zero: u64,
+    variable: u64,
+}
+
+impl Calls {
+    fn new(qubits: u64) -> Calls {
+        let expressions = vec![[0, 0, 0], [2, 2, 0], [2, 0, 0], [3, 0, 0]];
+        let parts = Parts { quantum: vec![qubits], expressions, ..Parts::default() };
+        Calls { parts, pi: 0, two: 1, zero: 2, variable: 3 }
+    }
+
+    fn expression(&mut self, kind: u64, first: u64, second: u64) -> u64 {
+        self.parts.expressions.push([kind, first, second]);
+        self.parts.expressions.len() as u64 - 1
+    }
+
+    fn integer(&mut self, number: u64) -> u64 {
+        self.expression(2, number, 0)
+    }
+
+    fn quotient(&mut self, dividend: u64, divisor: u64) -> u64 {
+        self.expression(7, dividend, divisor)
+    }
+
+    /// A call with these expressions and arguments.
+    fn statement(&mut self, gate: u64, parameters: &[u64], arguments: impl Iterator<Item = [u64; 2]>) -> [u64; 5] {
+        let statement = [3, gate, self.parts.parameters.len() as u64, self.parts.arguments.len() as u64, 0];
+        self.parts.parameters.extend(parameters);
+        self.parts.arguments.extend(arguments);
+        statement
+    }
+
+    /// A call in a body.
+    fn inner(&mut self, gate: u64, parameters: &[u64], formals: &[u64]) -> [u64; 5] {
+        self.statement(gate, parameters, formals.iter().map(|formal| [*formal, 0]))
+    }
+
+    /// A call in main.
+    fn call(&mut self, gate: u64, parameters: &[u64], qubits: &[u64]) {
+        let statement = self.statement(gate, parameters, qubits.iter().map(|qubit| [0, qubit + 1]));
+        self.parts.main.push(statement);
+    }
+
+    fn u(&mut self, angles: [u64; 3], formal: u64) -> [u64; 5] {
+        self.parts.arguments.push([formal, 0]);
+        [1, angles[0], angles[1], angles[2], self.parts.arguments.len() as u64 - 1]
+    }
+
+    fn cx(&mut self, control: u64, target: u64) -> [u64; 5] {
+        self.parts.arguments.extend([[control, 0], [target, 0]]);
+        let end = self.parts.arguments.len() as u64;
+        [2, end - 2, end - 1, 0, 0]
+    }
+
+    fn gate(&mut self, parameters: u64, arguments: u64, body: &[[u64; 5]]) -> u64 {
+        let first = self.parts.further.len() as u64;
+        self.parts.further.extend(body);
+        self.parts.gates.push(Gate { parameters, arguments, body: Some((first, body.len() as u64)) });
+        self.parts.gates.len() as u64 - 1
+    }
+}
+
+/// The usual gates over U and CX.
+struct Usual {
+    calls: Calls,
+    u1: u64,
+    cx: u64,
+    h: u64,
+    t: u64,
+    tdg: u64,
+}
+
+impl Usual {
+    fn new(qubits: u64) -> Usual {
+        let mut calls = Calls::new(qubits);
+        let (pi, two, zero, x) = (calls.pi, calls.two, calls.zero, calls.variable);
+        let y = calls.expression(3, 1, 0);
+        let half = calls.quotient(pi, two);
+        let four = calls.integer(4);
+        let quarter = calls.quotient(pi, four);
+        let negative = calls.expression(9, quarter, 0);
+        let body = [calls.u([half, x, y], 0)];
+        let u2 = calls.gate(2, 1, &body);
+        let body = [calls.u([zero, zero, x], 0)];
+        let u1 = calls.gate(1, 1, &body);
+        let body = [calls.cx(0, 1)];
+        let cx = calls.gate(0, 2, &body);
+        let body = [calls.inner(u2, &[zero, pi], &[0])];
+        let h = calls.gate(0, 1, &body);
+        let body = [calls.inner(u1, &[quarter], &[0])];
+        let t = calls.gate(0, 1, &body);
+        let body = [calls.inner(u1, &[negative], &[0])];
+        let tdg = calls.gate(0, 1, &body);
+        Usual { calls, u1, cx, h, t, tdg }
+    }
+
+    /// A gate without parameters, from its calls and their formals.
+    fn gate(&mut self, arguments: u64, body: &[(u64, &[u64])]) -> u64 {
+        let body: Vec<_> = body.iter().map(|(gate, formals)| self.calls.inner(*gate, &[], formals)).collect();
+        self.calls.gate(0, arguments, &body)
+    }
+}
+
+/// A ripple-carry adder by majority gates, over the usual gates: two numbers of so many bits, in turn bit by bit.
+fn adder(bits: u64) -> Vec<u64> {
+    let mut usual = Usual::new(2 * bits + 2);
+    let Usual { cx, h, t, tdg, .. } = usual;
+    let toffoli: [(u64, &[u64]); 15] = [
+        (h, &[2]),
+        (cx, &[1, 2]),
+        (tdg, &[2]),
+        (cx, &[0, 2]),
+        (t, &[2]),
+        (cx, &[1, 2]),
+        (tdg, &[2]),
+        (cx, &[0, 2]),
+        (t, &[1]),
+        (t, &[2]),
+        (h, &[2]),
+        (cx, &[0, 1]),
+        (t, &[0]),
+        (tdg, &[1]),
+        (cx, &[0, 1]),
+    ];
+    let ccx = usual.gate(3, &toffoli);
+    let majority = usual.gate(3, &[(cx, &[2, 1]), (cx, &[2, 0]), (ccx, &[0, 1, 2])]);
+    let unmajority = usual.gate(3, &[(ccx, &[0, 1, 2]), (cx, &[2, 0]), (cx, &[0, 1])]);
+    let mut calls = usual.calls;
+    for bit in 0..bits {
+        calls.call(majority, &[], &[2 * bit, 2 * bit + 1, 2 * bit + 2]);
+    }
+    calls.call(cx, &[], &[2 * bits, 2 * bits + 1]);
+    for bit in (0..bits).rev() {
+        calls.call(unmajority, &[], &[2 * bit, 2 * bit + 1, 2 * bit + 2]);
+    }
+    calls.parts.words()
+}
+
+/// A Fourier transform over the usual gates: cu1 of pi/2, pi/4 and so on for each pair of qubits.
+fn fourier(qubits: u64) -> Vec<u64> {
+    let Usual { mut calls, u1, cx, h, .. } = Usual::new(qubits);
+    let half = calls.quotient(calls.variable, calls.two);
+    let negative = calls.expression(9, half, 0);
+    let body = [
+        calls.inner(u1, &[half], &[0]),
+        calls.inner(cx, &[], &[0, 1]),
+        calls.inner(u1, &[negative], &[1]),
+        calls.inner(cx, &[], &[0, 1]),
+        calls.inner(u1, &[half], &[1]),
+    ];
+    let cu1 = calls.gate(1, 2, &body);
+    let parts: Vec<u64> = (1..qubits).map(|power| calls.integer(1 << power)).collect();
+    let angles: Vec<u64> = parts.into_iter().map(|part| calls.quotient(calls.pi, part)).collect();
+    for qubit in 0..qubits {
+        for other in 0..qubit {
+            calls.call(cu1, &[angles[(qubit - other) as usize - 1]], &[qubit, other]);
+        }
+        calls.call(h, &[], &[qubit]);
+    }
+    calls.parts.words()
+}
+
+/// Calls of a gate of eight U and two CX on neighbours, with the same angle or an angle each.
+fn ten_records(count: u64, same: bool) -> Vec<u64> {
+    let mut calls = Calls::new(64);
+    let half = calls.quotient(calls.pi, calls.two);
+    let angles = [half, calls.zero, calls.variable];
+    let body: Vec<_> = (0..10).map(|at| if at % 5 == 4 { calls.cx(0, 1) } else { calls.u(angles, at % 2) }).collect();
+    let gate = calls.gate(1, 2, &body);
+    for number in 0..count {
+        let angle = if same { half } else { calls.integer(number + 1) };
+        calls.call(gate, &[angle], &[number % 60, number % 60 + 1]);
+    }
+    calls.parts.words()
+}
+
+/// Layers of u1 on each qubit, with an angle each, and cx of neighbours.
+fn layers(qubits: u64, count: u64) -> Vec<u64> {
+    let Usual { mut calls, u1, cx, .. } = Usual::new(qubits);
+    for layer in 0..count {
+        for qubit in 0..qubits {
+            let angle = calls.integer(layer * qubits + qubit + 1);
+            calls.call(u1, &[angle], &[qubit]);
+        }
+        for qubit in 1..qubits {
+            calls.call(cx, &[], &[qubit - 1, qubit]);
+        }
+    }
+    calls.parts.words()
+}
+
 /// Small programs that are done, of 8 to 12 records each.
 fn small(count: usize) -> Vec<Vec<u64>> {
     let records = |image: &Vec<u64>| {
@@ -401,6 +597,11 @@ fn main() {
     compare("(c) 1,000 U, 100 expressions of ten nodes", &[expressions(1000, 100)], rounds);
     compare("(c) 500 U, 180 expressions of ten nodes", &[expressions(500, 180)], rounds);
     compare("(d) 200 programs of 8 to 12 records", &small(200), rounds);
+    compare("(e) adder of 16 bits, over the usual gates", &[adder(16)], rounds);
+    compare("(e) Fourier transform of 12 qubits", &[fourier(12)], rounds);
+    compare("(f) 200 calls of a gate, an angle each", &[ten_records(200, false)], rounds);
+    compare("(f) 160 u1 with an angle each, 152 cx", &[layers(20, 8)], rounds);
+    compare("(f) 200 calls of a gate, the same angle", &[ten_records(200, true)], rounds);
     for count in [10, 100, 1000] {
         check_and_tally(&format!("{count} U"), &expressions(count, 10), rounds.min(5));
     }

@@ -18,12 +18,12 @@ const PI: u64 = 0;
 const REAL: u64 = 1;
 const INTEGER: u64 = 2;
 const VARIABLE: u64 = 3;
-const PLUS: u64 = 4;
-const MINUS: u64 = 5;
-const TIMES: u64 = 6;
-const DIVIDE: u64 = 7;
+pub(super) const PLUS: u64 = 4;
+pub(super) const MINUS: u64 = 5;
+pub(super) const TIMES: u64 = 6;
+pub(super) const DIVIDE: u64 = 7;
 const POWER: u64 = 8;
-const NEGATE: u64 = 9;
+pub(super) const NEGATE: u64 = 9;
 const SIN: u64 = 10;
 const COS: u64 = 11;
 const TAN: u64 = 12;
@@ -62,19 +62,19 @@ impl Generator {
         self.entry(INTEGER, number, 0)
     }
 
-    fn pi(&mut self) -> u64 {
+    pub(super) fn pi(&mut self) -> u64 {
         self.entry(PI, 0, 0)
     }
 
-    fn binary(&mut self, kind: u64, first: u64, second: u64) -> u64 {
+    pub(super) fn binary(&mut self, kind: u64, first: u64, second: u64) -> u64 {
         self.entry(kind, first, second)
     }
 
-    fn unary(&mut self, kind: u64, operand: u64) -> u64 {
+    pub(super) fn unary(&mut self, kind: u64, operand: u64) -> u64 {
         self.entry(kind, operand, 0)
     }
 
-    fn ratio(&mut self, n: u64, d: u64) -> u64 {
+    pub(super) fn ratio(&mut self, n: u64, d: u64) -> u64 {
         let (n, d) = (self.integer(n), self.integer(d));
         self.binary(DIVIDE, n, d)
     }
@@ -87,7 +87,7 @@ impl Generator {
         }
     }
 
-    fn times_pi(&mut self, expression: u64) -> u64 {
+    pub(super) fn times_pi(&mut self, expression: u64) -> u64 {
         let pi = self.pi();
         self.binary(TIMES, expression, pi)
     }
@@ -441,9 +441,13 @@ impl Generator {
         }
     }
 
-    fn variable(&mut self) -> u64 {
+    pub(super) fn variable(&mut self) -> u64 {
         let variable = self.random.below(self.variables);
-        self.entry(VARIABLE, variable, 0)
+        self.numbered_variable(variable)
+    }
+
+    pub(super) fn numbered_variable(&mut self, number: u64) -> u64 {
+        self.entry(VARIABLE, number, 0)
     }
 
     fn plain_leaf(&mut self) -> u64 {
@@ -544,7 +548,7 @@ impl Generator {
     }
 
     /// What is made, unless it has too many levels or nodes.
-    fn kept(&mut self, make: impl FnOnce(&mut Generator) -> u64) -> Option<u64> {
+    pub(super) fn kept(&mut self, make: impl FnOnce(&mut Generator) -> u64) -> Option<u64> {
         let length = self.known.len();
         let number = make(self);
         let known = self.known[number as usize];

@@ -1,9 +1,11 @@
-//! Random images by seed: programs, single expressions, and damaged ones.
+//! Random images by seed: programs, programs whose calls repeat, single expressions, and damaged ones.
 mod expressions;
+mod repeats;
 mod statements;
 
 use crate::random::Random;
 use expressions::Known;
+use repeats::Repeats;
 
 /// A gate; a body is the number of its first further statement and its length.
 pub struct Gate {
@@ -103,6 +105,20 @@ pub fn program(seed: u64, item: u64) -> Vec<u64> {
     unreachable!()
 }
 
+/// An accepted program whose calls repeat; one time in six it may have conditionals.
+pub fn repeated_calls(seed: u64, item: u64) -> Vec<u64> {
+    for attempt in 0.. {
+        let mut random = Random::new(seed ^ 0xB ^ attempt << 56, item);
+        let conditionals = random.percent(16);
+        let wild = random.of(&[0, 0, 0, 2]);
+        let words = Repeats::new(generator(random, wild)).words(conditionals);
+        if words.len() <= MOST_WORDS {
+            return words;
+        }
+    }
+    unreachable!()
+}
+
 /// One U on one qubit, whose first angle is any expression.
 pub fn expression(seed: u64, item: u64) -> Vec<u64> {
     let mut generator = generator(Random::new(seed ^ 0xE, item), 100);
@@ -114,10 +130,10 @@ pub fn expression(seed: u64, item: u64) -> Vec<u64> {
     generator.parts.words()
 }
 
-/// A program with some words changed.
+/// A program of either sort with some words changed.
 pub fn damaged(seed: u64, item: u64) -> Vec<u64> {
-    let mut words = program(seed, item);
     let mut random = Random::new(seed ^ 0xD, item);
+    let mut words = if random.percent(50) { program(seed, item) } else { repeated_calls(seed, item) };
     let changes = random.of(&[1, 1, 1, 2, 3]);
     for _ in 0..changes {
         if random.percent(3) {
@@ -157,5 +173,14 @@ pub fn depth(random: &mut Random) -> u64 {
         8 => random.of(&[128, 130]),
         9 => random.within(6, 127),
         _ => u64::MAX,
+    }
+}
+
+/// A depth for calls that repeat: mostly 2 to 6, which cut some of them.
+pub fn cutting_depth(random: &mut Random) -> u64 {
+    if random.percent(50) {
+        random.within(2, 6)
+    } else {
+        depth(random)
     }
 }

@@ -3,7 +3,7 @@ use super::{Gate, Generator};
 use crate::random::Random;
 
 /// An argument of main: a register, and the index + 1 or 0.
-type Argument = [u64; 2];
+pub(super) type Argument = [u64; 2];
 
 impl Generator {
     pub(super) fn registers(&mut self) {
@@ -93,7 +93,7 @@ impl Generator {
     }
 
     /// Puts a run of arguments down and gives its first; an empty run starts anywhere.
-    fn placed(&mut self, arguments: &[Argument]) -> u64 {
+    pub(super) fn placed(&mut self, arguments: &[Argument]) -> u64 {
         let count = self.parts.arguments.len() as u64;
         if arguments.is_empty() {
             return self.random.below(count + 1);
@@ -102,20 +102,20 @@ impl Generator {
         count
     }
 
-    fn chosen(&mut self, formals: Option<u64>, count: u64) -> Option<Vec<Argument>> {
+    pub(super) fn chosen(&mut self, formals: Option<u64>, count: u64) -> Option<Vec<Argument>> {
         match formals {
             Some(formals) => self.formals(formals, count),
             None => self.broadcast(count),
         }
     }
 
-    fn u(&mut self, formals: Option<u64>) -> Option<[u64; 5]> {
+    pub(super) fn u(&mut self, formals: Option<u64>) -> Option<[u64; 5]> {
         let arguments = self.chosen(formals, 1)?;
         let angles = [self.expression(), self.expression(), self.expression()];
         Some([1, angles[0], angles[1], angles[2], self.placed(&arguments)])
     }
 
-    fn cx(&mut self, formals: Option<u64>) -> Option<[u64; 5]> {
+    pub(super) fn cx(&mut self, formals: Option<u64>) -> Option<[u64; 5]> {
         if formals.is_some_and(|formals| formals < 2) && self.random.percent(90) {
             return None;
         }
@@ -140,7 +140,7 @@ impl Generator {
         Some([3, gate, first, self.placed(&arguments), 0])
     }
 
-    fn barrier(&mut self, formals: Option<u64>) -> Option<[u64; 5]> {
+    pub(super) fn barrier(&mut self, formals: Option<u64>) -> Option<[u64; 5]> {
         let count = self.random.below(5);
         let arguments = match formals {
             Some(_) => self.chosen(formals, count)?,
@@ -156,7 +156,7 @@ impl Generator {
         Some([4, self.placed(&arguments), arguments.len() as u64, 0, 0])
     }
 
-    fn measure(&mut self) -> Option<[u64; 5]> {
+    pub(super) fn measure(&mut self) -> Option<[u64; 5]> {
         if self.parts.quantum.is_empty() || self.parts.classical.is_empty() {
             return None;
         }
@@ -172,7 +172,7 @@ impl Generator {
         Some([5, from, self.placed(&[to]), 0, 0])
     }
 
-    fn reset(&mut self) -> Option<[u64; 5]> {
+    pub(super) fn reset(&mut self) -> Option<[u64; 5]> {
         let arguments = self.broadcast(1)?;
         Some([6, self.placed(&arguments), 0, 0, 0])
     }
@@ -237,7 +237,7 @@ impl Generator {
     }
 
     /// Puts a body down; an empty one may start anywhere in the further statements.
-    fn further(&mut self, statements: &[[u64; 5]]) -> (u64, u64) {
+    pub(super) fn further(&mut self, statements: &[[u64; 5]]) -> (u64, u64) {
         let first = self.parts.further.len() as u64;
         if statements.is_empty() {
             return (self.random.below(first + 1), 0);
