@@ -17,7 +17,8 @@ The image's words close the line; a line that has none of them takes those of th
 line before.  Words are decimal; k*w stands for k words w.
 
 What an image was made for is said beside it, as the listing program writes it or
-in part, and the program stops where the reference has another outcome.
+in part, and the program stops where the reference has another outcome.  The last
+lines are runs that the reference could not finish: their outcomes follow by hand.
 """
 
 import sys
@@ -27,7 +28,8 @@ from random import Random
 
 from oracle.reference import reference
 from oracle.reference.reference import (
-    ARGUMENTS, BARRIER, CALL, CX, EXPRESSIONS, IF, INTEGER, MAIN, MEASURE, REAL, RESET, U, VARIABLE, Image,
+    ARGUMENTS, BARRIER, CALL, CX, EXPRESSIONS, IF, INTEGER, MAIN, MEASURE, REAL, RESET, U, VARIABLE,
+    Image, Outcome,
 )
 from oracle.vectors import random_images
 from oracle.vectors.entries import K1, NOTHING, PI_ENTRY, changed, decimal_words, gate, image, integer, opaque, variable
@@ -47,6 +49,7 @@ IMAGE_ROOM = 65600
 
 lines = []
 stored = []  # each case with the numbers of its line
+unfinished = set()  # the cases of images that the reference could not finish
 made = set()
 images_made = set()
 counts = Counter()
@@ -1663,6 +1666,56 @@ def random_broadcasts(count):
                 vector(words, depth, min(max(lent, 0), 20000))
 
 
+# -------------------------------------------------- too long for the reference
+
+
+def silent_towers():
+    heading("128 gates that write nothing, each calling the one below twice: the head, and 2^128 - 1 bodies")
+    plain = program([call(127)], tower(128))
+    # With a parameter that is handed on: 0 is the variable, 1 what main gives.
+    gates = [(1, 1, [])] + [(1, 1, [call(number)] * 2) for number in range(127)]
+    handed = program([call(127, 1)], gates, parameters=[0, 1], expressions=[variable(0), PI_ENTRY])
+    for words in plain, handed:
+        for depth in 129, 130, WORD_MAX:
+            silent(words, depth, [0, 1, 0, 0, 0])
+    heading("The same on two qubits that are swapped, with 0, 1 and 3 parameters; a reset comes after them")
+    for count in 0, 1, 3:
+        for depth in 129, WORD_MAX:
+            silent(silent_doubling(128, count), depth, [0, 2, 0, 0, 0, 0, 1], [RESET, 1])
+    heading("128 such gates, each calling the two below; where the lowest call none, smaller depths cut none")
+    for order in 1, -1:
+        for empty, depths in (1, (129, WORD_MAX)), (3, (127, 128, 129, WORD_MAX)), (64, (66, 127, 128, WORD_MAX)):
+            for depth in depths:
+                silent(silent_pairs(128, order, empty), depth, [0, 2, 0, 0, 0, 0, 1], [RESET, 1])
+
+
+def silent(words, depth, head_words, *records):
+    """Lines of a run that writes the head, then nothing in the first statement, then these records.
+
+    The reference would enter each body, and there are more than could be entered.  What is written
+    follows by hand.  The first statement calls a gate whose body has calls alone, and so have all bodies
+    below it but the lowest, which have no statements.  No call is cut at this depth, and no parameter is
+    refused: each is a variable handed on.  So no body writes a record, and every call ends.  The tally's
+    figures say the same of the records."""
+    figures = reference.tally(words, depth)
+    kinds = [sum(record[0] == kind for record in records) for kind in range(1, 8)]
+    if figures[:7] != kinds or figures[reference.ENTRIES_FIGURE] < 2**40:
+        raise AssertionError(f"{figures} at depth {depth}")
+    output = head_words + [word for record in records for word in record]
+    for lent in len(output) + 64, len(output), len(output) + 1:
+        unfinished_line(words, depth, lent, Outcome(0, 0, 0, 1 + len(records), output, []))
+    if records:  # the last record does not fit
+        unfinished_line(words, depth, len(output) - 1, Outcome(14, 0, 0, len(records), output[: -len(records[-1])], []))
+    # The head does not fit, and no body is entered.
+    unfinished_line(words, depth, len(head_words) - 1, Outcome(14, 0, 0, 0, [], []))
+
+
+def unfinished_line(words, depth, output_length, outcome):
+    case = Case(tuple(words), depth, output_length, 256)
+    unfinished.add(case)
+    add_line(case, outcome)
+
+
 def random_hundred():
     heading("A hundred small random images, which the tallies have too")
     for case in hundred_cases():
@@ -1696,6 +1749,7 @@ def make():
     random_cases(300)
     random_broadcasts(50)
     random_hundred()
+    silent_towers()
 
 
 def main():

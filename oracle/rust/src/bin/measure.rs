@@ -273,6 +273,19 @@ fn layers(qubits: u64, count: u64) -> Vec<u64> {
     calls.parts.words()
 }
 
+/// The most gates, each calling the one below twice; the lowest has no statements, and nothing is written but the head.
+fn silent_doubling() -> Vec<u64> {
+    let mut parts = Parts { quantum: vec![1], arguments: vec![[0, 0]], ..Parts::default() };
+    parts.gates.push(Gate { parameters: 0, arguments: 1, body: Some((0, 0)) });
+    for level in 1..128 {
+        let first = parts.further.len() as u64;
+        parts.further.extend([[3, level - 1, 0, 0, 0]; 2]);
+        parts.gates.push(Gate { parameters: 0, arguments: 1, body: Some((first, 2)) });
+    }
+    parts.main = vec![[3, 127, 0, 0, 0]];
+    parts.words()
+}
+
 /// Small programs that are done, of 8 to 12 records each.
 fn small(count: usize) -> Vec<Vec<u64>> {
     let records = |image: &Vec<u64>| {
@@ -512,6 +525,15 @@ fn alone(name: &str, words: usize, rounds: usize, mut turn: impl FnMut()) {
     );
 }
 
+/// A run that the published linearizer would not end: 2^128 - 1 bodies are entered.
+fn run_alone(name: &str, image: &[u64], rounds: usize) {
+    let mut unit = Unit { output: vec![0; 5], trace: [0; 256], answer: [0; 6] };
+    alone(name, image.len(), rounds, || {
+        black_box(unit.run(image, ALL));
+    });
+    assert_eq!(unit.answer, [0, 0, 0, 1, 5, 0], "{name}");
+}
+
 fn check_and_tally(name: &str, image: &[u64], rounds: usize) {
     let mut answer = [0; 2];
     alone(&format!("check: {name}"), image.len(), rounds, || unsafe {
@@ -602,6 +624,7 @@ fn main() {
     compare("(f) 200 calls of a gate, an angle each", &[ten_records(200, false)], rounds);
     compare("(f) 160 u1 with an angle each, 152 cx", &[layers(20, 8)], rounds);
     compare("(f) 200 calls of a gate, the same angle", &[ten_records(200, true)], rounds);
+    run_alone("(g) 128 levels of silent doubling", &silent_doubling(), rounds.min(5));
     for count in [10, 100, 1000] {
         check_and_tally(&format!("{count} U"), &expressions(count, 10), rounds.min(5));
     }
