@@ -10,7 +10,7 @@ use lib.Seq.{sets, length-take-le}
 use borrow.Author.Tests.{eq-eqb, ne-eqb}
 use Rattle.model.proofs.SetsLaws.{put-more}
 use Rattle.copy.proofs.BodyKeptLaws.{part-stays}
-use Rattle.copy.specs.CopiedRecord.{WordsPut, wordsBeforeQubits, qubitCount, gateLength, renamedGate, barrierLength, renamedBarrier, recordLength, renamedWords}
+use Rattle.copy.specs.CopiedRecord.{WordsPut, wordsBeforeQubits, qubitCount, gateLength, renamedGate, barrierLength, renamedBarrier, bodyRecordLength, renamedWords}
 
 module _ (out : List ℕ) (from : ℕ) where
   pub some-words : 1 ≤ wordsBeforeQubits out from
@@ -72,8 +72,8 @@ both-parts r out out′ out″ from to fixed count f c before fits e d =
 
 module _ (out : List ℕ) (from : ℕ) where
   module _ (e : getD out from 0 ≡ 4) where
-    pub length-barrier : recordLength out from ≡ barrierLength out from
-    unfolding recordLength
+    pub length-barrier : bodyRecordLength out from ≡ barrierLength out from
+    unfolding bodyRecordLength
     length-barrier = ap (λ b. cond b (barrierLength out from) (gateLength out from)) (eq-eqb _ 4 e)
 
     pub words-barrier : (r : ℕ → ℕ) → renamedWords r out from ≡ renamedBarrier r out from
@@ -81,16 +81,16 @@ module _ (out : List ℕ) (from : ℕ) where
     words-barrier r = ap (λ b. cond b (renamedBarrier r out from) (renamedGate r out from)) (eq-eqb _ 4 e)
 
   module _ (e : ¬ (getD out from 0 ≡ 4)) where
-    pub length-gate : recordLength out from ≡ gateLength out from
-    unfolding recordLength
+    pub length-gate : bodyRecordLength out from ≡ gateLength out from
+    unfolding bodyRecordLength
     length-gate = ap (λ b. cond b (barrierLength out from) (gateLength out from)) (ne-eqb _ 4 e)
 
     pub words-gate : (r : ℕ → ℕ) → renamedWords r out from ≡ renamedGate r out from
     unfolding renamedWords
     words-gate r = ap (λ b. cond b (renamedBarrier r out from) (renamedGate r out from)) (ne-eqb _ 4 e)
 
-  pub record-some : 1 ≤ recordLength out from
-  unfolding recordLength
+  pub record-some : 1 ≤ bodyRecordLength out from
+  unfolding bodyRecordLength
   record-some = go (eqb (getD out from 0) 4)
     where
       go : (b : Bool) → 1 ≤ cond b (barrierLength out from) (gateLength out from)

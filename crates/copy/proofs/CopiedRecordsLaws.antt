@@ -15,7 +15,7 @@ use Rattle.model.proofs.Lengths.{length-words}
 use Rattle.model.proofs.SetsLaws.{put-more}
 use Rattle.copy.specs.Renaming.{renamedRecord, copiedWords}
 use Rattle.copy.specs.BodyRecord.{BodyRecord, body-U, body-CX, body-opaque, body-barrier}
-use Rattle.copy.specs.CopiedRecord.{LaterPlace, WordsPut, wordsBeforeQubits, qubitCount, barrierCount, barrierQubits, recordLength, renamedWords}
+use Rattle.copy.specs.CopiedRecord.{LaterPlace, WordsPut, wordsBeforeQubits, qubitCount, barrierCount, barrierQubits, bodyRecordLength, renamedWords}
 use Rattle.copy.specs.CopiedRecords.{RecordsStand, RecordsCopied}
 use Rattle.copy.proofs.BodyKeptLaws.{part-stays}
 use Rattle.copy.proofs.Renamed.{shorter}
@@ -29,7 +29,7 @@ drop-take-add f c l = let e : f + c - f ≡ c = omega arith in drop-take f (f + 
 
 -- the words from a place on say how long a record is, and what its copy is
 record Read (r : ℕ → ℕ) (out : List ℕ) (from : ℕ) (x : Record) : Type 0 where
-  pub whole : recordLength out from ≡ length (encode x)
+  pub whole : bodyRecordLength out from ≡ length (encode x)
   pub copied : renamedWords r out from ≡ encode (renamedRecord r x)
 
 module _ (r : ℕ → ℕ) (out : List ℕ) (from : ℕ) where
@@ -212,14 +212,14 @@ module _ (r : ℕ → ℕ) where
         read-at = let x = copying-next h in body-read r out′ at (x .it) (x .there) (x .body)
 
         -- it has room at the end of the copy
-        pub copy-place : LaterPlace out′ at (to + written) (recordLength out′ at)
+        pub copy-place : LaterPlace out′ at (to + written) (bodyRecordLength out′ at)
         copy-place =
             let e = read-at .whole in
             let k = copying-next h .inside in
             record { after = omega (arith, place .after); fits = omega (arith, c .few, c .same, place .fits) }
 
         -- and is copied there
-        pub copy-later : {n m : ℕ} {out″ : List ℕ} → n ≡ recordLength out′ at → WordsPut out′ (to + written) (renamedWords r out′ at) m out″ → CopiedSoFar r out from words to (at + n) (written + m) out″
+        pub copy-later : {n m : ℕ} {out″ : List ℕ} → n ≡ bodyRecordLength out′ at → WordsPut out′ (to + written) (renamedWords r out′ at) m out″ → CopiedSoFar r out from words to (at + n) (written + m) out″
         copy-later {n} {m} {out″} e w =
             let x = copying-next h in
             let k = x .later (rw (read-at .copied) at w) in
@@ -243,7 +243,7 @@ module _ (r : ℕ → ℕ) where
   copied-once (cons {x} {xs} p k) (cons {x = y} {xs = ys} q j) e =
       let a = body-read r (encode x ++ flatMap encode xs) 0 x (at-front x (flatMap encode xs)) p in
       let b = body-read r (encode y ++ flatMap encode ys) 0 y (at-front y (flatMap encode ys)) q in
-      let long : length (encode x) ≡ length (encode y) = sym (a .whole) ∙ ap (λ l. recordLength l 0) e ∙ b .whole in
+      let long : length (encode x) ≡ length (encode y) = sym (a .whole) ∙ ap (λ l. bodyRecordLength l 0) e ∙ b .whole in
       let first : encode (renamedRecord r x) ≡ encode (renamedRecord r y) = sym (a .copied) ∙ ap (λ l. renamedWords r l 0) e ∙ b .copied in
       let later : flatMap encode xs ≡ flatMap encode ys =
       sym (drop-at (encode x) (flatMap encode xs) (length (encode x)) refl) ∙ ap₂ drop long e ∙ drop-at (encode y) (flatMap encode ys) (length (encode y)) refl in

@@ -70,8 +70,8 @@ renamedBarrier r out from = encode (Record.Barrier (rising (map r (barrierQubits
 -- ---- either of them, by its kind
 
 -- the length of the record
-unfoldable pub recordLength : List ℕ → ℕ → ℕ
-recordLength out from = cond (eqb (getD out from 0) 4) (barrierLength out from) (gateLength out from)
+unfoldable pub bodyRecordLength : List ℕ → ℕ → ℕ
+bodyRecordLength out from = cond (eqb (getD out from 0) 4) (barrierLength out from) (gateLength out from)
 
 -- the words of the record, its qubits renamed
 unfoldable pub renamedWords : (ℕ → ℕ) → List ℕ → ℕ → List ℕ

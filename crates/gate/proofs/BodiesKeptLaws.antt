@@ -13,8 +13,9 @@ use Rattle.record_writer.specs.declared.Linearized.the-variants as linearized
 use Rattle.record_writer.specs.Promise.{positionOf, WroteStepsTo}
 use Rattle.argument.specs.Frames.{scopeQubits}
 use Rattle.statement.specs.declared.Call.{Call}
+use Rattle.kept_body.specs.Slot.{slotWidth}
 use Rattle.kept_body.specs.KeptBodies.{BodiesKept, CalledGate, calledSteps, SlotGiven, CopyGiven, BodyRun}
-use Rattle.kept_body.proofs.KeptBodiesLaws.{bodies-later, slot-stands}
+use Rattle.kept_body.proofs.KeptBodiesLaws.{slot-ends, bodies-later, slot-stands}
 use Rattle.gate.specs.RunContext.{RunContext}
 use Rattle.gate.specs.RanSteps.{RanSteps, openedSteps, Popped}
 use Rattle.gate.specs.CallStatement.{CallStatement}
@@ -56,20 +57,22 @@ module _ {image : List ℕ} {l : Layout} {register-starts kept-values kept-bodie
       }
 
   pub slot-given : {kept-bodies′ out′ : List ℕ} {n : ℕ} → BodiesKept image kept-bodies′ out′ n → SlotGiven kept-bodies′ call qubits
-  slot-given b =
+  slot-given {kept-bodies′} b =
       let laid = r .context .in-scope .laid in
       record {
         few-gates = omega (arith, c .gate-listed, laid .gates-is, laid .few-gates);
         few-parameters = c .few-parameters;
         given = record { sixteen = r .context .in-scope .sixteen; few = c .arguments-fit .few };
-        room = omega (arith, b .room, called-gate .listed);
+        narrow = b .wide .narrow;
+        wide = omega (arith, b .wide .each (call .gate) (called-gate .listed), parameters-are c, arguments-are c);
+        room = omega (arith, b .room, slot-ends (slotWidth kept-bodies′) (call .gate) (gates image) (called-gate .listed));
       }
 
   pub copy-given : CopyGiven kept-bodies out call qubits at
   copy-given =
       record {
         slot = slot-given (r .bodies);
-        stands = λ k. slot-stands (called-gate .accepted) (called-gate .listed) (r .bodies .each (call .gate) (called-gate .listed) k);
+        stands = λ k. slot-stands _ (called-gate .accepted) (called-gate .listed) (r .bodies .each (call .gate) (called-gate .listed) k);
         in-output = r .context .in-output;
       }
 

@@ -1,6 +1,6 @@
 -- A body that is copied: to copy its records, or to do nothing where it wrote nothing, is to play its steps.
 use Prim.Native.Nat.{ℕ, _+_, _-_, _*_, _≤_, _<_}
-use native.Mathlib.Nat.{le-refl}
+use native.Mathlib.Nat.{le-of-lt, mul-le-mul}
 use native.Mathlib.Omega.{arith}
 use mathlib.Core.Path.{_≡_, refl, sym, ap, ap₂, subst, _∙_}
 use mathlib.Core.Logic.{_⊎_, inl, inr}
@@ -9,7 +9,7 @@ use mathlib.Core.Bool.{Bool, false}
 use lib.Dec.{T, ltb}
 use borrow.Author.Tests.{ltb-false}
 use lib.ListN.{length, take, drop, length-drop}
-use lib.Seq.{sets, length-take-le, take-take}
+use lib.Seq.{sets, length-take-le}
 use Rattle.value.specs.declared.Value.{Value}
 use Rattle.model.specs.Limits.{mostArguments}
 use Rattle.model.specs.Image.{gates, gateParameters, gateArguments}
@@ -31,8 +31,8 @@ use Rattle.copy.proofs.BodyKeptLaws.{distinct-formals, renamed-shorter, keptRec
 use Rattle.copy.proofs.CopiedRecordsLaws.{copied-once}
 use Rattle.kept_body.specs.declared.BodyCopy.{BodyCopy}
 use Rattle.kept_body.specs.declared.BodyCopy.the-variants as bodyCopy
-use Rattle.kept_body.specs.Slot.{keptBodyWords, slotOf, slotLevels, slotStart, slotWords, slotRecords, slotQubits, slotAngles, OpenedAlike, SameBody, SlotStands}
-use Rattle.kept_body.specs.KeptBodies.{SlotKept, BodiesKept, CalledGate, calledSteps, CopyGiven, BodyCopied}
+use Rattle.kept_body.specs.Slot.{slotNeed, slotWidth, slotOf, slotLevels, slotStart, slotWords, slotRecords, slotQubits, slotAngles, OpenedAlike, SameBody, SlotQubitsRead, SlotStands}
+use Rattle.kept_body.specs.KeptBodies.{SlotKept, BodiesKept, CalledGate, calledSteps, SlotGiven, CopyGiven, BodyCopied}
 use Rattle.kept_body.proofs.KeptBodiesLaws.{angles-same, kept-each}
 
 module _ {image : List ℕ} {call : Call} (c : CalledGate image call) where
@@ -46,20 +46,19 @@ module _ {image : List ℕ} {call : Call} (c : CalledGate image call) where
     values-are : slotAngles slot (gateParameters image (call .gate)) ≡ take (call .parameters) (anglesIn angles)
     values-are = ap (slotAngles slot) (sym (c .parameters-are)) ∙ angles-same slot angles (call .parameters) few-values (s .same)
 
-    module _ {out : List ℕ} (at : Position) (whole : length slot ≡ keptBodyWords) (k : SlotKept image slot out (at .words) (call .gate)) (qubits : List ℕ) where
-      slot-qubits : length (slotQubits slot (gateArguments image (call .gate))) ≡ gateArguments image (call .gate)
-      slot-qubits = length-take-le (gateArguments image (call .gate)) (drop 4 slot) (omega (arith, length-drop 4 slot, few-qubits, c .arguments-are))
+    module _ {out : List ℕ} (at : Position) (wide : slotNeed (call .parameters) (call .arguments) ≤ length slot) (k : SlotKept image slot out (at .words) (call .gate)) (qubits : List ℕ) where
+      abbrev old : List ℕ
+      old = slotQubits slot (gateParameters image (call .gate)) (gateArguments image (call .gate))
 
-      abbrev body : BodyKept image out (at .words) (call .gate) (slotLevels slot) (slotAngles slot (gateParameters image (call .gate))) (slotQubits slot (gateArguments image (call .gate))) (slotStart slot) (slotWords slot) (slotRecords slot)
-      body = k .body
+      old-qubits : length old ≡ gateArguments image (call .gate)
+      old-qubits = length-take-le (gateArguments image (call .gate)) (drop (4 + 6 * gateParameters image (call .gate)) slot) (omega (arith, length-drop (4 + 6 * gateParameters image (call .gate)) slot, wide, c .arguments-are, c .parameters-are))
 
       -- a body that wrote nothing
       pub silent-copied : slotWords slot ≡ 0 → at .words ≤ length out → WroteStepsTo (calledSteps image call (anglesIn angles) qubits) out at at out
       silent-copied e inside =
           record {
             plays = subst (λ (vs : List Value). Plays (bodySteps image (call .site .«levels_left») [] (call .gate) vs (take (call .arguments) qubits)) (stateAt out at) (stateAt out at) done) values-are
-                (kept-silent (c .accepted) (stateAt out at) (call .gate) (slotLevels slot) (call .site .«levels_left») (slotAngles slot (gateParameters image (call .gate))) (slotQubits slot (gateArguments image (call .gate))) (take (call .arguments) qubits) []
-                body e (c .listed) slot-qubits (levels (s .alike)) inside);
+                (kept-silent (c .accepted) (stateAt out at) (call .gate) (slotLevels slot) (call .site .«levels_left») (slotAngles slot (gateParameters image (call .gate))) old (take (call .arguments) qubits) [] k e (c .listed) old-qubits (levels (s .alike)) inside);
             level = refl;
           }
         where
@@ -68,26 +67,25 @@ module _ {image : List ℕ} {call : Call} (c : CalledGate image call) where
           levels (inr (inl d)) = inl (d .1)
           levels (inr (inr d)) = inr d
 
-      -- a body whose records were copied
-      pub records-copied : {written : ℕ} {out′ : List ℕ} → ¬ (slotWords slot ≡ 0) → T (differ (take (call .arguments) qubits)) → length qubits ≡ mostArguments → at .words + slotWords slot ≤ length out
-          → RecordsCopied (renamedQubit (take 16 (drop 4 slot)) qubits (call .arguments)) out (slotStart slot) (slotWords slot) (at .words) written out′
+      -- a body whose records were copied, with the slot's qubits in an array
+      pub records-copied : (array : List ℕ) {written : ℕ} {out′ : List ℕ} → ¬ (slotWords slot ≡ 0) → SlotQubitsRead slot (call .parameters) (call .arguments) array → T (differ (take (call .arguments) array)) → T (differ (take (call .arguments) qubits)) → length qubits ≡ mostArguments
+          → at .words + slotWords slot ≤ length out → RecordsCopied (renamedQubit array qubits (call .arguments)) out (slotStart slot) (slotWords slot) (at .words) written out′
           → WroteStepsTo (calledSteps image call (anglesIn angles) qubits) out at (record { records = at .records + slotRecords slot; words = at .words + written; trace = at .trace }) out′
       unfolding output
-      records-copied {written} {out′} some d sixteen fits r =
-          let qs : List ℕ = slotQubits slot (gateArguments image (call .gate)) in
+      records-copied array {written} {out′} some q d₁ d sixteen fits r =
           let new : List ℕ = take (call .arguments) qubits in
-          let old : take (call .arguments) (take 16 (drop 4 slot)) ≡ qs = take-take (call .arguments) 16 (drop 4 slot) (omega (arith, few-qubits)) ∙ ap (slotQubits slot) (c .arguments-are) in
+          let e : take (call .arguments) array ≡ old = q .front ∙ ap₂ (slotQubits slot) (c .parameters-are) (c .arguments-are) in
           let many : length new ≡ gateArguments image (call .gate) = length-take-le (call .arguments) qubits (omega (arith, few-qubits, sixteen)) ∙ c .arguments-are in
-          let v : RecordsCopied (renaming qs new) out (slotStart slot) (slotWords slot) (at .words) written out′ = subst (λ (q : List ℕ). RecordsCopied (renaming q new) out (slotStart slot) (slotWords slot) (at .words) written out′) old r in
-          let same = copied-once (renaming qs new) (v .each) (kept-each (c .accepted) (c .listed) k) (sym (v .stands) ∙ body .stands) in
-          let formals = distinct-formals (gateArguments image (call .gate)) qs new slot-qubits many (k .distinct some) d in
-          let place : copiedPlace (renaming qs new) (keptRecords body) (stateAt out at) ≡ stateAt out′ (record { records = at .records + slotRecords slot; words = at .words + written; trace = at .trace }) =
-          ap₂ (λ (o : List ℕ) (w : ℕ). record { out = o; words = at .words + w; records = at .records + length (keptRecords body) }) (sym (v .contents ∙ ap (sets out (at .words)) same)) (sym (v .counted ∙ ap length same))
-          ∙ ap (λ (m : ℕ). record { out = out′; words = at .words + written; records = at .records + m }) (sym (body .counted)) in
+          let v : RecordsCopied (renaming old new) out (slotStart slot) (slotWords slot) (at .words) written out′ = subst (λ (l : List ℕ). RecordsCopied (renaming l new) out (slotStart slot) (slotWords slot) (at .words) written out′) e r in
+          let same = copied-once (renaming old new) (v .each) (kept-each slot (c .accepted) (c .listed) k) (sym (v .stands) ∙ k .stands) in
+          let formals = distinct-formals (gateArguments image (call .gate)) old new old-qubits many (subst (λ (l : List ℕ). T (differ l)) e d₁) d in
+          let place : copiedPlace (renaming old new) (keptRecords k) (stateAt out at) ≡ stateAt out′ (record { records = at .records + slotRecords slot; words = at .words + written; trace = at .trace }) =
+          ap₂ (λ (o : List ℕ) (w : ℕ). record { out = o; words = at .words + w; records = at .records + length (keptRecords k) }) (sym (v .contents ∙ ap (sets out (at .words)) same)) (sym (v .counted ∙ ap length same))
+          ∙ ap (λ (m : ℕ). record { out = out′; words = at .words + written; records = at .records + m }) (sym (k .counted)) in
           record {
             plays = subst (λ (vs : List Value). Plays (bodySteps image (call .site .«levels_left») [] (call .gate) vs new) (stateAt out at) (stateAt out′ (record { records = at .records + slotRecords slot; words = at .words + written; trace = at .trace })) done) values-are
-                (subst (λ (q : OutputState). Plays (bodySteps image (call .site .«levels_left») [] (call .gate) (slotAngles slot (gateParameters image (call .gate))) new) (stateAt out at) q done) place
-                (kept-copies (c .accepted) (renaming qs new) (stateAt out at) (call .gate) (slotLevels slot) (call .site .«levels_left») (slotAngles slot (gateParameters image (call .gate))) qs new [] body (c .listed) (levels (s .alike) (renaming qs new) some) formals fits));
+                (subst (λ (p : OutputState). Plays (bodySteps image (call .site .«levels_left») [] (call .gate) (slotAngles slot (gateParameters image (call .gate))) new) (stateAt out at) p done) place
+                (kept-copies (c .accepted) (renaming old new) (stateAt out at) (call .gate) (slotLevels slot) (call .site .«levels_left») (slotAngles slot (gateParameters image (call .gate))) old new [] k (c .listed) (levels (s .alike) (renaming old new) some) formals fits));
             level = refl;
           }
         where
@@ -99,29 +97,31 @@ module _ {image : List ℕ} {call : Call} (c : CalledGate image call) where
 -- ---- the slot of a call, as the code lends it
 
 abbrev pub lentSlot : List ℕ → ℕ → List ℕ
-lentSlot table g = take (keptBodyWords * g + keptBodyWords - keptBodyWords * g) (drop (keptBodyWords * g) table)
+lentSlot table g = take (1 + slotWidth table * g + slotWidth table - (1 + slotWidth table * g)) (drop (1 + slotWidth table * g) table)
 
 pub lent-slot : (table : List ℕ) (g : ℕ) → lentSlot table g ≡ slotOf table g
-lent-slot table g = let e : keptBodyWords * g + keptBodyWords - keptBodyWords * g ≡ keptBodyWords = omega arith in ap (λ (n : ℕ). take n (drop (keptBodyWords * g) table)) e
+lent-slot table g = let e : 1 + slotWidth table * g + slotWidth table - (1 + slotWidth table * g) ≡ slotWidth table = omega arith in ap (λ (n : ℕ). take n (drop (1 + slotWidth table * g) table)) e
 
--- its sixteen qubits
-pub qubits-in-slot : (slot : List ℕ) (n : ℕ) → length slot ≡ keptBodyWords → n ≤ 16 → n ≤ length (take 16 (drop 4 slot))
-qubits-in-slot slot n e h = omega (arith, length-take-le 16 (drop 4 slot) (omega (arith, length-drop 4 slot)))
+-- its place in the table
+pub slot-near : {table qubits : List ℕ} {call : Call} → SlotGiven table call qubits → slotWidth table * call .gate ≤ 14848
+slot-near g = omega (arith, mul-le-mul (g .narrow) (le-of-lt (g .few-gates)))
+
+pub slot-whole : {table slot qubits : List ℕ} {call : Call} → SlotGiven table call qubits → slot ≡ slotOf table (call .gate) → length slot ≡ slotWidth table
+slot-whole {table} {call = call} g e = ap length e ∙ length-take-le (slotWidth table) (drop (1 + slotWidth table * call .gate) table) (omega (arith, length-drop (1 + slotWidth table * call .gate) table, g .room))
+
+pub slot-wide : {table slot qubits : List ℕ} {call : Call} → SlotGiven table call qubits → slot ≡ slotOf table (call .gate) → slotNeed (call .parameters) (call .arguments) ≤ length slot
+slot-wide g e = omega (arith, slot-whole g e, g .wide)
 
 -- the test for room
 pub room-left : (out slot : List ℕ) (at : Position) {full : Bool} → full ≡ ltb (length out) (at .words + slotWords slot) → full ≡ false → at .words + slotWords slot ≤ length out
 room-left out slot at e f = ltb-false (length out) (at .words + slotWords slot) (sym e ∙ f)
 
-module _ {table slot out qubits : List ℕ} {call : Call} {at : Position} (g : CopyGiven table out call qubits at) (e : slot ≡ slotOf table (call .gate)) where
-  pub slot-whole : length slot ≡ keptBodyWords
-  slot-whole = ap length e ∙ length-take-le keptBodyWords (drop (keptBodyWords * call .gate) table) (omega (arith, length-drop (keptBodyWords * call .gate) table, g .slot .room))
+module _ {table out qubits : List ℕ} {call : Call} {at : Position} (g : CopyGiven table out call qubits at) (slot : List ℕ) (e : slot ≡ slotOf table (call .gate)) (k : ¬ (slotLevels slot ≡ 0)) where
+  pub stands-in-slot : SlotStands slot out (at .words)
+  stands-in-slot = rw e (g .stands (λ z. k (ap slotLevels e ∙ z)))
 
-  module _ (k : ¬ (slotLevels slot ≡ 0)) where
-    pub stands-in-slot : SlotStands slot out (at .words)
-    stands-in-slot = rw e (g .stands (λ z. k (ap slotLevels e ∙ z)))
-
-    pub kept-in-slot : {image : List ℕ} → CalledGate image call → BodiesKept image table out (at .words) → SlotKept image slot out (at .words) (call .gate)
-    kept-in-slot c b = rw e (b .each (call .gate) (c .listed) (λ z. k (ap slotLevels e ∙ z)))
+  pub kept-in-slot : {image : List ℕ} → CalledGate image call → BodiesKept image table out (at .words) → SlotKept image slot out (at .words) (call .gate)
+  kept-in-slot {image} c b = subst (λ (l : List ℕ). SlotKept image l out (at .words) (call .gate)) (sym e) (b .each (call .gate) (c .listed) (λ z. k (ap slotLevels e ∙ z)))
 
 -- a copy is no longer than what is copied
 pub written-few : (r : ℕ → ℕ) {out : List ℕ} {from words to written : ℕ} {out′ : List ℕ} → RecordsCopied r out from words to written out′ → from + words ≤ length out → written ≤ words

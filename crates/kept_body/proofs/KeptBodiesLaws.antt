@@ -1,6 +1,6 @@
 -- The table of kept bodies: when a body is put into its slot, what is written later, and what a slot says of a later call.
 use Prim.Native.Nat.{ℕ, zero, suc, _+_, _-_, _*_, _≤_, _<_}
-use native.Mathlib.Nat.{add-zero, eq-or-lt-of-le}
+use native.Mathlib.Nat.{mul-suc, mul-le-mul-left}
 use native.Mathlib.Omega.{arith}
 use mathlib.Core.Path.{_≡_, refl, sym, ap, ap₂, subst, _∙_}
 use mathlib.Core.Logic.{_⊎_, inl, inr}
@@ -9,8 +9,8 @@ use mathlib.Core.List.{List, [], _∷_, _++_, map}
 use lib.Dec.{T, eqb, ltb}
 use borrow.Author.Tests.{eqb-true, eqb-false, ltb-true, ltb-false}
 use borrow.Rule.Slice.PartMut.{putMid, postOf, same-len-mid, mid-len, take-put, drop-put}
-use lib.ListN.{length, getD, take, drop, replicate, length-replicate, getD-replicate}
-use lib.Seq.{sets, length-sets, length-take-le, take-at, drop-at, take-take, drop-drop, getD-take, getD-drop, ext-getD}
+use lib.ListN.{length, getD, set, take, drop, length-set, replicate, length-replicate, getD-replicate}
+use lib.Seq.{sets, length-sets, length-take-le, take-at, drop-at, take-take, drop-drop, getD-take, getD-drop, getD-set-same, getD-set-other, ext-getD}
 use Rattle.rational.specs.declared.Rational64.{Rational64}
 use Rattle.value.specs.declared.Value.{Value}
 use Rattle.model.specs.Image.{gates, gateParameters, gateArguments}
@@ -35,42 +35,56 @@ use Rattle.model.specs.All.{All}
 use Rattle.copy.specs.BodyRecord.{BodyRecord}
 use Rattle.copy.proofs.BodyRecords.{openings-bodily, bodily-plays}
 use Rattle.copy.proofs.BodyKeptLaws.{keptRecords, kept-later, kept-new}
-use Rattle.kept_body.specs.Slot.{keptBodyWords, slotOf, slotLevels, slotStart, slotWords, slotRecords, slotQubits, slotAngles, SameAngles, SlotStands, SlotFilled}
+use Rattle.kept_body.specs.Slot.{slotWidth, slotOf, WideEnough, slotLevels, slotStart, slotWords, slotRecords, slotQubits, slotAngles, SameAngles, SlotStands, SlotFilled}
 use Rattle.kept_body.specs.KeptBodies.{SlotKept, BodiesKept, CalledGate, BodyRun}
 
 -- ---- slots of a table in which one was put anew
 
+-- a slot ends where the next one begins
+pub slot-ends : (w h g : ℕ) → h < g → w * h + w ≤ w * g
+slot-ends w h g l = omega (arith, mul-suc w h, mul-le-mul-left w l)
+
 -- the table with the slot of gate g put anew, as the code lends it
 abbrev pub putInto : List ℕ → List ℕ → ℕ → List ℕ
-putInto table slot g = putMid (keptBodyWords * g) (keptBodyWords * g + keptBodyWords - keptBodyWords * g) table slot
+putInto table slot g = putMid (1 + slotWidth table * g) (1 + slotWidth table * g + slotWidth table - (1 + slotWidth table * g)) table slot
 
-module _ (table slot : List ℕ) (g : ℕ) (whole : length slot ≡ keptBodyWords) (room : keptBodyWords * (g + 1) ≤ length table) where
+module _ (table slot : List ℕ) (g : ℕ) (whole : length slot ≡ slotWidth table) (room : 1 + slotWidth table * g + slotWidth table ≤ length table) where
+  abbrev w : ℕ
+  w = slotWidth table
+
   abbrev first : ℕ
-  first = keptBodyWords * g
+  first = 1 + w * g
 
   abbrev end : ℕ
-  end = first + keptBodyWords
+  end = first + w
 
   abbrev put : List ℕ
   put = putInto table slot g
 
+  pub width-stays : slotWidth put ≡ w
+  width-stays = sym (getD-take first put 0 0 (omega arith)) ∙ ap (λ (t : List ℕ). getD t 0 0) (take-put first (end - first) table slot (omega arith)) ∙ getD-take first table 0 0 (omega arith)
+
+  -- a slot of it, by the width that it had
+  of-width : (h : ℕ) → slotOf put h ≡ take w (drop (1 + w * h) put)
+  of-width h = ap (λ (k : ℕ). take k (drop (1 + k * h) put)) width-stays
+
   pub slot-put : slotOf put g ≡ slot
-  slot-put = ap (take keptBodyWords) (drop-at (take first table) (slot ++ postOf first (end - first) table) first (length-take-le first table (omega arith))) ∙ take-at slot (postOf first (end - first) table) keptBodyWords whole
+  slot-put = of-width g ∙ ap (take w) (drop-at (take first table) (slot ++ postOf first (end - first) table) first (length-take-le first table (omega arith))) ∙ take-at slot (postOf first (end - first) table) w whole
 
   pub length-put : length put ≡ length table
   length-put = same-len-mid first (end - first) table slot (whole ∙ sym (mid-len first end table (omega arith) ∙ omega arith))
 
   slot-before : (h : ℕ) → h < g → slotOf put h ≡ slotOf table h
-  slot-before h l = before put ∙ ap (λ (t : List ℕ). take keptBodyWords (drop (keptBodyWords * h) t)) (take-put first (end - first) table slot (omega arith)) ∙ sym (before table)
+  slot-before h l = of-width h ∙ before put ∙ ap (λ (t : List ℕ). take w (drop (1 + w * h) t)) (take-put first (end - first) table slot (omega arith)) ∙ sym (before table)
     where
-      before : (t : List ℕ) → slotOf t h ≡ take keptBodyWords (drop (keptBodyWords * h) (take first t))
-      before t = sym (ap (take keptBodyWords) (drop-take (keptBodyWords * h) first t (omega arith)) ∙ take-take keptBodyWords (first - keptBodyWords * h) (drop (keptBodyWords * h) t) (omega arith))
+      before : (t : List ℕ) → take w (drop (1 + w * h) t) ≡ take w (drop (1 + w * h) (take first t))
+      before t = sym (ap (take w) (drop-take (1 + w * h) first t (omega (arith, slot-ends w h g l))) ∙ take-take w (first - (1 + w * h)) (drop (1 + w * h) t) (omega (arith, slot-ends w h g l)))
 
   slot-after : (h : ℕ) → g < h → slotOf put h ≡ slotOf table h
-  slot-after h l = behind put ∙ ap (λ (t : List ℕ). take keptBodyWords (drop (keptBodyWords * h - end) t)) (drop-put first end table slot (omega arith) (omega arith) (omega (arith, whole))) ∙ sym (behind table)
+  slot-after h l = of-width h ∙ behind put ∙ ap (λ (t : List ℕ). take w (drop (1 + w * h - end) t)) (drop-put first end table slot (omega arith) (omega arith) (omega (arith, whole))) ∙ sym (behind table)
     where
-      behind : (t : List ℕ) → slotOf t h ≡ take keptBodyWords (drop (keptBodyWords * h - end) (drop end t))
-      behind t = let e : keptBodyWords * h ≡ end + (keptBodyWords * h - end) = omega arith in ap (λ (k : ℕ). take keptBodyWords (drop k t)) e ∙ ap (take keptBodyWords) (sym (drop-drop (keptBodyWords * h - end) end t))
+      behind : (t : List ℕ) → take w (drop (1 + w * h) t) ≡ take w (drop (1 + w * h - end) (drop end t))
+      behind t = let e : 1 + w * h ≡ end + (1 + w * h - end) = omega (arith, slot-ends w g h l) in ap (λ (k : ℕ). take w (drop k t)) e ∙ ap (take w) (sym (drop-drop (1 + w * h - end) end t))
 
   pub slot-other : (h : ℕ) → ¬ (h ≡ g) → slotOf put h ≡ slotOf table h
   slot-other h n = go (ltb h g) refl
@@ -87,85 +101,87 @@ fraction-same v w p q e f g = rw (e, f, g) refl
 pub angles-same : (slot angles : List ℕ) (n : ℕ) → n ≤ 16 → SameAngles slot angles (6 * n) → slotAngles slot n ≡ take n (anglesIn angles)
 angles-same slot angles n few s =
     let long : (w : List ℕ) → length (take n (anglesIn w)) ≡ n = λ w. length-take-le n (anglesIn w) (omega (arith, sixteen w)) in
-    ext-getD zeroValue (slotAngles slot n) (take n (anglesIn angles)) (long (drop 20 slot) ∙ sym (long angles)) (λ i h.
-    let k : i < n = omega (arith, long (drop 20 slot)) in
-    getD-take n (anglesIn (drop 20 slot)) i zeroValue k ∙ angle-at (drop 20 slot) i zeroValue (omega arith) ∙ value i k ∙ sym (getD-take n (anglesIn angles) i zeroValue k ∙ angle-at angles i zeroValue (omega arith)))
+    ext-getD zeroValue (slotAngles slot n) (take n (anglesIn angles)) (long (drop 4 slot) ∙ sym (long angles)) (λ i h.
+    let k : i < n = omega (arith, long (drop 4 slot)) in
+    getD-take n (anglesIn (drop 4 slot)) i zeroValue k ∙ angle-at (drop 4 slot) i zeroValue (omega arith) ∙ value i k ∙ sym (getD-take n (anglesIn angles) i zeroValue k ∙ angle-at angles i zeroValue (omega arith)))
   where
-    word-same : (j : ℕ) → j < 6 * n → getD (drop 20 slot) j 0 ≡ getD angles j 0
-    word-same j h = getD-drop 20 slot j 0 ∙ s .each j h
+    word-same : (j : ℕ) → j < 6 * n → getD (drop 4 slot) j 0 ≡ getD angles j 0
+    word-same j h = getD-drop 4 slot j 0 ∙ s .each j h
 
-    value : (i : ℕ) → i < n → valueAt (drop 20 slot) (6 * i) ≡ valueAt angles (6 * i)
+    value : (i : ℕ) → i < n → valueAt (drop 4 slot) (6 * i) ≡ valueAt angles (6 * i)
     value i h =
         ap₂ (λ (a b : Rational64). record { a = a; b = b })
-        (fraction-same (drop 20 slot) angles (6 * i) (6 * i) (word-same (6 * i) (omega arith)) (word-same (6 * i + 1) (omega arith)) (word-same (6 * i + 2) (omega arith)))
-        (fraction-same (drop 20 slot) angles (6 * i + 3) (6 * i + 3) (word-same (6 * i + 3) (omega arith)) (word-same (6 * i + 3 + 1) (omega arith)) (word-same (6 * i + 3 + 2) (omega arith)))
+        (fraction-same (drop 4 slot) angles (6 * i) (6 * i) (word-same (6 * i) (omega arith)) (word-same (6 * i + 1) (omega arith)) (word-same (6 * i + 2) (omega arith)))
+        (fraction-same (drop 4 slot) angles (6 * i + 3) (6 * i + 3) (word-same (6 * i + 3) (omega arith)) (word-same (6 * i + 3 + 1) (omega arith)) (word-same (6 * i + 3 + 2) (omega arith)))
 
 -- ---- what is written later leaves what is kept
 
 pub bodies-later : {image table : List ℕ} {ss : List Step} {p q : OutputState} {a : Answer} → Plays ss p q a → BodiesKept image table (p .out) (p .words) → BodiesKept image table (q .out) (q .words)
 bodies-later {image} {table} {ss} {p} {q} w b =
-    record {
-      room = b .room;
-      each = λ g h k.
-          let s = b .each g h k in
-          record { body = rw (w .contents) (kept-later (s .body) (output (play (room p) ss)) (q .words) (omega (arith, w .position))); distinct = s .distinct };
-    }
+    record { wide = b .wide; room = b .room; each = λ g h k. rw (w .contents) (kept-later (b .each g h k) (output (play (room p) ss)) (q .words) (omega (arith, w .position))) }
 
 -- ---- a body that was run is put into its slot
 
 module _ {image : List ℕ} {call : Call} {angles qubits out out′ : List ℕ} {at next : Position} (r : BodyRun image call (anglesIn angles) qubits out at next out′) where
-  slot-kept : {slot : List ℕ} {levels start words records : ℕ} → levels ≡ call .site .«levels_left» → start ≡ at .words → words ≡ next .words - at .words → records ≡ next .records - at .records
-      → SlotFilled slot levels start words records qubits (call .arguments) angles (6 * call .parameters) → (¬ (words ≡ 0) → T (differ (take (call .arguments) qubits))) → SlotKept image slot out′ (next .words) (call .gate)
-  slot-kept {slot} e₁ e₂ e₃ e₄ f d =
+  slot-kept : {slot : List ℕ} → SlotFilled slot (call .site .«levels_left») (at .words) (next .words - at .words) (next .records - at .records) call angles qubits → SlotKept image slot out′ (next .words) (call .gate)
+  slot-kept {slot} f =
       let c = r .called in
       let few : call .parameters ≤ 16 = omega (arith, c .parameters-are, few-parameters (c .accepted) (call .gate) (c .listed)) in
       let vs : slotAngles slot (gateParameters image (call .gate)) ≡ take (call .parameters) (anglesIn angles) = ap (slotAngles slot) (sym (c .parameters-are)) ∙ angles-same slot angles (call .parameters) few (f .angles-are) in
-      let qs : slotQubits slot (gateArguments image (call .gate)) ≡ take (call .arguments) qubits = ap (slotQubits slot) (sym (c .arguments-are)) ∙ f .qubits-are in
-      record {
-        body = rw (vs, qs, f .levels-are ∙ e₁, f .start-is ∙ e₂, f .words-are ∙ e₃, f .records-are ∙ e₄) (kept-new image (call .gate) (call .site .«levels_left») [] (take (call .parameters) (anglesIn angles)) (take (call .arguments) qubits) (r .wrote .plays) (r .inside));
-        distinct = λ n. subst (λ (l : List ℕ). T (differ l)) (sym qs) (d (λ e. n (f .words-are ∙ e)));
-      }
+      let qs : slotQubits slot (gateParameters image (call .gate)) (gateArguments image (call .gate)) ≡ take (call .arguments) qubits = ap₂ (slotQubits slot) (sym (c .parameters-are)) (sym (c .arguments-are)) ∙ f .qubits-are in
+      rw (vs, qs, f .levels-are, f .start-is, f .words-are, f .records-are) (kept-new image (call .gate) (call .site .«levels_left») [] (take (call .parameters) (anglesIn angles)) (take (call .arguments) qubits) (r .wrote .plays) (r .inside))
 
-  pub bodies-put : (table slot : List ℕ) → keptBodyWords * (call .gate + 1) ≤ length table → BodiesKept image table out′ (next .words)
-      → SlotFilled slot (call .site .«levels_left») (at .words) (next .words - at .words) (next .records - at .records) qubits (call .arguments) angles (6 * call .parameters)
-      → (¬ (next .words - at .words ≡ 0) → T (differ (take (call .arguments) qubits)))
+  pub bodies-put : (table slot : List ℕ) → length slot ≡ slotWidth table → 1 + slotWidth table * call .gate + slotWidth table ≤ length table → BodiesKept image table out′ (next .words)
+      → SlotFilled slot (call .site .«levels_left») (at .words) (next .words - at .words) (next .records - at .records) call angles qubits
       → BodiesKept image (putInto table slot (call .gate)) out′ (next .words)
-  bodies-put table slot room b f d =
+  bodies-put table slot whole room b f =
+      let width = width-stays table slot (call .gate) whole room in
       record {
-        room = subst (λ (n : ℕ). keptBodyWords * gates image ≤ n) (sym (length-put table slot (call .gate) (f .whole) room)) (b .room);
+        wide = subst (WideEnough image) (sym width) (b .wide);
+        room = rw (width, length-put table slot (call .gate) whole room) (b .room);
         each = λ g h k. go g h k (eqb g (call .gate)) refl;
       }
     where
       go : (g : ℕ) → g < gates image → ¬ (slotLevels (slotOf (putInto table slot (call .gate)) g) ≡ 0) → (c : Bool) → eqb g (call .gate) ≡ c → SlotKept image (slotOf (putInto table slot (call .gate)) g) out′ (next .words) g
       go g h k true e =
           let same = eqb-true g (call .gate) e in
-          rw (same, slot-put table slot (call .gate) (f .whole) room) (slot-kept refl refl refl refl f d)
+          subst (λ (l : List ℕ). SlotKept image l out′ (next .words) g) (sym (ap (slotOf (putInto table slot (call .gate))) same ∙ slot-put table slot (call .gate) whole room)) (rw same (slot-kept f))
       go g h k false e =
-          let other = slot-other table slot (call .gate) (f .whole) room g (eqb-false g (call .gate) e) in
-          rw other (b .each g h (λ z. k (ap slotLevels other ∙ z)))
+          let other = slot-other table slot (call .gate) whole room g (eqb-false g (call .gate) e) in
+          subst (λ (l : List ℕ). SlotKept image l out′ (next .words) g) (sym other) (b .each g h (λ z. k (ap slotLevels other ∙ z)))
 
 -- ---- what a slot tells of stands in the output
 
-pub kept-each : {image slot out : List ℕ} {at g : ℕ} → Accepted image → g < gates image → (s : SlotKept image slot out at g) → All BodyRecord (keptRecords (s .body))
-kept-each {image} {slot} {g = g} acc h s =
-    let k = s .body in
-    bodily-plays (k .ahead) (openings-bodily image acc (slotLevels slot) .opens (k .trace) g (slotAngles slot (gateParameters image g)) (slotQubits slot (gateArguments image g)) h)
+pub kept-each : {image : List ℕ} (slot : List ℕ) {out : List ℕ} {at g : ℕ} → Accepted image → g < gates image → (k : SlotKept image slot out at g) → All BodyRecord (keptRecords k)
+kept-each {image} slot {g = g} acc h k =
+    let n = gateParameters image g in
+    bodily-plays (k .ahead) (openings-bodily image acc (slotLevels slot) .opens (k .trace) g (slotAngles slot n) (slotQubits slot n (gateArguments image g)) h)
 
-pub slot-stands : {image slot out : List ℕ} {at g : ℕ} → Accepted image → g < gates image → SlotKept image slot out at g → SlotStands slot out at
+pub slot-stands : {image : List ℕ} (slot : List ℕ) {out : List ℕ} {at g : ℕ} → Accepted image → g < gates image → SlotKept image slot out at g → SlotStands slot out at
 unfolding output
-slot-stands {image} {slot} {out} {at} {g} acc h s =
-    let k = s .body in
+slot-stands {image} slot acc h k =
     record {
-      stands = record { records = keptRecords k; each = kept-each acc h s; stands = k .stands };
+      stands = record { records = keptRecords k; each = kept-each slot acc h k; stands = k .stands };
       before = k .before;
       fewer = omega (arith, k .counted, k .long, words-enough (keptRecords k));
     }
 
 -- ---- no body is kept at first
 
-pub no-bodies : (image out : List ℕ) (n at : ℕ) → keptBodyWords * gates image ≤ n → BodiesKept image (replicate n 0) out at
-no-bodies image out n at h =
+pub no-bodies : (image out : List ℕ) (n at width : ℕ) → WideEnough image width → 1 + width * gates image ≤ n → BodiesKept image (set (replicate n 0) 0 width) out at
+no-bodies image out n at width h fits =
+    let table : List ℕ = set (replicate n 0) 0 width in
+    let is : slotWidth table ≡ width = getD-set-same (replicate n 0) 0 width 0 (omega (arith, length-replicate {A = ℕ} n 0)) in
     record {
-      room = subst (λ (k : ℕ). keptBodyWords * gates image ≤ k) (sym (length-replicate n 0)) h;
-      each = λ g l k. absurd (k (getD-take keptBodyWords (drop (keptBodyWords * g) (replicate n 0)) 0 0 (omega arith) ∙ getD-drop (keptBodyWords * g) (replicate n 0) 0 0 ∙ getD-replicate n (keptBodyWords * g + 0) 0 0 (omega arith)));
+      wide = subst (WideEnough image) (sym is) h;
+      room = rw is (omega (arith, length-set (replicate n 0) 0 width, length-replicate {A = ℕ} n 0));
+      each = λ g l k. absurd (k (empty g l is));
     }
+  where
+    empty : (g : ℕ) → g < gates image → slotWidth (set (replicate n 0) 0 width) ≡ width → slotLevels (slotOf (set (replicate n 0) 0 width) g) ≡ 0
+    empty g l is =
+        ap (λ (w : ℕ). getD (take w (drop (1 + w * g) (set (replicate n 0) 0 width))) 0 0) is
+        ∙ getD-take width (drop (1 + width * g) (set (replicate n 0) 0 width)) 0 0 (omega (arith, h .each g l))
+        ∙ getD-drop (1 + width * g) (set (replicate n 0) 0 width) 0 0
+        ∙ getD-set-other (replicate n 0) 0 (1 + width * g + 0) width 0 (λ e. omega arith)
+        ∙ getD-replicate n (1 + width * g + 0) 0 0 (omega (arith, slot-ends width g (gates image) l, h .each g l))

@@ -1,6 +1,7 @@
 -- What the words of a slot say: its angles, and what it holds when it was filled.
-use Prim.Native.Nat.{ℕ, zero, suc, _+_, _-_, _*_, _≤_, _<_}
-use native.Mathlib.Nat.{zero-add, add-zero, not-suc-le-zero, eq-or-lt-of-le}
+use Prim.Native.Nat.{ℕ, suc, _+_, _*_, _≤_, _<_, max}
+use native.Mathlib.Nat.{zero-add, add-zero, not-suc-le-zero, eq-or-lt-of-le, max-le, le-max-left, le-max-right}
+use native.Mathlib.Numerals.{add-one}
 use native.Mathlib.Omega.{arith}
 use mathlib.Core.Path.{_≡_, refl, sym, ap, ap₂, subst, _∙_}
 use mathlib.Core.Logic.{_⊎_, inl, inr}
@@ -8,9 +9,12 @@ use mathlib.Core.Bool.{Bool, true, false}
 use mathlib.Core.List.{List, [], _∷_, _++_, map, map-append}
 use mathlib.Core.Option.{none}
 use lib.Dec.{T}
-use lib.ListN.{length, getD, set, take, drop, length-set, length-take, length-map}
-use lib.Seq.{sets, length-sets, ext-getD, getD-take, getD-drop, getD-set-same, getD-set-other, length-take-le}
+use lib.ListN.{length, getD, set, take, drop, length-set, length-map, length-drop}
+use lib.Seq.{sets, length-sets, ext-getD, getD-take, getD-drop, getD-set-same, getD-set-other, length-take-le, take-suc, take-suc-set}
 use Rattle.value.specs.declared.Value.{Value}
+use Rattle.model.specs.Image.{word, gateAt, gates, gateParameters, gateArguments}
+use Rattle.model.specs.Accepted.{Accepted}
+use Rattle.model.proofs.Accepted.{few-parameters, few-arguments}
 use Rattle.model.specs.Lists.{range}
 use Rattle.model.specs.Claims.{differ}
 use Rattle.model.specs.Evaluate.{zeroValue}
@@ -22,19 +26,20 @@ use Rattle.expression.specs.Angles.{fractionAt, valueAt, anglesIn}
 use Rattle.expression.proofs.AnglesLaws.{angle-at, sixteen}
 use Rattle.statement.specs.declared.Overlap.the-variants as overlapping
 use Rattle.statement.specs.Statements.{Overlaps}
-use Rattle.copy.proofs.BodyKeptLaws.{part-stays, part-new}
-use Rattle.kept_body.specs.Slot.{keptBodyWords, slotLevels, slotStart, slotWords, slotRecords, slotQubits, SameAngles, firstWords, SlotFilled}
+use Rattle.copy.proofs.BodyKeptLaws.{part-new}
+use Rattle.statement.specs.declared.Call.{Call}
+use Rattle.kept_body.specs.Slot.{slotNeed, mostSlotWords, WideEnough, slotLevels, slotStart, slotWords, slotRecords, slotQubits, SameAngles, firstWords, SlotFilled}
 
 -- ---- angles
 
 pub same-none : (slot angles : List ℕ) → SameAngles slot angles 0
 same-none slot angles = record { each = λ j h. absurd (not-suc-le-zero h) }
 
-pub same-next : {slot angles : List ℕ} {i : ℕ} → SameAngles slot angles i → getD slot (20 + i) 0 ≡ getD angles i 0 → SameAngles slot angles (i + 1)
+pub same-next : {slot angles : List ℕ} {i : ℕ} → SameAngles slot angles i → getD slot (4 + i) 0 ≡ getD angles i 0 → SameAngles slot angles (i + 1)
 same-next {slot} {angles} {i} k e = record { each = λ j h. go j (eq-or-lt-of-le (omega arith)) }
   where
-    go : (j : ℕ) → (j ≡ i) ⊎ (j < i) → getD slot (20 + j) 0 ≡ getD angles j 0
-    go j (inl d) = ap (λ (m : ℕ). getD slot (20 + m) 0) d ∙ e ∙ ap (λ (m : ℕ). getD angles m 0) (sym d)
+    go : (j : ℕ) → (j ≡ i) ⊎ (j < i) → getD slot (4 + j) 0 ≡ getD angles j 0
+    go j (inl d) = ap (λ (m : ℕ). getD slot (4 + m) 0) d ∙ e ∙ ap (λ (m : ℕ). getD angles m 0) (sym d)
     go j (inr l) = k .each j l
 
 -- ---- qubits
@@ -61,27 +66,32 @@ word-put : (j at : ℕ) (ws l : List ℕ) → at + length ws ≤ length l → j 
 word-put j at ws l h k =
     sym (getD-drop at (sets l at ws) j 0) ∙ sym (getD-take (length ws) (drop at (sets l at ws)) j 0 k) ∙ ap (λ (m : List ℕ). getD m j 0) (part-new at ws l h)
 
-pub slot-filled : (slot qubits angles : List ℕ) (levels start words records n m : ℕ) {slot₁ slot₂ : List ℕ} → length slot ≡ keptBodyWords → n ≤ 16 → n ≤ length qubits → m ≤ 96
-    → slot₁ ≡ sets (set (set (set (set slot 0 levels) 1 start) 2 words) 3 records) 4 (take n qubits) → slot₂ ≡ sets slot₁ 20 (firstWords angles m)
-    → SlotFilled slot₂ levels start words records qubits n angles m
-slot-filled slot qubits angles levels start words records n m {slot₁} {slot₂} whole few-qubits some-qubits few-angles e₁ e₂ =
+pub slot-filled : (slot qubits angles : List ℕ) (levels start words records : ℕ) (call : Call) {slot₁ slot₂ : List ℕ} → slotNeed (call .parameters) (call .arguments) ≤ length slot → call .arguments ≤ length qubits
+    → slot₁ ≡ sets (set (set (set (set slot 0 levels) 1 start) 2 words) 3 records) 4 (firstWords angles (6 * call .parameters)) → slot₂ ≡ sets slot₁ (4 + 6 * call .parameters) (take (call .arguments) qubits)
+    → SlotFilled slot₂ levels start words records call angles qubits
+slot-filled slot qubits angles levels start words records call {slot₁} {slot₂} need some-qubits e₁ e₂ =
+    let n : ℕ = 6 * call .parameters in
+    let m : ℕ = call .arguments in
     let numbers : List ℕ = set (set (set (set slot 0 levels) 1 start) 2 words) 3 records in
-    let long : length numbers ≡ 116 = length-set (set (set (set slot 0 levels) 1 start) 2 words) 3 records ∙ length-set (set (set slot 0 levels) 1 start) 2 words ∙ length-set (set slot 0 levels) 1 start ∙ length-set slot 0 levels ∙ whole in
-    let qubit-words : length (take n qubits) ≡ n = length-take-le n qubits some-qubits in
-    let angle-words : length (firstWords angles m) ≡ m = length-map (range 0 m) (λ j. getD angles j 0) ∙ length-range 0 m in
-    let long₁ : length slot₁ ≡ 116 = ap length e₁ ∙ length-sets numbers 4 (take n qubits) ∙ long in
+    let long : length numbers ≡ length slot = length-set (set (set (set slot 0 levels) 1 start) 2 words) 3 records ∙ length-set (set (set slot 0 levels) 1 start) 2 words ∙ length-set (set slot 0 levels) 1 start ∙ length-set slot 0 levels in
+    let qubit-words : length (take m qubits) ≡ m = length-take-le m qubits some-qubits in
+    let angle-words : length (firstWords angles n) ≡ n = length-map (range 0 n) (λ j. getD angles j 0) ∙ length-range 0 n in
+    let long₁ : length slot₁ ≡ length slot = ap length e₁ ∙ length-sets numbers 4 (firstWords angles n) ∙ long in
     let number : (k : ℕ) → k < 4 → getD slot₂ k 0 ≡ getD numbers k 0 = λ k h.
-    ap (λ (l : List ℕ). getD l k 0) e₂ ∙ word-before k 20 (firstWords angles m) slot₁ (omega arith) ∙ ap (λ (l : List ℕ). getD l k 0) e₁ ∙ word-before k 4 (take n qubits) numbers h in
+    ap (λ (l : List ℕ). getD l k 0) e₂ ∙ word-before k (4 + n) (take m qubits) slot₁ (omega arith) ∙ ap (λ (l : List ℕ). getD l k 0) e₁ ∙ word-before k 4 (firstWords angles n) numbers h in
     record {
-      whole = ap length e₂ ∙ length-sets slot₁ 20 (firstWords angles m) ∙ long₁;
-      levels-are = number 0 (omega arith) ∙ first-number slot levels start words records (omega (arith, whole));
-      start-is = number 1 (omega arith) ∙ second-number slot levels start words records (omega (arith, whole));
-      words-are = number 2 (omega arith) ∙ third-number slot levels start words records (omega (arith, whole));
-      records-are = number 3 (omega arith) ∙ getD-set-same (set (set (set slot 0 levels) 1 start) 2 words) 3 records 0 (omega (arith, whole, length-set (set (set slot 0 levels) 1 start) 2 words, length-set (set slot 0 levels) 1 start, length-set slot 0 levels));
+      levels-are = number 0 (omega arith) ∙ first-number slot levels start words records (omega (arith, need));
+      start-is = number 1 (omega arith) ∙ second-number slot levels start words records (omega (arith, need));
+      words-are = number 2 (omega arith) ∙ third-number slot levels start words records (omega (arith, need));
+      records-are = number 3 (omega arith) ∙ getD-set-same (set (set (set slot 0 levels) 1 start) 2 words) 3 records 0 (omega (arith, need, length-set (set (set slot 0 levels) 1 start) 2 words, length-set (set slot 0 levels) 1 start, length-set slot 0 levels));
+      angles-are = record {
+        each = λ j h.
+            ap (λ (l : List ℕ). getD l (4 + j) 0) e₂ ∙ word-before (4 + j) (4 + n) (take m qubits) slot₁ (omega arith) ∙ ap (λ (l : List ℕ). getD l (4 + j) 0) e₁
+            ∙ word-put j 4 (firstWords angles n) numbers (omega (arith, long, angle-words, need)) (omega (arith, angle-words)) ∙ entry-of-map (λ i. getD angles i 0) 0 n j 0 h ∙ ap (λ (i : ℕ). getD angles i 0) (zero-add j);
+      };
       qubits-are =
-          ap (λ (l : List ℕ). take n (drop 4 l)) e₂ ∙ part-stays 4 n 20 (firstWords angles m) slot₁ (omega arith) ∙ ap (λ (l : List ℕ). take n (drop 4 l)) e₁
-          ∙ ap (λ (k : ℕ). take k (drop 4 (sets numbers 4 (take n qubits)))) (sym qubit-words) ∙ part-new 4 (take n qubits) numbers (omega (arith, long, qubit-words));
-      angles-are = record { each = λ j h. ap (λ (l : List ℕ). getD l (20 + j) 0) e₂ ∙ word-put j 20 (firstWords angles m) slot₁ (omega (arith, long₁, angle-words)) (omega (arith, angle-words)) ∙ entry-of-map (λ i. getD angles i 0) 0 m j 0 h ∙ ap (λ (i : ℕ). getD angles i 0) (zero-add j) };
+          ap (λ (l : List ℕ). take m (drop (4 + n) l)) e₂ ∙ ap (λ (k : ℕ). take k (drop (4 + n) (sets slot₁ (4 + n) (take m qubits)))) (sym qubit-words)
+          ∙ part-new (4 + n) (take m qubits) slot₁ (omega (arith, long₁, qubit-words, need));
     }
   where
     first-number : (slot : List ℕ) (a b c d : ℕ) → 3 < length slot → getD (set (set (set (set slot 0 a) 1 b) 2 c) 3 d) 0 0 ≡ a
@@ -101,13 +111,52 @@ slot-filled slot qubits angles levels start words records n m {slot₁} {slot₂
     third-number (x ∷ y ∷ z ∷ l) a b c d h = refl
 
 -- no word of some
-pub first-words-none : (slot angles : List ℕ) → slot ≡ sets slot 20 (firstWords angles 0)
+pub first-words-none : (slot angles : List ℕ) → slot ≡ sets slot 4 (firstWords angles 0)
 unfolding range
 first-words-none slot angles = refl
 
 -- one word more of them
-pub first-words-next : (slot angles : List ℕ) (i : ℕ) {slot′ : List ℕ} → slot′ ≡ sets slot 20 (firstWords angles i) → set slot′ (20 + i) (getD angles i 0) ≡ sets slot 20 (firstWords angles (i + 1))
+pub first-words-next : (slot angles : List ℕ) (i : ℕ) {slot′ : List ℕ} → slot′ ≡ sets slot 4 (firstWords angles i) → set slot′ (4 + i) (getD angles i 0) ≡ sets slot 4 (firstWords angles (i + 1))
 first-words-next slot angles i e =
     let long : length (firstWords angles i) ≡ i = length-map (range 0 i) (λ j. getD angles j 0) ∙ length-range 0 i in
-    put-more slot 20 (20 + i) (firstWords angles i) (getD angles i 0 ∷ []) (omega (arith, long)) e refl
-    ∙ ap (sets slot 20) (sym (map-append (λ j. getD angles j 0) (range 0 i) (i ∷ [])) ∙ ap (map (λ j. getD angles j 0)) (sym (range-more i)))
+    put-more slot 4 (4 + i) (firstWords angles i) (getD angles i 0 ∷ []) (omega (arith, long)) e refl
+    ∙ ap (sets slot 4) (sym (map-append (λ j. getD angles j 0) (range 0 i) (i ∷ [])) ∙ ap (map (λ j. getD angles j 0)) (sym (range-more i)))
+
+-- ---- the qubits that are read from a slot
+
+pub qubits-next : (slot qubits : List ℕ) (p i : ℕ) → i < length qubits → p + i < length slot → take i qubits ≡ take i (drop p slot) → take (i + 1) (set qubits i (getD slot (p + i) 0)) ≡ take (i + 1) (drop p slot)
+qubits-next slot qubits p i h k e =
+    rw (add-one i)
+    (take-suc-set qubits i (getD slot (p + i) 0) h ∙ ap₂ (λ (l : List ℕ) (x : ℕ). l ++ x ∷ []) e (sym (getD-drop p slot i 0)) ∙ sym (take-suc (drop p slot) i 0 (omega (arith, length-drop p slot))))
+
+-- ---- the width of slots
+
+-- a width is enough for the bodies of the first n gates
+pub record WideFor (image : List ℕ) (n width : ℕ) : Type 0 where
+  pub narrow : width ≤ mostSlotWords
+  pub each : (g : ℕ) → g < n → slotNeed (gateParameters image g) (gateArguments image g) ≤ width
+
+pub wide-none : (image : List ℕ) → WideFor image 0 0
+wide-none image = record { narrow = omega arith; each = λ g h. absurd (not-suc-le-zero h) }
+
+pub wide-next : {image : List ℕ} {n width : ℕ} → WideFor image n width → (need : ℕ) {width′ : ℕ} → need ≡ slotNeed (gateParameters image n) (gateArguments image n) → need ≤ mostSlotWords → width′ ≡ max width need → WideFor image (n + 1) width′
+wide-next {image} {n} {width} w need {width′} e few d =
+    record { narrow = omega (arith, d, max-le (w .narrow) few); each = λ g h. go g (eq-or-lt-of-le (omega arith)) }
+  where
+    go : (g : ℕ) → (g ≡ n) ⊎ (g < n) → slotNeed (gateParameters image g) (gateArguments image g) ≤ width′
+    go g (inl f) = rw f (omega (arith, e, d, le-max-right width need))
+    go g (inr l) = omega (arith, w .each g l, d, le-max-left width need)
+
+pub wide-done : {image : List ℕ} {n width : ℕ} → WideFor image n width → gates image ≤ n → WideEnough image width
+wide-done w h = record { narrow = w .narrow; each = λ g l. w .each g (omega arith) }
+
+-- the two counts of a gate, as the code reads them
+pub gate-read : {image : List ℕ} → Accepted image → (g : ℕ) {at n m : ℕ} → g < gates image → at ≡ gateAt image g → n ≡ word image at → m ≡ word image (at + 1) → ((n ≡ gateParameters image g) × (n ≤ 16)) × ((m ≡ gateArguments image g) × (m ≤ 16))
+gate-read {image} acc g {n = n} {m = m} h e p q =
+    let first : n ≡ gateParameters image g = p ∙ ap (word image) e in
+    let second : m ≡ gateArguments image g = q ∙ ap (λ (a : ℕ). word image (a + 1)) e in
+    ((first, omega (arith, first, few-parameters acc g h)), (second, omega (arith, second, few-arguments acc g h)))
+
+-- its first count alone
+pub parameters-read : {image : List ℕ} → Accepted image → (g : ℕ) {at n : ℕ} → g < gates image → at ≡ gateAt image g → n ≡ word image at → n ≤ 16
+parameters-read {image} acc g {n = n} h e p = let first : n ≡ gateParameters image g = p ∙ ap (word image) e in omega (arith, first, few-parameters acc g h)

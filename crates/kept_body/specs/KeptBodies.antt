@@ -2,13 +2,11 @@
 use Prim.Native.Nat.{ℕ, _+_, _*_, _≤_, _<_}
 use mathlib.Core.Path.{_≡_}
 use mathlib.Core.List.{List, []}
-use lib.Dec.{T}
 use lib.ListN.{length, take}
 use Rattle.value.specs.declared.Value.{Value}
 use Rattle.model.specs.Limits.{mostGates, mostParameters}
 use Rattle.model.specs.Image.{gates, gateParameters, gateArguments}
 use Rattle.model.specs.Accepted.{Accepted}
-use Rattle.model.specs.Claims.{differ}
 use Rattle.model.specs.Steps.{Step}
 use Rattle.record_writer.specs.declared.Position.{Position}
 use Rattle.record_writer.specs.Promise.{InOutput, QubitsGiven, WroteStepsTo}
@@ -16,16 +14,18 @@ use Rattle.statement.specs.declared.Call.{Call}
 use Rattle.copy.specs.BodyKept.{bodySteps, BodyKept}
 use Rattle.kept_body.specs.declared.BodyCopy.{BodyCopy}
 use Rattle.kept_body.specs.declared.BodyCopy.the-variants as bodyCopy
-use Rattle.kept_body.specs.Slot.{keptBodyWords, slotOf, slotLevels, slotStart, slotWords, slotRecords, slotQubits, slotAngles, SlotStands}
+use Rattle.kept_body.specs.Slot.{slotNeed, mostSlotWords, slotWidth, slotOf, WideEnough, slotLevels, slotStart, slotWords, slotRecords, slotQubits, slotAngles, SlotStands}
 
--- a slot keeps a body of gate g: it was run to its end, its records stand in the output, and if there are any it was run with different qubits
-pub record SlotKept (image slot out : List ℕ) (at g : ℕ) : Type 0 where
-  pub body : BodyKept image out at g (slotLevels slot) (slotAngles slot (gateParameters image g)) (slotQubits slot (gateArguments image g)) (slotStart slot) (slotWords slot) (slotRecords slot)
-  pub distinct : ¬ (slotWords slot ≡ 0) → T (differ (slotQubits slot (gateArguments image g)))
+-- a slot keeps a body of gate g: it was run to its end, and its records stand in the output
+abbrev pub SlotKept : List ℕ → List ℕ → List ℕ → ℕ → ℕ → Type 0
+SlotKept image slot out at g =
+    let n = gateParameters image g in
+    BodyKept image out at g (slotLevels slot) (slotAngles slot n) (slotQubits slot n (gateArguments image g)) (slotStart slot) (slotWords slot) (slotRecords slot)
 
--- the table has a slot for each gate, and each slot keeps a body of its gate or none
+-- the table has a slot for each gate, wide enough for its body, and each slot keeps a body of its gate or none
 pub record BodiesKept (image table out : List ℕ) (at : ℕ) : Type 0 where
-  pub room : keptBodyWords * gates image ≤ length table
+  pub wide : WideEnough image (slotWidth table)
+  pub room : 1 + slotWidth table * gates image ≤ length table
   pub each : (g : ℕ) → g < gates image → ¬ (slotLevels (slotOf table g) ≡ 0) → SlotKept image (slotOf table g) out at g
 
 -- a call of a gate of an accepted image
@@ -39,12 +39,14 @@ pub record CalledGate (image : List ℕ) (call : Call) : Type 0 where
 abbrev pub calledSteps : List ℕ → Call → List Value → List ℕ → List Step
 calledSteps image call angles qubits = bodySteps image (call .site .«levels_left») [] (call .gate) (take (call .parameters) angles) (take (call .arguments) qubits)
 
--- the table has a slot for the gate of a call, the call has no more parameters than a gate may have, and its qubits are given
+-- the table has a slot for the gate of a call, wide enough for the call's body, whose qubits are given
 pub record SlotGiven (table : List ℕ) (call : Call) (qubits : List ℕ) : Type 0 where
   pub few-gates : call .gate < mostGates
   pub few-parameters : call .parameters ≤ mostParameters
   pub given : QubitsGiven qubits (call .arguments)
-  pub room : keptBodyWords * (call .gate + 1) ≤ length table
+  pub narrow : slotWidth table ≤ mostSlotWords
+  pub wide : slotNeed (call .parameters) (call .arguments) ≤ slotWidth table
+  pub room : 1 + slotWidth table * call .gate + slotWidth table ≤ length table
 
 -- what the slot of a call's gate keeps, if it keeps anything, stands in the output
 pub record CopyGiven (table out : List ℕ) (call : Call) (qubits : List ℕ) (at : Position) : Type 0 where

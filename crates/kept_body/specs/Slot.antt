@@ -5,18 +5,33 @@ use mathlib.Core.Logic.{_⊎_}
 use mathlib.Core.List.{List, map}
 use lib.ListN.{length, getD, take, drop}
 use Rattle.value.specs.declared.Value.{Value}
+use Rattle.model.specs.Image.{gates, gateParameters, gateArguments}
 use Rattle.model.specs.Lists.{range}
+use Rattle.record_writer.specs.Promise.{QubitsGiven}
 use Rattle.expression.specs.Angles.{valueWords, anglesIn}
 use Rattle.statement.specs.declared.Call.{Call}
 use Rattle.copy.specs.CopiedRecords.{RecordsStand}
 
--- the words of a slot: four numbers, sixteen qubits, and six words for each of sixteen angles
-abbrev pub keptBodyWords : ℕ
-keptBodyWords = 116
+-- the words that a body with n parameters and m arguments needs: four numbers, the words of its angles, and its qubits
+abbrev pub slotNeed : ℕ → ℕ → ℕ
+slotNeed n m = 4 + valueWords * n + m
+
+-- the most words that a body may need
+abbrev pub mostSlotWords : ℕ
+mostSlotWords = 116
+
+-- the words of each slot are the first word of a table
+abbrev pub slotWidth : List ℕ → ℕ
+slotWidth table = getD table 0 0
 
 -- the slot of gate g
 abbrev pub slotOf : List ℕ → ℕ → List ℕ
-slotOf table g = take keptBodyWords (drop (keptBodyWords * g) table)
+slotOf table g = take (slotWidth table) (drop (1 + slotWidth table * g) table)
+
+-- a width is enough for the body of each gate of an image
+pub record WideEnough (image : List ℕ) (width : ℕ) : Type 0 where
+  pub narrow : width ≤ mostSlotWords
+  pub each : (g : ℕ) → g < gates image → slotNeed (gateParameters image g) (gateArguments image g) ≤ width
 
 -- the levels that were left when the body was opened; 0 where no body is kept, since a body is opened with a level left
 abbrev pub slotLevels : List ℕ → ℕ
@@ -32,12 +47,12 @@ slotWords slot = getD slot 2 0
 abbrev pub slotRecords : List ℕ → ℕ
 slotRecords slot = getD slot 3 0
 
--- the qubits and the angles that the body was run with, for n arguments and n parameters
-abbrev pub slotQubits : List ℕ → ℕ → List ℕ
-slotQubits slot n = take n (drop 4 slot)
-
+-- the angles and the qubits that a body with n parameters and m arguments was run with
 abbrev pub slotAngles : List ℕ → ℕ → List Value
-slotAngles slot n = take n (anglesIn (drop 20 slot))
+slotAngles slot n = take n (anglesIn (drop 4 slot))
+
+abbrev pub slotQubits : List ℕ → ℕ → ℕ → List ℕ
+slotQubits slot n m = take m (drop (4 + valueWords * n) slot)
 
 -- ---- whether a body is the one that is kept
 
@@ -47,13 +62,18 @@ OpenedAlike g n n′ words = (n ≡ n′) ⊎ (((words ≡ 0) × (n ≤ n′)) �
 
 -- the first n words of a slot's angles are those of others
 pub record SameAngles (slot angles : List ℕ) (n : ℕ) : Type 0 where
-  pub each : (j : ℕ) → j < n → getD slot (20 + j) 0 ≡ getD angles j 0
+  pub each : (j : ℕ) → j < n → getD slot (4 + j) 0 ≡ getD angles j 0
 
 -- a slot keeps the body of a call with these words of angles
 pub record SameBody (slot : List ℕ) (call : Call) (angles : List ℕ) : Type 0 where
   pub kept : ¬ (slotLevels slot ≡ 0)
   pub alike : OpenedAlike (call .gate) (slotLevels slot) (call .site .«levels_left») (slotWords slot)
   pub same : SameAngles slot angles (valueWords * call .parameters)
+
+-- the qubits of a slot stand in front of sixteen
+pub record SlotQubitsRead (slot : List ℕ) (n m : ℕ) (r : List ℕ) : Type 0 where
+  pub given : QubitsGiven r m
+  pub front : take m r ≡ slotQubits slot n m
 
 -- ---- what a slot holds
 
@@ -67,12 +87,11 @@ pub record SlotStands (slot out : List ℕ) (at : ℕ) : Type 0 where
 abbrev pub firstWords : List ℕ → ℕ → List ℕ
 firstWords words n = map (λ j. getD words j 0) (range 0 n)
 
--- a slot was filled with numbers, the first n of some qubits and the first m words of some angles
-pub record SlotFilled (slot : List ℕ) (levels start words records : ℕ) (qubits : List ℕ) (n : ℕ) (angles : List ℕ) (m : ℕ) : Type 0 where
-  pub whole : length slot ≡ keptBodyWords
+-- a slot was filled with four numbers, and with as many of some angles' words and of some qubits as a call has
+pub record SlotFilled (slot : List ℕ) (levels start words records : ℕ) (call : Call) (angles qubits : List ℕ) : Type 0 where
   pub levels-are : slotLevels slot ≡ levels
   pub start-is : slotStart slot ≡ start
   pub words-are : slotWords slot ≡ words
   pub records-are : slotRecords slot ≡ records
-  pub qubits-are : slotQubits slot n ≡ take n qubits
-  pub angles-are : SameAngles slot angles m
+  pub angles-are : SameAngles slot angles (valueWords * call .parameters)
+  pub qubits-are : slotQubits slot (call .parameters) (call .arguments) ≡ take (call .arguments) qubits

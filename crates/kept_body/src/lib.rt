@@ -1,4 +1,5 @@
 // Keeps where the records of a gate's body stand that was run to its end, so that a later call of the gate copies them.
+use image::Layout;
 use record_writer::Position;
 use statement::Call;
 use statement::Overlap;
@@ -9,25 +10,47 @@ ghost use Prim.Native.Nat.{ℕ, _+_, _-_, _*_, _≤_};
 ghost use lib.Dec.{T};
 ghost use lib.ListN.{length, take};
 ghost use lib.Seq.{sets};
-ghost use Rattle.model.specs.Limits.{mostParameters};
+ghost use Rattle.model.specs.Limits.{mostParameters, mostArguments};
+ghost use Rattle.model.specs.Accepted.{Accepted};
 ghost use Rattle.model.specs.Claims.{differ};
+ghost use Rattle.image.specs.Layout.{LayoutOf};
 ghost use Rattle.record_writer.specs.Promise.{QubitsGiven};
 ghost use Rattle.expression.specs.Angles.{anglesIn, valueWords};
-ghost use Rattle.kept_body.specs.Slot.{keptBodyWords, OpenedAlike, SameAngles, SameBody, firstWords, SlotFilled};
+ghost use Rattle.kept_body.specs.Slot.{slotNeed, WideEnough, OpenedAlike, SameAngles, SameBody, SlotQubitsRead, firstWords, SlotFilled};
 ghost use Rattle.kept_body.specs.KeptBodies.{BodiesKept, CalledGate, SlotGiven, CopyGiven, BodyCopied, BodyRun};
 
-// The words that the table has for a gate: the levels left, the first word, the words and the records of its body, and what it was run with.
-pub const KEPT_BODY_WORDS: usize = ANGLES_AT + expression::FRAME_ANGLE_WORDS;
+// Where a slot holds the words of its angles, behind four numbers: the levels left, the first output word, the words and the records of the body. Its
+// qubits stand behind the angles.
+const ANGLES_AT: usize = 4;
 
-// Where they hold the body's qubits, and the words of its angles.
-const QUBITS_AT: usize = 4;
-
-const ANGLES_AT: usize = QUBITS_AT + image::FRAME_QUBITS;
+// The most words that a slot may have.
+pub const MOST_SLOT_WORDS: usize = ANGLES_AT + expression::FRAME_ANGLE_WORDS + image::FRAME_QUBITS;
 
 // Whether a body was copied, and where the run stands then.
 pub enum BodyCopy {
     Copied(Position),
     NotKept,
+}
+
+// ---- the width of slots
+
+// How many words a slot has: what the gate needs that needs most.
+pub fn slot_width(image: &[u64], l: Layout) -> u64
+    requires { ⌜ LayoutOf (now image) l × Accepted (now image) ⌝ }
+    ensures { λ r. ⌜ WideEnough (now (image .entry)) r ⌝ }
+{
+    let mut width = 0u64;
+    let mut g = 0u64;
+    while g < l.gates {
+        let at = l.gate_at(g);
+        let angle_words = expression::VALUE_WORDS * image::word(image, at);
+        width = image::larger(
+            width,
+            ANGLES_AT as u64 + angle_words + image::word(image, at + 1),
+        );
+        g += 1;
+    }
+    width
 }
 
 // ---- whether a body is the one that is kept
@@ -54,7 +77,7 @@ fn is_opened_alike(levels: u64, words: u64, call: Call) -> bool
 
 // Whether the first n words of the kept angles are those of others.
 fn same_angles(slot: &[u64], angles: &[u64; expression::FRAME_ANGLE_WORDS], n: usize) -> bool
-    requires { ⌜ (length (now slot) ≡ keptBodyWords) × (n ≤ valueWords * mostParameters) ⌝ }
+    requires { ⌜ (4 + n ≤ length (now slot)) × (n ≤ valueWords * mostParameters) ⌝ }
     ensures { λ r. ⌜ (r ≡ true → SameAngles (now (slot .entry)) (now (angles .entry)) n) ⌝ }
 {
     let mut i = 0;
@@ -69,7 +92,7 @@ fn same_angles(slot: &[u64], angles: &[u64; expression::FRAME_ANGLE_WORDS], n: u
 
 // Whether what is kept is the body of a call with these angles.
 fn is_same_body(slot: &[u64], call: Call, angles: &[u64; expression::FRAME_ANGLE_WORDS]) -> bool
-    requires { ⌜ (length (now slot) ≡ keptBodyWords) × (call .parameters ≤ mostParameters) ⌝ }
+    requires { ⌜ (4 + valueWords * call .parameters ≤ length (now slot)) × (call .parameters ≤ mostParameters) ⌝ }
     ensures { λ r. ⌜ (r ≡ true → SameBody (now (slot .entry)) call (now (angles .entry))) ⌝ }
 {
     let levels = slot[0];
@@ -99,8 +122,25 @@ fn are_distinct(qubits: &[u64; image::FRAME_QUBITS], n: u64) -> bool
 
 // ---- copying
 
+// The qubits of a slot, m of them, behind n angles.
+fn slot_qubits(slot: &[u64], n: u64, m: u64) -> [u64; image::FRAME_QUBITS]
+    requires { ⌜ (slotNeed n m ≤ length (now slot)) × ((n ≤ mostParameters) × (m ≤ mostArguments)) ⌝ }
+    ensures { λ r. ⌜ SlotQubitsRead (now (slot .entry)) n m r ⌝ }
+{
+    let mut qubits = [0u64; image::FRAME_QUBITS];
+    let start = ANGLES_AT + (expression::VALUE_WORDS * n) as usize;
+    let count = m as usize;
+    let mut i = 0;
+    while i < count {
+        qubits[i] = slot[start + i];
+        i += 1;
+    }
+    qubits
+}
+
 // Copies the records of the body that is kept of a call's gate, if it is the call's body, with the qubits of the call. A body that wrote nothing is
-// the same whatever its qubits are. Records are copied if there is room for all of them, so that a refusal comes where it would come.
+// the same whatever its qubits are. Records are copied if there is room for all of them, so that a refusal comes where it would come, and if neither
+// the kept body nor the call has a qubit twice: with one qubit a body may do something else than with two different ones.
 pub fn copy_body(
     kept_bodies: &[u64],
     call: Call,
@@ -115,8 +155,9 @@ pub fn copy_body(
         → BodyCopied image call (anglesIn (now (angles .entry))) (now (qubits .entry)) (now (out .entry)) at r (now (out .exit)))
         ⌝ }
 {
-    let first = KEPT_BODY_WORDS * call.gate as usize;
-    let end = first + KEPT_BODY_WORDS;
+    let width = kept_bodies[0] as usize;
+    let first = 1 + width * call.gate as usize;
+    let end = first + width;
     let slot = &kept_bodies[first..end];
     if !is_same_body(slot, call, angles) {
         return BodyCopy::NotKept;
@@ -128,15 +169,21 @@ pub fn copy_body(
     if record_writer::is_full(out, at, words) {
         return BodyCopy::NotKept;
     }
-    if !are_distinct(qubits, call.arguments) {
+    let n = call.arguments;
+    let old = slot_qubits(slot, call.parameters, n);
+    if !are_distinct(&old, n) {
         return BodyCopy::NotKept;
     }
+    if !are_distinct(qubits, n) {
+        return BodyCopy::NotKept;
+    }
+    let start = slot[1] as usize;
     let written = copy::copy_records(
         out,
-        &slot[QUBITS_AT..ANGLES_AT],
+        &old,
         qubits,
-        call.arguments as usize,
-        slot[1] as usize,
+        n as usize,
+        start,
         words,
         at.words as usize,
     );
@@ -149,22 +196,10 @@ pub fn copy_body(
 
 // ---- keeping
 
-// Puts the first n of sixteen qubits into a slot.
-fn put_qubits(slot: &mut [u64], qubits: &[u64; image::FRAME_QUBITS], n: usize)
-    requires { ⌜ (length (now slot) ≡ keptBodyWords) × QubitsGiven (now qubits) n ⌝ }
-    ensures { λ _. ⌜ now (slot .exit) ≡ sets (now (slot .entry)) 4 (take n (now (qubits .entry))) ⌝ }
-{
-    let mut i = 0;
-    while i < n {
-        slot[QUBITS_AT + i] = qubits[i];
-        i += 1;
-    }
-}
-
 // Puts the first n words of angles into a slot.
 fn put_angle_words(slot: &mut [u64], angles: &[u64; expression::FRAME_ANGLE_WORDS], n: usize)
-    requires { ⌜ (length (now slot) ≡ keptBodyWords) × (n ≤ valueWords * mostParameters) ⌝ }
-    ensures { λ _. ⌜ now (slot .exit) ≡ sets (now (slot .entry)) 20 (firstWords (now (angles .entry)) n) ⌝ }
+    requires { ⌜ (4 + n ≤ length (now slot)) × (n ≤ valueWords * mostParameters) ⌝ }
+    ensures { λ _. ⌜ now (slot .exit) ≡ sets (now (slot .entry)) 4 (firstWords (now (angles .entry)) n) ⌝ }
 {
     let mut i = 0;
     while i < n {
@@ -173,7 +208,19 @@ fn put_angle_words(slot: &mut [u64], angles: &[u64; expression::FRAME_ANGLE_WORD
     }
 }
 
-// Fills a slot with a body that was run between two positions.
+// Puts the first n of sixteen qubits into a slot, from a place on.
+fn put_qubits(slot: &mut [u64], start: usize, qubits: &[u64; image::FRAME_QUBITS], n: usize)
+    requires { ⌜ (start + n ≤ length (now slot)) × QubitsGiven (now qubits) n ⌝ }
+    ensures { λ _. ⌜ now (slot .exit) ≡ sets (now (slot .entry)) start (take n (now (qubits .entry))) ⌝ }
+{
+    let mut i = 0;
+    while i < n {
+        slot[start + i] = qubits[i];
+        i += 1;
+    }
+}
+
+// Fills a slot with the body of a call that was run between two positions.
 fn put_body(
     slot: &mut [u64],
     call: Call,
@@ -183,37 +230,22 @@ fn put_body(
     next: Position,
 )
     requires { ⌜
-        (length (now slot) ≡ keptBodyWords)
+        (slotNeed (call .parameters) (call .arguments) ≤ length (now slot))
         × (QubitsGiven (now qubits) (call .arguments) × (call .parameters ≤ mostParameters))
         × ((at .words ≤ next .words) × (at .records ≤ next .records))
         ⌝ }
     ensures { λ _. ⌜
         SlotFilled (now (slot .exit)) (call .site .«levels_left») (at .words) (next .words - at .words) (next .records - at .records)
-        (now (qubits .entry)) (call .arguments) (now (angles .entry)) (valueWords * call .parameters)
+        call (now (angles .entry)) (now (qubits .entry))
         ⌝ }
 {
     slot[0] = call.site.levels_left;
     slot[1] = at.words;
     slot[2] = next.words - at.words;
     slot[3] = next.records - at.records;
-    put_qubits(slot, qubits, call.arguments as usize);
-    put_angle_words(
-        slot,
-        angles,
-        (expression::VALUE_WORDS * call.parameters) as usize,
-    );
-}
-
-// Whether a body that wrote so many words with these qubits may be copied for others: with a qubit twice it may do something else than with two
-// different ones. One that wrote nothing does so with any qubits.
-fn may_be_copied(words: u64, qubits: &[u64; image::FRAME_QUBITS], n: u64) -> bool
-    requires { ⌜ QubitsGiven (now qubits) n ⌝ }
-    ensures { λ r. ⌜ (r ≡ true → ¬ (words ≡ 0) → T (differ (take n (now (qubits .entry))))) ⌝ }
-{
-    if words == 0 {
-        return true;
-    }
-    are_distinct(qubits, n)
+    let n = (expression::VALUE_WORDS * call.parameters) as usize;
+    put_angle_words(slot, angles, n);
+    put_qubits(slot, ANGLES_AT + n, qubits, call.arguments as usize);
 }
 
 // Keeps the body of a call that was run to its end between two positions.
@@ -231,10 +263,8 @@ pub fn keep_body(
         → BodiesKept image (now («kept_bodies» .entry)) out′ (next .words) → BodiesKept image (now («kept_bodies» .exit)) out′ (next .words))
         ⌝ }
 {
-    if !may_be_copied(next.words - at.words, qubits, call.arguments) {
-        return;
-    }
-    let first = KEPT_BODY_WORDS * call.gate as usize;
-    let end = first + KEPT_BODY_WORDS;
+    let width = kept_bodies[0] as usize;
+    let first = 1 + width * call.gate as usize;
+    let end = first + width;
     put_body(&mut kept_bodies[first..end], call, angles, qubits, at, next);
 }

@@ -15,9 +15,9 @@ use Rattle.gate.specs.RunContext.{mostTraceWords}
 abbrev pub fewRegisters : ℕ
 fewRegisters = 128
 
--- the most gates of a program that has few
-abbrev pub fewGates : ℕ
-fewGates = 16
+-- the words that are kept of the bodies of a small program
+abbrev pub fewBodyWords : ℕ
+fewBodyWords = 1024
 
 -- an accepted image with its layout, a trace of full length, and a position in the output at which no call is on the stack
 pub record StartContext (image : List ℕ) (l : Layout) (out trace : List ℕ) (at : Position) : Type 0 where

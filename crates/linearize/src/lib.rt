@@ -7,17 +7,18 @@ use record_writer::Linearized;
 use record_writer::Position;
 use statement::Site;
 ghost use mathlib.Core.Path.{_≡_};
-ghost use Prim.Native.Nat.{_+_, _-_, _≤_};
+ghost use Prim.Native.Nat.{_+_, _-_, _*_, _≤_};
 ghost use lib.ListN.{length};
 ghost use Rattle.model.specs.Steps.{steps};
 ghost use Rattle.image_check.specs.Statements.{fewExpressions};
 ghost use Rattle.expression.specs.KeptValues.{ConstantsKept};
 ghost use Rattle.record_writer.specs.Promise.{positionOf};
+ghost use Rattle.kept_body.specs.Slot.{WideEnough};
 ghost use Rattle.kept_body.specs.KeptBodies.{BodiesKept};
 ghost use Rattle.gate.specs.RunContext.{SiteContext};
 ghost use Rattle.gate.specs.PlainStatement.{PlainStatement};
 ghost use Rattle.gate.specs.RanSteps.{RanSteps};
-ghost use Rattle.linearize.specs.MainContext.{fewRegisters, fewGates, StartContext, MainContext};
+ghost use Rattle.linearize.specs.MainContext.{fewRegisters, fewBodyWords, StartContext, MainContext};
 ghost use Rattle.linearize.specs.MainStatement.{MainStatement, IsConditional, mainStatementSteps, innerSteps, mainSteps};
 ghost use Rattle.linearize.specs.Linearizes.{refusedWith, Linearizes};
 
@@ -27,8 +28,11 @@ pub const TRACE_WORDS: usize = 2 * (image::MOST_GATES as usize);
 // The most registers of a program that has few.
 const FEW_REGISTERS: usize = 128;
 
-// The most gates of a program that has few.
-const FEW_GATES: usize = 16;
+// The words that are kept of the bodies of a small program: the width of a slot, and a slot for each gate.
+const FEW_BODY_WORDS: usize = 1024;
+
+// The words that are kept of the bodies of any program.
+const MOST_BODY_WORDS: usize = 1 + kept_body::MOST_SLOT_WORDS * (image::MOST_GATES as usize);
 
 // The most registers of any program: each has a word of the image.
 const MOST_REGISTERS: usize = image::MOST_WORDS as usize;
@@ -250,12 +254,13 @@ fn visit_program(
     Linearized::Done(position)
 }
 
-// The main statements of a program with few gates.
-fn visit_few_gates(
+// The main statements, with short room for what is kept of bodies.
+fn visit_few_bodies(
     image: &[u64],
     l: Layout,
     register_starts: &[u64],
     kept_values: &mut [u64],
+    slot_width: u64,
     levels_left: u64,
     out: &mut [u64],
     trace: &mut [u64],
@@ -264,14 +269,16 @@ fn visit_few_gates(
     requires { ⌜
         MainContext (now image) l (now «register_starts») (now out) (now trace) at
         × ConstantsKept (now image) (now «kept_values»)
-        × (l .gates ≤ fewGates)
+        × WideEnough (now image) «slot_width»
+        × (1 + «slot_width» * l .gates ≤ fewBodyWords)
         ⌝ }
     ensures { λ r. ⌜
         RanSteps (mainSteps (now (image .entry)) «levels_left»)
         (now (out .entry)) at (now (trace .entry)) r (now (out .exit)) (now (trace .exit))
         ⌝ }
 {
-    let mut kept_bodies = [0u64; kept_body::KEPT_BODY_WORDS * FEW_GATES];
+    let mut kept_bodies = [0u64; FEW_BODY_WORDS];
+    kept_bodies[0] = slot_width;
     visit_program(
         image,
         l,
@@ -286,23 +293,29 @@ fn visit_few_gates(
 }
 
 // The main statements, with room for the bodies of as many gates as an image may have.
-fn visit_many_gates(
+fn visit_many_bodies(
     image: &[u64],
     l: Layout,
     register_starts: &[u64],
     kept_values: &mut [u64],
+    slot_width: u64,
     levels_left: u64,
     out: &mut [u64],
     trace: &mut [u64],
     at: Position,
 ) -> Linearized
-    requires { ⌜ MainContext (now image) l (now «register_starts») (now out) (now trace) at × ConstantsKept (now image) (now «kept_values») ⌝ }
+    requires { ⌜
+        MainContext (now image) l (now «register_starts») (now out) (now trace) at
+        × ConstantsKept (now image) (now «kept_values»)
+        × WideEnough (now image) «slot_width»
+        ⌝ }
     ensures { λ r. ⌜
         RanSteps (mainSteps (now (image .entry)) «levels_left»)
         (now (out .entry)) at (now (trace .entry)) r (now (out .exit)) (now (trace .exit))
         ⌝ }
 {
-    let mut kept_bodies = [0u64; kept_body::KEPT_BODY_WORDS * (image::MOST_GATES as usize)];
+    let mut kept_bodies = [0u64; MOST_BODY_WORDS];
+    kept_bodies[0] = slot_width;
     visit_program(
         image,
         l,
@@ -333,23 +346,26 @@ fn visit_with_kept_bodies(
         (now (out .entry)) at (now (trace .entry)) r (now (out .exit)) (now (trace .exit))
         ⌝ }
 {
-    if l.gates <= FEW_GATES as u64 {
-        return visit_few_gates(
+    let slot_width = kept_body::slot_width(image, l);
+    if 1 + slot_width * l.gates <= FEW_BODY_WORDS as u64 {
+        return visit_few_bodies(
             image,
             l,
             register_starts,
             kept_values,
+            slot_width,
             levels_left,
             out,
             trace,
             at,
         );
     }
-    visit_many_gates(
+    visit_many_bodies(
         image,
         l,
         register_starts,
         kept_values,
+        slot_width,
         levels_left,
         out,
         trace,

@@ -15,7 +15,7 @@ use Rattle.kept_body.proofs.put_angle_words.Reads as reads
 use Rattle.kept_body.proofs.put_angle_words.Lts as lts
 
 abbrev Inv-loop : tie.InvT-loop
-Inv-loop slot₀ angles n i₀ slot i = (i ≤ n) × (slot ≡ sets slot₀ 20 (firstWords angles i)) × (length slot ≡ length slot₀)
+Inv-loop slot₀ angles n i₀ slot i = (i ≤ n) × (slot ≡ sets slot₀ 4 (firstWords angles i)) × (length slot ≡ length slot₀)
 
 abbrev μ-loop : tie.MeasureT-loop
 μ-loop slot₀ angles n i₀ slot i = n - i
@@ -57,7 +57,7 @@ returns : tie.Need-returns Inv-loop μ-loop
 returns c =
     let l = c .before in
     let a = l .before .args in
-    l .loop .inv .1 ∙ ap (λ (n : ℕ). sets (now (a .slot)) 20 (firstWords (now (a .angles)) n)) (le-antisymm (l .loop .inv .0) (c .loop-test .left))
+    l .loop .inv .1 ∙ ap (λ (n : ℕ). sets (now (a .slot)) 4 (firstWords (now (a .angles)) n)) (le-antisymm (l .loop .inv .0) (c .loop-test .left))
 
 pub put-angle-words-spec : {M : Type 1} → statement M
 put-angle-words-spec =

@@ -15,10 +15,10 @@ use Rattle.kept_body.proofs.put_qubits.Reads as reads
 use Rattle.kept_body.proofs.put_qubits.Lts as lts
 
 abbrev Inv-loop : tie.InvT-loop
-Inv-loop slot₀ qubits n i₀ slot i = (i ≤ n) × (slot ≡ sets slot₀ 4 (take i qubits)) × (length slot ≡ length slot₀)
+Inv-loop slot₀ start qubits n i₀ slot i = (i ≤ n) × (slot ≡ sets slot₀ start (take i qubits)) × (length slot ≡ length slot₀)
 
 abbrev μ-loop : tie.MeasureT-loop
-μ-loop slot₀ qubits n i₀ slot i = n - i
+μ-loop slot₀ start qubits n i₀ slot i = n - i
 
 loop-holds : tie.Need-loop-holds Inv-loop μ-loop
 loop-holds c = (omega arith, refl, refl)
@@ -50,7 +50,7 @@ loop-again c =
     let s = l .before in
     let a = s .args in (
       omega (arith, c .before .loop-test .taken),
-      put-next-word (now (a .slot)) 4 (l .loop .i) (now (a .qubits)) (omega (arith, c .before .loop-test .taken, s .pre .1 .few, s .pre .1 .sixteen)) (l .loop .inv .1),
+      put-next-word (now (a .slot)) (a .start) (l .loop .i) (now (a .qubits)) (omega (arith, c .before .loop-test .taken, s .pre .1 .few, s .pre .1 .sixteen)) (l .loop .inv .1),
       length-set (l .loop .slot) _ _ ∙ l .loop .inv .2,
     )
 
@@ -61,7 +61,7 @@ returns : tie.Need-returns Inv-loop μ-loop
 returns c =
     let l = c .before in
     let a = l .before .args in
-    l .loop .inv .1 ∙ ap (λ (n : ℕ). sets (now (a .slot)) 4 (take n (now (a .qubits)))) (le-antisymm (l .loop .inv .0) (c .loop-test .left))
+    l .loop .inv .1 ∙ ap (λ (n : ℕ). sets (now (a .slot)) (a .start) (take n (now (a .qubits)))) (le-antisymm (l .loop .inv .0) (c .loop-test .left))
 
 pub put-qubits-spec : {M : Type 1} → statement M
 put-qubits-spec =

@@ -1,14 +1,18 @@
--- The room for kept bodies is enough for sixteen gates, and nothing is kept at first.
+-- The room is enough for the slots of any image, and nothing is kept at first.
 use native.Mathlib.Omega.{arith}
 use borrow.Author.Needs.{needs}
 use denote.Ref.{now}
+use native.Mathlib.Nat.{mul-le-mul}
 use Rattle.kept_body.proofs.KeptBodiesLaws.{no-bodies}
 use borrow.Author.Needs.{needs}
-use Rattle.linearize.proofs.visit_few_gates.Statement.{statement}
-use Rattle.linearize.proofs.visit_few_gates.Tie as tie
-use Rattle.linearize.proofs.visit_few_gates.Reads as reads
-use Rattle.linearize.proofs.visit_few_gates.Lts as lts
+use Rattle.linearize.proofs.visit_many_bodies.Statement.{statement}
+use Rattle.linearize.proofs.visit_many_bodies.Tie as tie
+use Rattle.linearize.proofs.visit_many_bodies.Reads as reads
+use Rattle.linearize.proofs.visit_many_bodies.Lts as lts
 use Rattle.linearize.proofs.visit_program.Reads as visit-program-reads
+
+array-write-kept-bodies : tie.Need-array-write-kept-bodies
+array-write-kept-bodies c = search needs
 
 slice-aggregate-visit-program : tie.Need-slice-aggregate-visit-program
 slice-aggregate-visit-program c = search needs
@@ -16,8 +20,7 @@ slice-aggregate-visit-program c = search needs
 visit-program-requires : tie.Need-visit-program-requires
 visit-program-requires c κs =
     let s = c .before .before .before .before .before .before .before .before .before in
-    let laid = s .pre .0 .start .laid in
-    (s .pre .0, s .pre .1, no-bodies (now (s .args .image)) _ 1856 _ (omega (arith, s .pre .2, laid .gates-is)))
+    (s .pre .0, s .pre .1, no-bodies (now (s .args .image)) _ 14849 _ (s .args .slot-width) (s .pre .2) (omega (arith, mul-le-mul (s .pre .2 .narrow) (s .pre .0 .start .laid .few-gates))))
 
 same-length : tie.Need-same-length
 same-length c = search needs
@@ -31,10 +34,11 @@ same-length-3 c = search needs
 returns : tie.Need-returns
 returns c = search needs
 
-pub visit-few-gates-spec : {M : Type 1} → statement M
-visit-few-gates-spec =
+pub visit-many-bodies-spec : {M : Type 1} → statement M
+visit-many-bodies-spec =
     tie.close
     (tie.spec
+    array-write-kept-bodies
     slice-aggregate-visit-program
     visit-program-requires
     same-length

@@ -1,14 +1,19 @@
--- The room for kept bodies is enough for the gates of any image, and nothing is kept at first.
+-- The short room is enough for the slots of the image, and nothing is kept at first.
 use native.Mathlib.Omega.{arith}
 use borrow.Author.Needs.{needs}
 use denote.Ref.{now}
+use mathlib.Core.Path.{ap}
+use Prim.Native.Nat.{_*_}
 use Rattle.kept_body.proofs.KeptBodiesLaws.{no-bodies}
 use borrow.Author.Needs.{needs}
-use Rattle.linearize.proofs.visit_many_gates.Statement.{statement}
-use Rattle.linearize.proofs.visit_many_gates.Tie as tie
-use Rattle.linearize.proofs.visit_many_gates.Reads as reads
-use Rattle.linearize.proofs.visit_many_gates.Lts as lts
+use Rattle.linearize.proofs.visit_few_bodies.Statement.{statement}
+use Rattle.linearize.proofs.visit_few_bodies.Tie as tie
+use Rattle.linearize.proofs.visit_few_bodies.Reads as reads
+use Rattle.linearize.proofs.visit_few_bodies.Lts as lts
 use Rattle.linearize.proofs.visit_program.Reads as visit-program-reads
+
+array-write-kept-bodies : tie.Need-array-write-kept-bodies
+array-write-kept-bodies c = search needs
 
 slice-aggregate-visit-program : tie.Need-slice-aggregate-visit-program
 slice-aggregate-visit-program c = search needs
@@ -16,7 +21,8 @@ slice-aggregate-visit-program c = search needs
 visit-program-requires : tie.Need-visit-program-requires
 visit-program-requires c κs =
     let s = c .before .before .before .before .before .before .before .before .before in
-    (s .pre .0, s .pre .1, no-bodies (now (s .args .image)) _ 14848 _ (omega (arith, s .pre .0 .start .laid .few-gates)))
+    let gates = s .pre .0 .start .laid .gates-is in
+    (s .pre .0, s .pre .1, no-bodies (now (s .args .image)) _ 1024 _ (s .args .slot-width) (s .pre .2) (rw gates at (s .pre .3)))
 
 same-length : tie.Need-same-length
 same-length c = search needs
@@ -30,10 +36,11 @@ same-length-3 c = search needs
 returns : tie.Need-returns
 returns c = search needs
 
-pub visit-many-gates-spec : {M : Type 1} → statement M
-visit-many-gates-spec =
+pub visit-few-bodies-spec : {M : Type 1} → statement M
+visit-few-bodies-spec =
     tie.close
     (tie.spec
+    array-write-kept-bodies
     slice-aggregate-visit-program
     visit-program-requires
     same-length
