@@ -9,7 +9,7 @@ use mathlib.Core.Bool.{Bool, false}
 use lib.Dec.{T, ltb}
 use borrow.Author.Tests.{ltb-false}
 use lib.ListN.{length, take, drop, length-drop}
-use lib.Seq.{sets, length-take-le}
+use lib.Seq.{sets, length-take-le, take-take}
 use Rattle.value.specs.declared.Value.{Value}
 use Rattle.model.specs.Limits.{mostArguments}
 use Rattle.model.specs.Image.{gates, gateParameters, gateArguments}
@@ -31,7 +31,7 @@ use Rattle.copy.proofs.BodyKeptLaws.{distinct-formals, renamed-shorter, keptRec
 use Rattle.copy.proofs.CopiedRecordsLaws.{copied-once}
 use Rattle.kept_body.specs.declared.BodyCopy.{BodyCopy}
 use Rattle.kept_body.specs.declared.BodyCopy.the-variants as bodyCopy
-use Rattle.kept_body.specs.Slot.{slotNeed, slotWidth, slotOf, slotLevels, slotStart, slotWords, slotRecords, slotQubits, slotAngles, OpenedAlike, SameBody, SlotQubitsRead, SlotStands}
+use Rattle.kept_body.specs.Slot.{slotNeed, slotWidth, slotOf, slotLevels, slotStart, slotWords, slotRecords, slotQubits, slotAngles, OpenedAlike, SameBody, SlotStands}
 use Rattle.kept_body.specs.KeptBodies.{SlotKept, BodiesKept, CalledGate, calledSteps, SlotGiven, CopyGiven, BodyCopied}
 use Rattle.kept_body.proofs.KeptBodiesLaws.{angles-same, kept-each}
 
@@ -58,7 +58,7 @@ module _ {image : List ℕ} {call : Call} (c : CalledGate image call) where
       silent-copied e inside =
           record {
             plays = subst (λ (vs : List Value). Plays (bodySteps image (call .site .«levels_left») [] (call .gate) vs (take (call .arguments) qubits)) (stateAt out at) (stateAt out at) done) values-are
-                (kept-silent (c .accepted) (stateAt out at) (call .gate) (slotLevels slot) (call .site .«levels_left») (slotAngles slot (gateParameters image (call .gate))) old (take (call .arguments) qubits) [] k e (c .listed) old-qubits (levels (s .alike)) inside);
+                (kept-silent (c .accepted) (stateAt out at) (call .gate) (slotLevels slot) (call .site .«levels_left») (slotAngles slot (gateParameters image (call .gate))) old (take (call .arguments) qubits) [] (k .body) e (c .listed) old-qubits (levels (s .alike)) inside);
             level = refl;
           }
         where
@@ -67,25 +67,25 @@ module _ {image : List ℕ} {call : Call} (c : CalledGate image call) where
           levels (inr (inl d)) = inl (d .1)
           levels (inr (inr d)) = inr d
 
-      -- a body whose records were copied, with the slot's qubits in an array
-      pub records-copied : (array : List ℕ) {written : ℕ} {out′ : List ℕ} → ¬ (slotWords slot ≡ 0) → SlotQubitsRead slot (call .parameters) (call .arguments) array → T (differ (take (call .arguments) array)) → T (differ (take (call .arguments) qubits)) → length qubits ≡ mostArguments
-          → at .words + slotWords slot ≤ length out → RecordsCopied (renamedQubit array qubits (call .arguments)) out (slotStart slot) (slotWords slot) (at .words) written out′
+      -- a body whose records were copied
+      pub records-copied : (n : ℕ) {written : ℕ} {out′ : List ℕ} → ¬ (slotWords slot ≡ 0) → call .arguments ≤ n → T (differ (take (call .arguments) qubits)) → length qubits ≡ mostArguments
+          → at .words + slotWords slot ≤ length out → RecordsCopied (renamedQubit (take n (drop (4 + 6 * call .parameters) slot)) qubits (call .arguments)) out (slotStart slot) (slotWords slot) (at .words) written out′
           → WroteStepsTo (calledSteps image call (anglesIn angles) qubits) out at (record { records = at .records + slotRecords slot; words = at .words + written; trace = at .trace }) out′
       unfolding output
-      records-copied array {written} {out′} some q d₁ d sixteen fits r =
+      records-copied n {written} {out′} some long d sixteen fits r =
           let new : List ℕ = take (call .arguments) qubits in
-          let e : take (call .arguments) array ≡ old = q .front ∙ ap₂ (slotQubits slot) (c .parameters-are) (c .arguments-are) in
+          let e : take (call .arguments) (take n (drop (4 + 6 * call .parameters) slot)) ≡ old = take-take (call .arguments) n (drop (4 + 6 * call .parameters) slot) long ∙ ap₂ (slotQubits slot) (c .parameters-are) (c .arguments-are) in
           let many : length new ≡ gateArguments image (call .gate) = length-take-le (call .arguments) qubits (omega (arith, few-qubits, sixteen)) ∙ c .arguments-are in
           let v : RecordsCopied (renaming old new) out (slotStart slot) (slotWords slot) (at .words) written out′ = subst (λ (l : List ℕ). RecordsCopied (renaming l new) out (slotStart slot) (slotWords slot) (at .words) written out′) e r in
-          let same = copied-once (renaming old new) (v .each) (kept-each slot (c .accepted) (c .listed) k) (sym (v .stands) ∙ k .stands) in
-          let formals = distinct-formals (gateArguments image (call .gate)) old new old-qubits many (subst (λ (l : List ℕ). T (differ l)) e d₁) d in
-          let place : copiedPlace (renaming old new) (keptRecords k) (stateAt out at) ≡ stateAt out′ (record { records = at .records + slotRecords slot; words = at .words + written; trace = at .trace }) =
-          ap₂ (λ (o : List ℕ) (w : ℕ). record { out = o; words = at .words + w; records = at .records + length (keptRecords k) }) (sym (v .contents ∙ ap (sets out (at .words)) same)) (sym (v .counted ∙ ap length same))
-          ∙ ap (λ (m : ℕ). record { out = out′; words = at .words + written; records = at .records + m }) (sym (k .counted)) in
+          let same = copied-once (renaming old new) (v .each) (kept-each slot (c .accepted) (c .listed) k) (sym (v .stands) ∙ k .body .stands) in
+          let formals = distinct-formals (gateArguments image (call .gate)) old new old-qubits many (k .distinct some) d in
+          let place : copiedPlace (renaming old new) (keptRecords (k .body)) (stateAt out at) ≡ stateAt out′ (record { records = at .records + slotRecords slot; words = at .words + written; trace = at .trace }) =
+          ap₂ (λ (o : List ℕ) (w : ℕ). record { out = o; words = at .words + w; records = at .records + length (keptRecords (k .body)) }) (sym (v .contents ∙ ap (sets out (at .words)) same)) (sym (v .counted ∙ ap length same))
+          ∙ ap (λ (m : ℕ). record { out = out′; words = at .words + written; records = at .records + m }) (sym (k .body .counted)) in
           record {
             plays = subst (λ (vs : List Value). Plays (bodySteps image (call .site .«levels_left») [] (call .gate) vs new) (stateAt out at) (stateAt out′ (record { records = at .records + slotRecords slot; words = at .words + written; trace = at .trace })) done) values-are
                 (subst (λ (p : OutputState). Plays (bodySteps image (call .site .«levels_left») [] (call .gate) (slotAngles slot (gateParameters image (call .gate))) new) (stateAt out at) p done) place
-                (kept-copies (c .accepted) (renaming old new) (stateAt out at) (call .gate) (slotLevels slot) (call .site .«levels_left») (slotAngles slot (gateParameters image (call .gate))) old new [] k (c .listed) (levels (s .alike) (renaming old new) some) formals fits));
+                (kept-copies (c .accepted) (renaming old new) (stateAt out at) (call .gate) (slotLevels slot) (call .site .«levels_left») (slotAngles slot (gateParameters image (call .gate))) old new [] (k .body) (c .listed) (levels (s .alike) (renaming old new) some) formals fits));
             level = refl;
           }
         where
@@ -111,6 +111,10 @@ slot-whole {table} {call = call} g e = ap length e ∙ length-take-le (slotWidth
 
 pub slot-wide : {table slot qubits : List ℕ} {call : Call} → SlotGiven table call qubits → slot ≡ slotOf table (call .gate) → slotNeed (call .parameters) (call .arguments) ≤ length slot
 slot-wide g e = omega (arith, slot-whole g e, g .wide)
+
+-- the qubits behind its angles
+pub qubits-behind : (slot : List ℕ) (n m : ℕ) → slotNeed n m ≤ length slot → m ≤ length (take (length slot - (4 + 6 * n)) (drop (4 + 6 * n) slot))
+qubits-behind slot n m h = omega (arith, length-take-le (length slot - (4 + 6 * n)) (drop (4 + 6 * n) slot) (omega (arith, length-drop (4 + 6 * n) slot)))
 
 -- the test for room
 pub room-left : (out slot : List ℕ) (at : Position) {full : Bool} → full ≡ ltb (length out) (at .words + slotWords slot) → full ≡ false → at .words + slotWords slot ≤ length out

@@ -118,23 +118,26 @@ angles-same slot angles n few s =
 
 pub bodies-later : {image table : List ℕ} {ss : List Step} {p q : OutputState} {a : Answer} → Plays ss p q a → BodiesKept image table (p .out) (p .words) → BodiesKept image table (q .out) (q .words)
 bodies-later {image} {table} {ss} {p} {q} w b =
-    record { wide = b .wide; room = b .room; each = λ g h k. rw (w .contents) (kept-later (b .each g h k) (output (play (room p) ss)) (q .words) (omega (arith, w .position))) }
+    record { wide = b .wide; room = b .room; each = λ g h k. let s = b .each g h k in record { body = rw (w .contents) (kept-later (s .body) (output (play (room p) ss)) (q .words) (omega (arith, w .position))); distinct = s .distinct } }
 
 -- ---- a body that was run is put into its slot
 
 module _ {image : List ℕ} {call : Call} {angles qubits out out′ : List ℕ} {at next : Position} (r : BodyRun image call (anglesIn angles) qubits out at next out′) where
-  slot-kept : {slot : List ℕ} → SlotFilled slot (call .site .«levels_left») (at .words) (next .words - at .words) (next .records - at .records) call angles qubits → SlotKept image slot out′ (next .words) (call .gate)
-  slot-kept {slot} f =
+  slot-kept : {slot : List ℕ} → SlotFilled slot (call .site .«levels_left») (at .words) (next .words - at .words) (next .records - at .records) call angles qubits → (¬ (next .words - at .words ≡ 0) → T (differ (take (call .arguments) qubits))) → SlotKept image slot out′ (next .words) (call .gate)
+  slot-kept {slot} f d =
       let c = r .called in
       let few : call .parameters ≤ 16 = omega (arith, c .parameters-are, few-parameters (c .accepted) (call .gate) (c .listed)) in
       let vs : slotAngles slot (gateParameters image (call .gate)) ≡ take (call .parameters) (anglesIn angles) = ap (slotAngles slot) (sym (c .parameters-are)) ∙ angles-same slot angles (call .parameters) few (f .angles-are) in
       let qs : slotQubits slot (gateParameters image (call .gate)) (gateArguments image (call .gate)) ≡ take (call .arguments) qubits = ap₂ (slotQubits slot) (sym (c .parameters-are)) (sym (c .arguments-are)) ∙ f .qubits-are in
-      rw (vs, qs, f .levels-are, f .start-is, f .words-are, f .records-are) (kept-new image (call .gate) (call .site .«levels_left») [] (take (call .parameters) (anglesIn angles)) (take (call .arguments) qubits) (r .wrote .plays) (r .inside))
+      record {
+        body = rw (vs, qs, f .levels-are, f .start-is, f .words-are, f .records-are) (kept-new image (call .gate) (call .site .«levels_left») [] (take (call .parameters) (anglesIn angles)) (take (call .arguments) qubits) (r .wrote .plays) (r .inside));
+        distinct = λ n. subst (λ (l : List ℕ). T (differ l)) (sym qs) (d (λ e. n (f .words-are ∙ e)));
+      }
 
   pub bodies-put : (table slot : List ℕ) → length slot ≡ slotWidth table → 1 + slotWidth table * call .gate + slotWidth table ≤ length table → BodiesKept image table out′ (next .words)
-      → SlotFilled slot (call .site .«levels_left») (at .words) (next .words - at .words) (next .records - at .records) call angles qubits
+      → SlotFilled slot (call .site .«levels_left») (at .words) (next .words - at .words) (next .records - at .records) call angles qubits → (¬ (next .words - at .words ≡ 0) → T (differ (take (call .arguments) qubits)))
       → BodiesKept image (putInto table slot (call .gate)) out′ (next .words)
-  bodies-put table slot whole room b f =
+  bodies-put table slot whole room b f d =
       let width = width-stays table slot (call .gate) whole room in
       record {
         wide = subst (WideEnough image) (sym width) (b .wide);
@@ -145,23 +148,25 @@ module _ {image : List ℕ} {call : Call} {angles qubits out out′ : List ℕ} 
       go : (g : ℕ) → g < gates image → ¬ (slotLevels (slotOf (putInto table slot (call .gate)) g) ≡ 0) → (c : Bool) → eqb g (call .gate) ≡ c → SlotKept image (slotOf (putInto table slot (call .gate)) g) out′ (next .words) g
       go g h k true e =
           let same = eqb-true g (call .gate) e in
-          subst (λ (l : List ℕ). SlotKept image l out′ (next .words) g) (sym (ap (slotOf (putInto table slot (call .gate))) same ∙ slot-put table slot (call .gate) whole room)) (rw same (slot-kept f))
+          subst (λ (l : List ℕ). SlotKept image l out′ (next .words) g) (sym (ap (slotOf (putInto table slot (call .gate))) same ∙ slot-put table slot (call .gate) whole room)) (rw same (slot-kept f d))
       go g h k false e =
           let other = slot-other table slot (call .gate) whole room g (eqb-false g (call .gate) e) in
           subst (λ (l : List ℕ). SlotKept image l out′ (next .words) g) (sym other) (b .each g h (λ z. k (ap slotLevels other ∙ z)))
 
 -- ---- what a slot tells of stands in the output
 
-pub kept-each : {image : List ℕ} (slot : List ℕ) {out : List ℕ} {at g : ℕ} → Accepted image → g < gates image → (k : SlotKept image slot out at g) → All BodyRecord (keptRecords k)
-kept-each {image} slot {g = g} acc h k =
+pub kept-each : {image : List ℕ} (slot : List ℕ) {out : List ℕ} {at g : ℕ} → Accepted image → g < gates image → (s : SlotKept image slot out at g) → All BodyRecord (keptRecords (s .body))
+kept-each {image} slot {g = g} acc h s =
+    let k = s .body in
     let n = gateParameters image g in
     bodily-plays (k .ahead) (openings-bodily image acc (slotLevels slot) .opens (k .trace) g (slotAngles slot n) (slotQubits slot n (gateArguments image g)) h)
 
 pub slot-stands : {image : List ℕ} (slot : List ℕ) {out : List ℕ} {at g : ℕ} → Accepted image → g < gates image → SlotKept image slot out at g → SlotStands slot out at
 unfolding output
-slot-stands {image} slot acc h k =
+slot-stands {image} slot acc h s =
+    let k = s .body in
     record {
-      stands = record { records = keptRecords k; each = kept-each slot acc h k; stands = k .stands };
+      stands = record { records = keptRecords k; each = kept-each slot acc h s; stands = k .stands };
       before = k .before;
       fewer = omega (arith, k .counted, k .long, words-enough (keptRecords k));
     }

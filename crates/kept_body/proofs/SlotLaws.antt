@@ -1,7 +1,6 @@
 -- What the words of a slot say: its angles, and what it holds when it was filled.
 use Prim.Native.Nat.{ℕ, suc, _+_, _*_, _≤_, _<_, max}
 use native.Mathlib.Nat.{zero-add, add-zero, not-suc-le-zero, eq-or-lt-of-le, max-le, le-max-left, le-max-right}
-use native.Mathlib.Numerals.{add-one}
 use native.Mathlib.Omega.{arith}
 use mathlib.Core.Path.{_≡_, refl, sym, ap, ap₂, subst, _∙_}
 use mathlib.Core.Logic.{_⊎_, inl, inr}
@@ -9,8 +8,8 @@ use mathlib.Core.Bool.{Bool, true, false}
 use mathlib.Core.List.{List, [], _∷_, _++_, map, map-append}
 use mathlib.Core.Option.{none}
 use lib.Dec.{T}
-use lib.ListN.{length, getD, set, take, drop, length-set, length-map, length-drop}
-use lib.Seq.{sets, length-sets, ext-getD, getD-take, getD-drop, getD-set-same, getD-set-other, length-take-le, take-suc, take-suc-set}
+use lib.ListN.{length, getD, set, take, drop, length-set, length-map}
+use lib.Seq.{sets, length-sets, ext-getD, getD-take, getD-drop, getD-set-same, getD-set-other, length-take-le}
 use Rattle.value.specs.declared.Value.{Value}
 use Rattle.model.specs.Image.{word, gateAt, gates, gateParameters, gateArguments}
 use Rattle.model.specs.Accepted.{Accepted}
@@ -121,13 +120,6 @@ first-words-next slot angles i e =
     let long : length (firstWords angles i) ≡ i = length-map (range 0 i) (λ j. getD angles j 0) ∙ length-range 0 i in
     put-more slot 4 (4 + i) (firstWords angles i) (getD angles i 0 ∷ []) (omega (arith, long)) e refl
     ∙ ap (sets slot 4) (sym (map-append (λ j. getD angles j 0) (range 0 i) (i ∷ [])) ∙ ap (map (λ j. getD angles j 0)) (sym (range-more i)))
-
--- ---- the qubits that are read from a slot
-
-pub qubits-next : (slot qubits : List ℕ) (p i : ℕ) → i < length qubits → p + i < length slot → take i qubits ≡ take i (drop p slot) → take (i + 1) (set qubits i (getD slot (p + i) 0)) ≡ take (i + 1) (drop p slot)
-qubits-next slot qubits p i h k e =
-    rw (add-one i)
-    (take-suc-set qubits i (getD slot (p + i) 0) h ∙ ap₂ (λ (l : List ℕ) (x : ℕ). l ++ x ∷ []) e (sym (getD-drop p slot i 0)) ∙ sym (take-suc (drop p slot) i 0 (omega (arith, length-drop p slot))))
 
 -- ---- the width of slots
 

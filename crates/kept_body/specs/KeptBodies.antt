@@ -2,11 +2,13 @@
 use Prim.Native.Nat.{ℕ, _+_, _*_, _≤_, _<_}
 use mathlib.Core.Path.{_≡_}
 use mathlib.Core.List.{List, []}
+use lib.Dec.{T}
 use lib.ListN.{length, take}
 use Rattle.value.specs.declared.Value.{Value}
 use Rattle.model.specs.Limits.{mostGates, mostParameters}
 use Rattle.model.specs.Image.{gates, gateParameters, gateArguments}
 use Rattle.model.specs.Accepted.{Accepted}
+use Rattle.model.specs.Claims.{differ}
 use Rattle.model.specs.Steps.{Step}
 use Rattle.record_writer.specs.declared.Position.{Position}
 use Rattle.record_writer.specs.Promise.{InOutput, QubitsGiven, WroteStepsTo}
@@ -16,11 +18,10 @@ use Rattle.kept_body.specs.declared.BodyCopy.{BodyCopy}
 use Rattle.kept_body.specs.declared.BodyCopy.the-variants as bodyCopy
 use Rattle.kept_body.specs.Slot.{slotNeed, mostSlotWords, slotWidth, slotOf, WideEnough, slotLevels, slotStart, slotWords, slotRecords, slotQubits, slotAngles, SlotStands}
 
--- a slot keeps a body of gate g: it was run to its end, and its records stand in the output
-abbrev pub SlotKept : List ℕ → List ℕ → List ℕ → ℕ → ℕ → Type 0
-SlotKept image slot out at g =
-    let n = gateParameters image g in
-    BodyKept image out at g (slotLevels slot) (slotAngles slot n) (slotQubits slot n (gateArguments image g)) (slotStart slot) (slotWords slot) (slotRecords slot)
+-- a slot keeps a body of gate g: it was run to its end, its records stand in the output, and if there are any it was run with different qubits
+pub record SlotKept (image slot out : List ℕ) (at g : ℕ) : Type 0 where
+  pub body : BodyKept image out at g (slotLevels slot) (slotAngles slot (gateParameters image g)) (slotQubits slot (gateParameters image g) (gateArguments image g)) (slotStart slot) (slotWords slot) (slotRecords slot)
+  pub distinct : ¬ (slotWords slot ≡ 0) → T (differ (slotQubits slot (gateParameters image g) (gateArguments image g)))
 
 -- the table has a slot for each gate, wide enough for its body, and each slot keeps a body of its gate or none
 pub record BodiesKept (image table out : List ℕ) (at : ℕ) : Type 0 where

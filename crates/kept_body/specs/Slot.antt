@@ -7,7 +7,6 @@ use lib.ListN.{length, getD, take, drop}
 use Rattle.value.specs.declared.Value.{Value}
 use Rattle.model.specs.Image.{gates, gateParameters, gateArguments}
 use Rattle.model.specs.Lists.{range}
-use Rattle.record_writer.specs.Promise.{QubitsGiven}
 use Rattle.expression.specs.Angles.{valueWords, anglesIn}
 use Rattle.statement.specs.declared.Call.{Call}
 use Rattle.copy.specs.CopiedRecords.{RecordsStand}
@@ -69,11 +68,6 @@ pub record SameBody (slot : List ℕ) (call : Call) (angles : List ℕ) : Type 0
   pub kept : ¬ (slotLevels slot ≡ 0)
   pub alike : OpenedAlike (call .gate) (slotLevels slot) (call .site .«levels_left») (slotWords slot)
   pub same : SameAngles slot angles (valueWords * call .parameters)
-
--- the qubits of a slot stand in front of sixteen
-pub record SlotQubitsRead (slot : List ℕ) (n m : ℕ) (r : List ℕ) : Type 0 where
-  pub given : QubitsGiven r m
-  pub front : take m r ≡ slotQubits slot n m
 
 -- ---- what a slot holds
 

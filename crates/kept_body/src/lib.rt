@@ -10,13 +10,13 @@ ghost use Prim.Native.Nat.{ℕ, _+_, _-_, _*_, _≤_};
 ghost use lib.Dec.{T};
 ghost use lib.ListN.{length, take};
 ghost use lib.Seq.{sets};
-ghost use Rattle.model.specs.Limits.{mostParameters, mostArguments};
+ghost use Rattle.model.specs.Limits.{mostParameters};
 ghost use Rattle.model.specs.Accepted.{Accepted};
 ghost use Rattle.model.specs.Claims.{differ};
 ghost use Rattle.image.specs.Layout.{LayoutOf};
 ghost use Rattle.record_writer.specs.Promise.{QubitsGiven};
 ghost use Rattle.expression.specs.Angles.{anglesIn, valueWords};
-ghost use Rattle.kept_body.specs.Slot.{slotNeed, WideEnough, OpenedAlike, SameAngles, SameBody, SlotQubitsRead, firstWords, SlotFilled};
+ghost use Rattle.kept_body.specs.Slot.{slotNeed, WideEnough, OpenedAlike, SameAngles, SameBody, firstWords, SlotFilled};
 ghost use Rattle.kept_body.specs.KeptBodies.{BodiesKept, CalledGate, SlotGiven, CopyGiven, BodyCopied, BodyRun};
 
 // Where a slot holds the words of its angles, behind four numbers: the levels left, the first output word, the words and the records of the body. Its
@@ -122,25 +122,9 @@ fn are_distinct(qubits: &[u64; image::FRAME_QUBITS], n: u64) -> bool
 
 // ---- copying
 
-// The qubits of a slot, m of them, behind n angles.
-fn slot_qubits(slot: &[u64], n: u64, m: u64) -> [u64; image::FRAME_QUBITS]
-    requires { ⌜ (slotNeed n m ≤ length (now slot)) × ((n ≤ mostParameters) × (m ≤ mostArguments)) ⌝ }
-    ensures { λ r. ⌜ SlotQubitsRead (now (slot .entry)) n m r ⌝ }
-{
-    let mut qubits = [0u64; image::FRAME_QUBITS];
-    let start = ANGLES_AT + (expression::VALUE_WORDS * n) as usize;
-    let count = m as usize;
-    let mut i = 0;
-    while i < count {
-        qubits[i] = slot[start + i];
-        i += 1;
-    }
-    qubits
-}
-
 // Copies the records of the body that is kept of a call's gate, if it is the call's body, with the qubits of the call. A body that wrote nothing is
-// the same whatever its qubits are. Records are copied if there is room for all of them, so that a refusal comes where it would come, and if neither
-// the kept body nor the call has a qubit twice: with one qubit a body may do something else than with two different ones.
+// the same whatever its qubits are. Records are copied if there is room for all of them, so that a refusal comes where it would come, and if the
+// call has no qubit twice: with one qubit a body may do something else than with two different ones.
 pub fn copy_body(
     kept_bodies: &[u64],
     call: Call,
@@ -169,21 +153,16 @@ pub fn copy_body(
     if record_writer::is_full(out, at, words) {
         return BodyCopy::NotKept;
     }
-    let n = call.arguments;
-    let old = slot_qubits(slot, call.parameters, n);
-    if !are_distinct(&old, n) {
+    if !are_distinct(qubits, call.arguments) {
         return BodyCopy::NotKept;
     }
-    if !are_distinct(qubits, n) {
-        return BodyCopy::NotKept;
-    }
-    let start = slot[1] as usize;
+    let behind_angles = ANGLES_AT + (expression::VALUE_WORDS * call.parameters) as usize;
     let written = copy::copy_records(
         out,
-        &old,
+        &slot[behind_angles..],
         qubits,
-        n as usize,
-        start,
+        call.arguments as usize,
+        slot[1] as usize,
         words,
         at.words as usize,
     );
@@ -248,7 +227,19 @@ fn put_body(
     put_qubits(slot, ANGLES_AT + n, qubits, call.arguments as usize);
 }
 
-// Keeps the body of a call that was run to its end between two positions.
+// Whether a body that wrote so many words with these qubits may be copied for others: with a qubit twice it may do something else than with two
+// different ones. One that wrote nothing does so with any qubits.
+fn may_be_copied(words: u64, qubits: &[u64; image::FRAME_QUBITS], n: u64) -> bool
+    requires { ⌜ QubitsGiven (now qubits) n ⌝ }
+    ensures { λ r. ⌜ (r ≡ true → ¬ (words ≡ 0) → T (differ (take n (now (qubits .entry))))) ⌝ }
+{
+    if words == 0 {
+        return true;
+    }
+    are_distinct(qubits, n)
+}
+
+// Keeps the body of a call that was run to its end between two positions, if it may be copied.
 pub fn keep_body(
     kept_bodies: &mut [u64],
     call: Call,
@@ -263,6 +254,9 @@ pub fn keep_body(
         → BodiesKept image (now («kept_bodies» .entry)) out′ (next .words) → BodiesKept image (now («kept_bodies» .exit)) out′ (next .words))
         ⌝ }
 {
+    if !may_be_copied(next.words - at.words, qubits, call.arguments) {
+        return;
+    }
     let width = kept_bodies[0] as usize;
     let first = 1 + width * call.gate as usize;
     let end = first + width;

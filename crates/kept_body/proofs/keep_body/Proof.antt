@@ -1,8 +1,9 @@
--- The body is put into the slot of its gate, and the other slots stay.
+-- A body that may be copied is put into the slot of its gate, and the other slots stay.
 use native.Mathlib.Omega.{arith}
 use mathlib.Core.Path.{_∙_}
 use denote.Ref.{now}
 use borrow.Author.Needs.{needs}
+use borrow.Author.Tests.{not-false}
 use Rattle.kept_body.proofs.KeptBodiesLaws.{bodies-put}
 use Rattle.kept_body.proofs.BodyCopiedLaws.{lent-slot, slot-near, slot-whole, slot-wide}
 use borrow.Author.Needs.{needs}
@@ -10,7 +11,17 @@ use Rattle.kept_body.proofs.keep_body.Statement.{statement}
 use Rattle.kept_body.proofs.keep_body.Tie as tie
 use Rattle.kept_body.proofs.keep_body.Reads as reads
 use Rattle.kept_body.proofs.keep_body.Lts as lts
+use Rattle.kept_body.proofs.may_be_copied.Reads as may-be-copied-reads
 use Rattle.kept_body.proofs.put_body.Reads as put-body-reads
+
+sub-may-be-copied : tie.Need-sub-may-be-copied
+sub-may-be-copied c = search needs
+
+may-be-copied-requires : tie.Need-may-be-copied-requires
+may-be-copied-requires c κs = search needs
+
+returns : tie.Need-returns
+returns c = search needs
 
 slice-read-width : tie.Need-slice-read-width
 slice-read-width c = search needs
@@ -42,16 +53,20 @@ put-body-requires c κs = search needs
 same-length : tie.Need-same-length
 same-length c = search needs
 
-returns : tie.Need-returns
-returns c =
-    let s = c .before .before .before .before .before .before in
+returns-2 : tie.Need-returns-2
+returns-2 c =
+    let s = c .before .before .before .before .before .before .before .before .before .before in
     let e = lent-slot (now (s .args .kept-bodies)) (s .args .call .gate) in
-    λ image out out′ r b. bodies-put r (now (s .args .kept-bodies)) (c .before .before .put-body .last .0) (c .before .before .put-body .kept .0 ∙ slot-whole (s .pre .0) e) (s .pre .0 .room) b (c .before .before .put-body .ensures)
+    let put = c .before .before .put-body in
+    λ image out out′ ran b. bodies-put ran (now (s .args .kept-bodies)) (put .last .0) (put .kept .0 ∙ slot-whole (s .pre .0) e) (s .pre .0 .room) b (put .ensures) (c .before .before .before .before .before .before .may-be-copied .ensures (not-false _ (c .before .before .before .before .before .if1 .left)))
 
 pub keep-body-spec : {M : Type 1} → statement M
 keep-body-spec =
     tie.close
     (tie.spec
+    sub-may-be-copied
+    may-be-copied-requires
+    returns
     slice-read-width
     mul-first
     add-first
@@ -62,4 +77,4 @@ keep-body-spec =
     part-put-body-end
     put-body-requires
     same-length
-    returns)
+    returns-2)
