@@ -364,14 +364,15 @@ fn visit_rounds(
         ⌝ }
 {
     let n = statement::call_rounds(image, l, call);
+    let mut frame = Frame {
+        angles,
+        qubits: [0u64; image::FRAME_QUBITS],
+    };
     let mut position = at;
     let mut i = 0u64;
     while i < n {
         let found = statement::call_qubits(image, l, register_starts, qubits, call, i);
-        let frame = Frame {
-            angles,
-            qubits: found,
-        };
+        frame.qubits = found;
         match open_gate(
             image,
             l,

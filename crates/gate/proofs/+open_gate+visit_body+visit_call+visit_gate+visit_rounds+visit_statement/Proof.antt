@@ -3,7 +3,9 @@ use Prim.Native.Nat.{_+_, _-_, _*_}
 use native.Mathlib.Omega.{arith}
 use native.Mathlib.Numerals.{add-one}
 use mathlib.Core.Path.{_≡_, refl, ap, _∙_}
-use mathlib.Core.List.{[]}
+use mathlib.Core.List.{List, []}
+use Rattle.value.specs.declared.Value.{Value}
+use Rattle.gate.specs.RanSteps.{openedSteps}
 use borrow.Author.Needs.{needs}
 use denote.Ref.{now}
 use lib.ListN.{length, take}
@@ -495,11 +497,11 @@ visit-gate-same-length-7 : (t : ℕ) → visit-gate-lts.Need-same-length-7 (visi
 visit-gate-same-length-7 t c = ran-lengths (visit-gate-returns-3 t c .0) .1
 
 abbrev visit-rounds-Inv-loop : visit-rounds-lts.InvT-loop
-visit-rounds-Inv-loop image l register-starts kept-values₀ kept-bodies₀ qubits call angles out₀ trace₀ n position₀ i₀ kept-values kept-bodies out trace position i =
-    Looped (openedRound image qubits call (take (call .parameters) angles)) n out₀ position₀ i out position × (trace ≡ trace₀) × ConstantsKept image kept-values × (length kept-values ≡ length kept-values₀) × BodiesKept image kept-bodies out (position .words) × (length kept-bodies ≡ length kept-bodies₀)
+visit-rounds-Inv-loop image l register-starts kept-values₀ kept-bodies₀ qubits call out₀ trace₀ n frame₀ position₀ i₀ kept-values kept-bodies out trace frame position i =
+    Looped (openedRound image qubits call (take (call .parameters) (frame₀ .angles))) n out₀ position₀ i out position × (trace ≡ trace₀) × ConstantsKept image kept-values × (length kept-values ≡ length kept-values₀) × BodiesKept image kept-bodies out (position .words) × (length kept-bodies ≡ length kept-bodies₀) × (frame .angles ≡ frame₀ .angles)
 
 abbrev visit-rounds-μ-loop : visit-rounds-lts.MeasureT-loop
-visit-rounds-μ-loop image l register-starts kept-values₀ kept-bodies₀ qubits call angles out₀ trace₀ n position₀ i₀ kept-values kept-bodies out trace position i =
+visit-rounds-μ-loop image l register-starts kept-values₀ kept-bodies₀ qubits call out₀ trace₀ n frame₀ position₀ i₀ kept-values kept-bodies out trace frame position i =
     n - i
 
 visit-rounds-call-rounds-requires : (t : ℕ) → visit-rounds-lts.Need-call-rounds-requires (visit-rounds-callees t) (visit-rounds-at t) visit-rounds.Post visit-rounds-Inv-loop visit-rounds-μ-loop
@@ -510,7 +512,7 @@ visit-rounds-call-rounds-requires t c κs =
 visit-rounds-loop-holds : (t : ℕ) → visit-rounds-lts.Need-loop-holds (visit-rounds-callees t) (visit-rounds-at t) visit-rounds.Post visit-rounds-Inv-loop visit-rounds-μ-loop
 visit-rounds-loop-holds t c =
     let pre = c .before .before .before .before .before .before .before .pre .1 in
-    (looped-start _ _ (pre .0 .context .in-output), refl, pre .0 .context .constants, refl, pre .0 .bodies, refl)
+    (looped-start _ _ (pre .0 .context .in-output), refl, pre .0 .context .constants, refl, pre .0 .bodies, refl, refl)
 
 visit-rounds-call-qubits-requires : (t : ℕ) → visit-rounds-lts.Need-call-qubits-requires (visit-rounds-callees t) (visit-rounds-at t) visit-rounds.Post visit-rounds-Inv-loop visit-rounds-μ-loop
 visit-rounds-call-qubits-requires t c κs =
@@ -523,7 +525,7 @@ visit-rounds-open-gate-requires t c κs =
     let s = c .before .before .before .before .before .before .before .before .before .before .before .before .before .before in
     let pre = s .pre .1 in
     let loop = c .before .before .before .before .before .before .loop in
-    (omega (arith, s .pre .0, pre .3 .is-call .downward), (context-opened (context-on (pre .0) (loop .inv .0) (loop .inv .1) (loop .inv .2) (loop .inv .4)) (pre .3 .is-call) (c .before .before .before .before .call-qubits .ensures) (omega (arith, c .before .before .before .before .before .before .before .call-rounds .ensures, c .before .before .before .before .before .loop-test .taken)), omega (arith, pre .1, loop .inv .0 .level), pre .2, pre .3))
+    (omega (arith, s .pre .0, pre .3 .is-call .downward), (context-opened (context-on (pre .0) (loop .inv .0) (loop .inv .1) (loop .inv .2) (loop .inv .4)) (pre .3 .is-call) (c .before .before .before .before .call-qubits .ensures) (omega (arith, c .before .before .before .before .before .before .before .call-rounds .ensures, c .before .before .before .before .before .loop-test .taken)), omega (arith, pre .1, loop .inv .0 .level), rw (loop .inv .6) (pre .2), pre .3))
 
 visit-rounds-enum-known-next : (t : ℕ) → visit-rounds-lts.Need-enum-known-next (visit-rounds-callees t) (visit-rounds-at t) visit-rounds.Post visit-rounds-Inv-loop visit-rounds-μ-loop
 visit-rounds-enum-known-next t c = search needs
@@ -543,7 +545,7 @@ visit-rounds-returns t c =
     let pre = s .pre .1 in
     let loop = c .before .before .before .before .before .before .before .before .before .before .before .before .before .before .before .before .before .before .loop .inv in
     let v = c .before .before .before .before .before .before .before .before .before .before .before .open-gate .ensures in
-    (ran-from (loop .1) (ran-stop _ _ (loop .0) (c .before .before .before .before .before .before .before .before .before .before .before .before .before .before .before .before .before .loop-test .taken) (opened-round (pre .3 .is-call) (c .before .before .before .before .before .before .before .before .before .before .before .before .before .before .before .before .call-qubits .ensures) _) (v .0) (c .before .e .given .1) (c .before .before .before .before .before .before .before .before .before .before .before .before .before .before .before .before .before .before .before .call-rounds .ensures)), v .1, bodies-at (c .before .e .given .1) (v .2))
+    (ran-from (loop .1) (ran-stop _ _ (loop .0) (c .before .before .before .before .before .before .before .before .before .before .before .before .before .before .before .before .before .loop-test .taken) (ap (λ (x : List Value). openedSteps (now (s .args .image)) (s .args .call) x (c .before .before .before .before .before .before .before .before .before .before .before .before .before .before .before .before .call-qubits .result)) (loop .6) ∙ opened-round (pre .3 .is-call) (c .before .before .before .before .before .before .before .before .before .before .before .before .before .before .before .before .call-qubits .ensures) _) (v .0) (c .before .e .given .1) (c .before .before .before .before .before .before .before .before .before .before .before .before .before .before .before .before .before .before .before .call-rounds .ensures)), v .1, bodies-at (c .before .e .given .1) (v .2))
 
 visit-rounds-same-length-3 : (t : ℕ) → visit-rounds-lts.Need-same-length-3 (visit-rounds-callees t) (visit-rounds-at t) visit-rounds.Post visit-rounds-Inv-loop visit-rounds-μ-loop
 visit-rounds-same-length-3 t c = ran-lengths (visit-rounds-returns t c .0) .0
@@ -567,8 +569,8 @@ visit-rounds-loop-again t c =
     let pre = s .pre .1 in
     let loop = c .before .before .before .before .before .before .before .before .before .before .before .before .before .before .before .before .before .before .loop .inv in
     let v = c .before .before .before .before .before .before .before .before .before .before .before .open-gate .ensures in
-    let w = ran-next _ _ (loop .0) (c .before .before .before .before .before .before .before .before .before .before .before .before .before .before .before .before .before .loop-test .taken) (opened-round (pre .3 .is-call) (c .before .before .before .before .before .before .before .before .before .before .before .before .before .before .before .before .call-qubits .ensures) _) (v .0) (c .before .next .given .1) in
-    (w .0, w .1 ∙ loop .1, v .1, omega (arith, c .before .before .before .before .before .before .before .before .before .before .kept-values .given, loop .3), bodies-at (c .before .next .given .1) (v .2), omega (arith, c .before .before .before .before .before .before .before .before .kept-bodies .given, loop .5))
+    let w = ran-next _ _ (loop .0) (c .before .before .before .before .before .before .before .before .before .before .before .before .before .before .before .before .before .loop-test .taken) (ap (λ (x : List Value). openedSteps (now (s .args .image)) (s .args .call) x (c .before .before .before .before .before .before .before .before .before .before .before .before .before .before .before .before .call-qubits .result)) (loop .6) ∙ opened-round (pre .3 .is-call) (c .before .before .before .before .before .before .before .before .before .before .before .before .before .before .before .before .call-qubits .ensures) _) (v .0) (c .before .next .given .1) in
+    (w .0, w .1 ∙ loop .1, v .1, omega (arith, c .before .before .before .before .before .before .before .before .before .before .kept-values .given, loop .3), bodies-at (c .before .next .given .1) (v .2), omega (arith, c .before .before .before .before .before .before .before .before .kept-bodies .given, loop .5), loop .6)
 
 visit-rounds-same-length-5 : (t : ℕ) → visit-rounds-lts.Need-same-length-5 (visit-rounds-callees t) (visit-rounds-at t) visit-rounds.Post visit-rounds-Inv-loop visit-rounds-μ-loop
 visit-rounds-same-length-5 t c = c .before .loop .inv .3
