@@ -16,9 +16,13 @@
  *   - The answer, the output and the trace are written. They must not overlap each other or the image, not even
  *     where lengths are such that nothing is written. The image is only read.
  *   - The answer has as many words as stated below, all of which are written.
- *   - A run has up to 1.2 MiB of stack: 0.3 MiB, and 7.5 KiB for each gate call that it is in, at most 128 of them. Check
- *     and tally have less than 0.1 MiB. (Measured with the kit that README.md names. The main thread and a thread of
- *     2 MiB are large enough.)
+ *   - A run has up to 1.4 MiB of stack: 0.45 MiB, and 7.5 KiB for each gate call that it is in, at most 128 of them
+ *     (STACK-TODO). Check and tally have less than 0.1 MiB. (Measured with the kit that README.md names. The main thread
+ *     and a thread of 2 MiB are large enough.)
+ *   - A run may be long and is not refused for it: document 01 has no number for that. Its time grows with the words
+ *     that it writes, unless gate bodies write nothing and are called with other angles than the time before, as in
+ *     g(x) { h(x/2); h(x+1); }: then each call runs a body, and every such gate doubles their number. No more bodies are
+ *     run than COWHIRAME_TALLY_ENTRIES says: a caller who runs images of others can ask the tally first.
  *
  * The contract with the customer, "document 01", is what the numbers and records are taken from. What each function
  * is proved to answer stands in crates/unit_words/src/lib.rt.
@@ -69,7 +73,7 @@ enum cowhirame_answer {
     COWHIRAME_TALLY_MEASURE = 6,
     COWHIRAME_TALLY_RESET = 7,
     COWHIRAME_TALLY_IF = 8,
-    COWHIRAME_TALLY_ENTRIES = 9, /* gate bodies that are entered */
+    COWHIRAME_TALLY_ENTRIES = 9, /* gate bodies that are entered, run or copied */
     COWHIRAME_TALLY_WORDS = 10   /* output words: as many are always enough */
 };
 
