@@ -1,10 +1,10 @@
 -- The bodies that are kept, where a gate is opened: what copying and keeping one ask for, and what they say of the run.
-use Prim.Native.Nat.{ℕ, suc, _+_, _*_, _≤_, _<_}
+use Prim.Native.Nat.{ℕ, suc}
 use native.Mathlib.Omega.{arith}
-use mathlib.Core.Path.{_≡_, refl, sym, ap, subst, _∙_}
-use mathlib.Core.List.{List, []}
+use mathlib.Core.Path.{_≡_, refl, subst}
+use mathlib.Core.List.{List}
 use Rattle.value.specs.declared.Value.{Value}
-use Rattle.model.specs.Image.{gates, gateParameters, gateArguments, variables}
+use Rattle.model.specs.Image.{gates, variables}
 use Rattle.model.specs.Steps.{Step}
 use Rattle.image.specs.declared.Layout.{Layout}
 use Rattle.record_writer.specs.declared.Position.{Position}

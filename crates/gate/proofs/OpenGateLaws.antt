@@ -1,5 +1,5 @@
 -- The steps of an opened gate: the frame that a call opens it with, and the statements of its body in turn.
-use Prim.Native.Nat.{ℕ, zero, suc, _+_, _-_, _≤_, _<_}
+use Prim.Native.Nat.{ℕ, zero, suc, _+_, _-_, _<_}
 use native.Mathlib.Nat.{add-zero}
 use native.Mathlib.Omega.{arith}
 use mathlib.Core.Path.{_≡_, refl, sym, ap, subst, fun-ext, _∙_}
@@ -9,8 +9,7 @@ use lib.ListN.{take, length-take}
 use Rattle.value.specs.declared.Value.{Value}
 use Rattle.model.specs.Lists.{range}
 use Rattle.model.specs.Image.{Statement, U, CX, Gate, Barrier, Measure, Reset, Conditional, Unknown, statement, statementAt, gates, gateParameters, gateArguments, gateBody, variables, rounds, scopeStatements}
-use Rattle.model.specs.Records.{Record}
-use Rattle.model.specs.Steps.{Frame, Step, write, enter, inRounds, qubitIn, pushFrame, openGate, writeOpaque, visitGate, visitPlain, visitStatement, visitBody, opening}
+use Rattle.model.specs.Steps.{Frame, Step, enter, inRounds, qubitIn, pushFrame, openGate, writeOpaque, visitGate, visitPlain, visitStatement, visitBody, opening}
 use Rattle.model.proofs.All.{all-All}
 use Rattle.model.proofs.Accepted as accepted
 use Rattle.model.specs.Accepted.{Accepted, PlainFacts, Facts, Declared}

@@ -3,20 +3,14 @@ use Prim.Native.Nat.{ℕ, zero, suc, _+_, _≤_, _<_}
 use native.Mathlib.Omega.{arith}
 use mathlib.Core.Path.{_≡_, refl, sym, ap, subst, _∙_}
 use mathlib.Core.Bool.{Bool, true, false}
-use mathlib.Core.List.{List, [], _∷_, flatMap}
+use mathlib.Core.List.{List, [], _∷_}
 use borrow.Author.Tests.{eqb-false}
 use lib.Dec.{T, eqb, eqb→eq}
-use lib.ListN.{take}
 use Rattle.value.specs.declared.Value.{Value}
-use Rattle.value.specs.Value.{Sound}
-use Rattle.model.specs.Lists.{range, largest, all, rising}
-use Rattle.model.specs.Image.{Statement, U, CX, Barrier, Measure, Reset, statementOf, word, statement, statementAt, gateAt, parameterAt, variables, rounds, argumentSize, classicalArgumentSize}
-use Rattle.model.specs.Check.{expressionOk, argumentOk, classicalArgumentOk, matching}
-use Rattle.model.specs.Records.{Record}
-use Rattle.model.specs.Steps.{write, inRounds, withValues, qubitIn, argumentQubits, writeU, writeCX, writeMeasure, writeReset, visitPlain}
-use Rattle.model.specs.Evaluate.{zeroValue}
-use Rattle.model.proofs.All.{All-getD}
-use Rattle.model.specs.All.{nil, cons}
+use Rattle.model.specs.Lists.{range, all}
+use Rattle.model.specs.Image.{Statement, U, CX, Barrier, Measure, Reset, statementOf, word, statement, statementAt, gateAt, parameterAt, variables}
+use Rattle.model.specs.Check.{expressionOk}
+use Rattle.model.specs.Steps.{qubitIn, argumentQubits, writeCX, writeMeasure, writeReset, visitPlain}
 use Rattle.model.proofs.Accepted.{few-parameters}
 use Rattle.model.specs.Accepted.{Accepted, FrameOk, PlainFacts}
 use Rattle.model.proofs.Facts.{no-kind}
@@ -27,10 +21,10 @@ use Rattle.record_writer.specs.declared.Position.{Position}
 use Rattle.record_writer.specs.declared.Linearized.{Linearized}
 use Rattle.statement.specs.declared.Site.{Site}
 use Rattle.statement.specs.declared.Call.{Call}
-use Rattle.record_writer.specs.Promise.{SoundAngles, WroteSteps}
+use Rattle.record_writer.specs.Promise.{WroteSteps}
 use Rattle.argument.specs.Frames.{scopeFrame, ScopeContext, AcceptedArgument, AcceptedArguments}
 use Rattle.statement.specs.Statements.{CXArguments, MeasureArguments, UStatement, uSteps, cxSteps, barrierSteps, measureSteps, resetSteps}
-use Rattle.expression.specs.NamedExpressions.{namedAt, ListedExpressions}
+use Rattle.expression.specs.NamedExpressions.{namedAt}
 use Rattle.gate.specs.PlainStatement.{PlainStatement, IsCall}
 use Rattle.gate.specs.RanSteps.{plainSteps}
 use Rattle.gate.specs.CallStatement.{callOf}

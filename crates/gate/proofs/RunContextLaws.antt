@@ -20,13 +20,12 @@ use Rattle.record_writer.specs.Promise.{InOutput, WroteSteps, SoundAngles}
 use Rattle.record_writer.proofs.WroteStepsLaws.{wrote-open}
 use Rattle.expression.specs.KeptValues.{ConstantsKept, AngleContext}
 use Rattle.argument.specs.Frames.{scopeFrame, RoundQubits}
-use Rattle.statement.specs.declared.Site.{Site}
 use Rattle.statement.specs.declared.Call.{Call}
 use Rattle.statement.specs.Statements.{CallContext, callRounds}
 use Rattle.statement.proofs.LoopedLaws.{Looped}
-use Rattle.kept_body.specs.KeptBodies.{BodiesKept, CalledGate, BodyRun}
+use Rattle.kept_body.specs.KeptBodies.{BodiesKept}
 use Rattle.kept_body.proofs.KeptBodiesLaws.{bodies-later}
-use Rattle.gate.specs.RunContext.{nested, mostTraceWords, StatementContext, RunContext, TraceRoom}
+use Rattle.gate.specs.RunContext.{mostTraceWords, StatementContext, RunContext, TraceRoom}
 use Rattle.gate.specs.PlainStatement.{PlainStatement}
 use Rattle.gate.specs.RanSteps.{RanSteps, plainSteps}
 use Rattle.gate.specs.CallStatement.{CallStatement}

@@ -1,10 +1,9 @@
 -- A body that is copied: to copy its records, or to do nothing where it wrote nothing, is to play its steps.
 use Prim.Native.Nat.{ℕ, _+_, _-_, _*_, _≤_, _<_}
-use native.Mathlib.Nat.{le-of-lt, mul-le-mul}
 use native.Mathlib.Omega.{arith}
 use mathlib.Core.Path.{_≡_, refl, sym, ap, ap₂, subst, _∙_}
 use mathlib.Core.Logic.{_⊎_, inl, inr}
-use mathlib.Core.List.{List, [], _∷_, flatMap}
+use mathlib.Core.List.{List, [], flatMap}
 use mathlib.Core.Bool.{Bool, false}
 use lib.Dec.{T, ltb}
 use borrow.Author.Tests.{ltb-false}
@@ -12,24 +11,23 @@ use lib.ListN.{length, take, drop, length-drop}
 use lib.Seq.{sets, length-take-le, take-take}
 use Rattle.value.specs.declared.Value.{Value}
 use Rattle.model.specs.Limits.{mostArguments}
-use Rattle.model.specs.Image.{gates, gateParameters, gateArguments}
+use Rattle.model.specs.Image.{gateParameters, gateArguments}
 use Rattle.model.specs.Claims.{differ}
-use Rattle.model.specs.Records.{Record, encode}
+use Rattle.model.specs.Records.{encode}
 use Rattle.model.specs.Run.{done, output}
 use Rattle.model.specs.Playing.{OutputState, Plays}
 use Rattle.model.proofs.Accepted.{few-parameters, few-arguments}
 use Rattle.record_writer.specs.declared.Position.{Position}
-use Rattle.record_writer.specs.Promise.{stateAt, WroteSteps, WroteStepsTo}
+use Rattle.record_writer.specs.Promise.{stateAt, WroteStepsTo}
 use Rattle.expression.specs.Angles.{anglesIn}
 use Rattle.statement.specs.declared.Call.{Call}
 use Rattle.copy.specs.Renaming.{renaming}
 use Rattle.copy.specs.CopiedRecord.{renamedQubit}
 use Rattle.copy.specs.CopiedRecords.{RecordsCopied}
-use Rattle.copy.specs.BodyKept.{bodySteps, BodyKept}
+use Rattle.copy.specs.BodyKept.{bodySteps}
 use Rattle.copy.proofs.Renamed.{Levels}
 use Rattle.copy.proofs.BodyKeptLaws.{distinct-formals, renamed-shorter, keptRecords, copiedPlace, kept-copies, kept-silent}
 use Rattle.copy.proofs.CopiedRecordsLaws.{copied-once}
-use Rattle.kept_body.specs.declared.BodyCopy.{BodyCopy}
 use Rattle.kept_body.specs.declared.BodyCopy.the-variants as bodyCopy
 use Rattle.kept_body.specs.Slot.{slotNeed, slotWidth, slotOf, slotLevels, slotStart, slotWords, slotRecords, slotQubits, slotAngles, OpenedAlike, SameBody, SlotStands}
 use Rattle.kept_body.specs.KeptBodies.{SlotKept, BodiesKept, CalledGate, calledSteps, SlotGiven, CopyGiven, BodyCopied}
@@ -101,10 +99,6 @@ lentSlot table g = take (1 + slotWidth table * g + slotWidth table - (1 + slotWi
 
 pub lent-slot : (table : List ℕ) (g : ℕ) → lentSlot table g ≡ slotOf table g
 lent-slot table g = let e : 1 + slotWidth table * g + slotWidth table - (1 + slotWidth table * g) ≡ slotWidth table = omega arith in ap (λ (n : ℕ). take n (drop (1 + slotWidth table * g) table)) e
-
--- its place in the table
-pub slot-near : {table qubits : List ℕ} {call : Call} → SlotGiven table call qubits → slotWidth table * call .gate ≤ 14848
-slot-near g = omega (arith, mul-le-mul (g .narrow) (le-of-lt (g .few-gates)))
 
 pub slot-whole : {table slot qubits : List ℕ} {call : Call} → SlotGiven table call qubits → slot ≡ slotOf table (call .gate) → length slot ≡ slotWidth table
 slot-whole {table} {call = call} g e = ap length e ∙ length-take-le (slotWidth table) (drop (1 + slotWidth table * call .gate) table) (omega (arith, length-drop (1 + slotWidth table * call .gate) table, g .room))

@@ -1,42 +1,37 @@
 -- The table of kept bodies: when a body is put into its slot, what is written later, and what a slot says of a later call.
-use Prim.Native.Nat.{ℕ, zero, suc, _+_, _-_, _*_, _≤_, _<_}
+use Prim.Native.Nat.{ℕ, _+_, _-_, _*_, _≤_, _<_}
 use native.Mathlib.Nat.{mul-suc, mul-le-mul-left}
 use native.Mathlib.Omega.{arith}
 use mathlib.Core.Path.{_≡_, refl, sym, ap, ap₂, subst, _∙_}
-use mathlib.Core.Logic.{_⊎_, inl, inr}
 use mathlib.Core.Bool.{Bool, true, false}
-use mathlib.Core.List.{List, [], _∷_, _++_, map}
+use mathlib.Core.List.{List, [], _++_}
 use lib.Dec.{T, eqb, ltb}
 use borrow.Author.Tests.{eqb-true, eqb-false, ltb-true, ltb-false}
 use borrow.Rule.Slice.PartMut.{putMid, postOf, same-len-mid, mid-len, take-put, drop-put}
 use lib.ListN.{length, getD, set, take, drop, length-set, replicate, length-replicate, getD-replicate}
-use lib.Seq.{sets, length-sets, length-take-le, take-at, drop-at, take-take, drop-drop, getD-take, getD-drop, getD-set-same, getD-set-other, ext-getD}
+use lib.Seq.{length-take-le, take-at, drop-at, take-take, drop-drop, getD-take, getD-drop, getD-set-same, getD-set-other, ext-getD}
 use Rattle.rational.specs.declared.Rational64.{Rational64}
-use Rattle.value.specs.declared.Value.{Value}
 use Rattle.model.specs.Image.{gates, gateParameters, gateArguments}
 use Rattle.model.specs.Accepted.{Accepted}
 use Rattle.model.specs.Claims.{differ}
 use Rattle.model.specs.Evaluate.{zeroValue}
-use Rattle.model.specs.Records.{Record, encode}
-use Rattle.model.specs.Run.{Answer, done, play, output}
+use Rattle.model.specs.Run.{Answer, play, output}
 use Rattle.model.specs.Playing.{OutputState, room, Plays}
 use Rattle.model.specs.Steps.{Step}
 use Rattle.model.proofs.ListLaws.{drop-take}
 use Rattle.model.proofs.Accepted.{few-parameters}
 use Rattle.record_writer.specs.declared.Position.{Position}
 use Rattle.record_writer.specs.declared.Linearized.the-variants as linearized
-use Rattle.record_writer.specs.Promise.{stateAt, WroteSteps, WroteStepsTo}
 use Rattle.expression.specs.Angles.{fractionAt, valueAt, anglesIn}
 use Rattle.expression.proofs.AnglesLaws.{angle-at, sixteen}
 use Rattle.statement.specs.declared.Call.{Call}
-use Rattle.copy.specs.BodyKept.{bodyFrame, BodyKept}
 use Rattle.model.proofs.ReadBack.{words-enough}
 use Rattle.model.specs.All.{All}
 use Rattle.copy.specs.BodyRecord.{BodyRecord}
 use Rattle.copy.proofs.BodyRecords.{openings-bodily, bodily-plays}
 use Rattle.copy.proofs.BodyKeptLaws.{keptRecords, kept-later, kept-new}
-use Rattle.kept_body.specs.Slot.{slotWidth, slotOf, WideEnough, slotLevels, slotStart, slotWords, slotRecords, slotQubits, slotAngles, SameAngles, SlotStands, SlotFilled}
-use Rattle.kept_body.specs.KeptBodies.{SlotKept, BodiesKept, CalledGate, BodyRun}
+use Rattle.kept_body.specs.Slot.{slotWidth, slotOf, WideEnough, slotLevels, slotQubits, slotAngles, SameAngles, SlotStands, SlotFilled}
+use Rattle.kept_body.specs.KeptBodies.{SlotKept, BodiesKept, BodyRun}
 
 -- ---- slots of a table in which one was put anew
 

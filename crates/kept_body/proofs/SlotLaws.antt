@@ -1,33 +1,27 @@
 -- What the words of a slot say: its angles, and what it holds when it was filled.
 use Prim.Native.Nat.{ℕ, suc, _+_, _*_, _≤_, _<_, max}
-use native.Mathlib.Nat.{zero-add, add-zero, not-suc-le-zero, eq-or-lt-of-le, max-le, le-max-left, le-max-right}
+use native.Mathlib.Nat.{zero-add, not-suc-le-zero, eq-or-lt-of-le, max-le, le-max-left, le-max-right}
 use native.Mathlib.Omega.{arith}
-use mathlib.Core.Path.{_≡_, refl, sym, ap, ap₂, subst, _∙_}
+use mathlib.Core.Path.{_≡_, refl, sym, ap, subst, _∙_}
 use mathlib.Core.Logic.{_⊎_, inl, inr}
-use mathlib.Core.Bool.{Bool, true, false}
-use mathlib.Core.List.{List, [], _∷_, _++_, map, map-append}
-use mathlib.Core.Option.{none}
+use mathlib.Core.List.{List, [], _∷_, map, map-append}
 use lib.Dec.{T}
 use lib.ListN.{length, getD, set, take, drop, length-set, length-map}
 use lib.Seq.{sets, length-sets, ext-getD, getD-take, getD-drop, getD-set-same, getD-set-other, length-take-le}
-use Rattle.value.specs.declared.Value.{Value}
 use Rattle.model.specs.Image.{word, gateAt, gates, gateParameters, gateArguments}
 use Rattle.model.specs.Accepted.{Accepted}
 use Rattle.model.proofs.Accepted.{few-parameters, few-arguments}
 use Rattle.model.specs.Lists.{range}
 use Rattle.model.specs.Claims.{differ}
-use Rattle.model.specs.Evaluate.{zeroValue}
 use Rattle.model.proofs.ListLaws.{entry-of-map}
 use Rattle.model.proofs.SetsLaws.{put-more, range-more}
 use Rattle.model.proofs.Lengths.{length-range}
 use Rattle.model.proofs.StepsSound.{no-overlap}
-use Rattle.expression.specs.Angles.{fractionAt, valueAt, anglesIn}
-use Rattle.expression.proofs.AnglesLaws.{angle-at, sixteen}
 use Rattle.statement.specs.declared.Overlap.the-variants as overlapping
 use Rattle.statement.specs.Statements.{Overlaps}
 use Rattle.copy.proofs.BodyKeptLaws.{part-new}
 use Rattle.statement.specs.declared.Call.{Call}
-use Rattle.kept_body.specs.Slot.{slotNeed, mostSlotWords, WideEnough, slotLevels, slotStart, slotWords, slotRecords, slotQubits, SameAngles, firstWords, SlotFilled}
+use Rattle.kept_body.specs.Slot.{slotNeed, mostSlotWords, WideEnough, SameAngles, firstWords, SlotFilled}
 
 -- ---- angles
 

@@ -3,7 +3,7 @@ use Prim.Native.Nat.{ℕ, _+_, _*_, _≤_, _<_}
 use mathlib.Core.Path.{_≡_}
 use mathlib.Core.Logic.{_⊎_}
 use mathlib.Core.List.{List, map}
-use lib.ListN.{length, getD, take, drop}
+use lib.ListN.{getD, take, drop}
 use Rattle.value.specs.declared.Value.{Value}
 use Rattle.model.specs.Image.{gates, gateParameters, gateArguments}
 use Rattle.model.specs.Lists.{range}

@@ -229,11 +229,11 @@ fn put_body(
 
 // Whether a body that wrote so many words with these qubits may be copied for others: with a qubit twice it may do something else than with two
 // different ones. One that wrote nothing does so with any qubits.
-fn may_be_copied(words: u64, qubits: &[u64; image::FRAME_QUBITS], n: u64) -> bool
+fn may_be_copied(written: u64, qubits: &[u64; image::FRAME_QUBITS], n: u64) -> bool
     requires { ⌜ QubitsGiven (now qubits) n ⌝ }
-    ensures { λ r. ⌜ (r ≡ true → ¬ (words ≡ 0) → T (differ (take n (now (qubits .entry))))) ⌝ }
+    ensures { λ r. ⌜ (r ≡ true → ¬ (written ≡ 0) → T (differ (take n (now (qubits .entry))))) ⌝ }
 {
-    if words == 0 {
+    if written == 0 {
         return true;
     }
     are_distinct(qubits, n)

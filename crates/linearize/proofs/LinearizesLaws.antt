@@ -3,7 +3,7 @@ use Prim.Native.Nat.{ℕ, _+_, _≤_, _<_}
 use native.Mathlib.Nat.{zero-add}
 use native.Mathlib.Omega.{arith}
 use mathlib.Core.Path.{_≡_, refl, sym, ap, ap₂, subst, _∙_}
-use mathlib.Core.List.{List, [], _∷_, _++_, flatMap}
+use mathlib.Core.List.{List, _++_, flatMap}
 use borrow.Author.Tests.{le-ltb, lt-ltb}
 use lib.ListN.{length, take, drop}
 use lib.Seq.{sets-eq, take-append-seam}

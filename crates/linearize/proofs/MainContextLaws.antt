@@ -1,33 +1,28 @@
 -- What is known where the main statements are run, and their steps: conditionals, the statements in turn, and the head before them.
 use Prim.Native.Nat.{ℕ, _+_, _-_, _≤_, _<_, zero-le}
-use native.Mathlib.Nat.{zero-add, add-zero}
+use native.Mathlib.Nat.{zero-add}
 use native.Mathlib.Omega.{arith}
-use mathlib.Core.Path.{_≡_, refl, sym, ap, ap₂, subst, _∙_}
-use mathlib.Core.List.{List, [], _∷_, _++_, map}
+use mathlib.Core.Path.{_≡_, refl, sym, ap, subst, _∙_}
+use mathlib.Core.List.{List, [], _∷_, _++_}
 use borrow.Author.Tests.{eq-eqb, ne-eqb}
 use lib.ListN.{length, getD, drop, length-drop}
 use lib.Seq.{getD-drop}
 use Rattle.value.specs.declared.Value.{Value}
-use Rattle.model.specs.Lists.{range, sum}
-use Rattle.model.specs.Image.{Conditional, word, quantumRegisters, quantumSize, firstQubit, statement, statementAt, mainStatements, classicalRegisters, classicalSize, firstBit, variables, scopeStatements, quantumRegisterAt, classicalRegisterAt}
+use Rattle.model.specs.Image.{Conditional, word, quantumRegisters, statement, statementAt, mainStatements, classicalSize, firstBit, variables, scopeStatements, classicalRegisterAt}
 use Rattle.model.specs.Records.{Record}
 use Rattle.model.specs.Steps.{Step, write, inRounds, visitPlain, visitConditional, visitStatement, visitBody, opening, mainFrame, headRecord, steps}
 use Rattle.model.proofs.Facts.{run-facts}
-use Rattle.model.specs.Accepted.{PlainFacts, Facts, Accepted}
-use Rattle.model.specs.Run.{play}
-use Rattle.model.proofs.PlayLaws.{plays-stop}
+use Rattle.model.specs.Accepted.{PlainFacts, Facts}
 use Rattle.image.specs.declared.Layout.{Layout}
-use Rattle.image.specs.Layout.{LayoutOf, PlaceIs}
 use Rattle.image.specs.RegisterStarts.{RegistersFit}
 use Rattle.record_writer.specs.declared.Linearized.{Linearized}
 use Rattle.record_writer.specs.declared.Linearized.the-variants as linearized
 use Rattle.record_writer.proofs.WroteStepsLaws.{wrote-open}
 use Rattle.model.proofs.StatementOfLaws.{if-at, plain-facts-at}
-use Rattle.argument.specs.Frames.{scopeFrame, scopeQubits, ScopeContext, BitContext}
+use Rattle.argument.specs.Frames.{scopeFrame, scopeQubits, BitContext}
 use Rattle.expression.specs.KeptValues.{ConstantsKept}
-use Rattle.expression.proofs.AnglesLaws.{zeros-sound}
 use Rattle.record_writer.specs.declared.Position.{Position}
-use Rattle.record_writer.specs.Promise.{InOutput, WroteSteps}
+use Rattle.record_writer.specs.Promise.{WroteSteps}
 use Rattle.kept_body.specs.KeptBodies.{BodiesKept}
 use Rattle.gate.specs.RunContext.{RunContext}
 use Rattle.gate.specs.PlainStatement.{PlainStatement}

@@ -8,7 +8,6 @@ use record_writer::Position;
 use statement::Site;
 ghost use mathlib.Core.Path.{_≡_};
 ghost use Prim.Native.Nat.{_+_, _-_, _*_, _≤_};
-ghost use lib.ListN.{length};
 ghost use Rattle.model.specs.Steps.{steps};
 ghost use Rattle.image_check.specs.Statements.{fewExpressions};
 ghost use Rattle.expression.specs.KeptValues.{ConstantsKept};

@@ -5,7 +5,7 @@ use lib.ListN.{length}
 use borrow.Author.Needs.{needs}
 use borrow.Author.Tests.{not-false}
 use denote.Ref.{now}
-use Rattle.kept_body.proofs.BodyCopiedLaws.{lentSlot, lent-slot, slot-near, slot-whole, slot-wide, qubits-behind, room-left, stands-in-slot, kept-in-slot, written-few, silent-copied, records-copied, not-kept, was-copied}
+use Rattle.kept_body.proofs.BodyCopiedLaws.{lentSlot, lent-slot, slot-wide, qubits-behind, room-left, stands-in-slot, kept-in-slot, written-few, silent-copied, records-copied, not-kept, was-copied}
 use borrow.Author.Needs.{needs}
 use Rattle.kept_body.proofs.copy_body.Statement.{statement}
 use Rattle.kept_body.proofs.copy_body.Tie as tie

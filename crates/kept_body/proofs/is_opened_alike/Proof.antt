@@ -3,9 +3,7 @@ use mathlib.Core.Path.{_≡_}
 use Prim.Native.Nat.{ℕ}
 use native.Mathlib.Omega.{arith}
 use mathlib.Core.Logic.{inl, inr}
-use lib.Dec.{ltb}
 use borrow.Author.Tests.{ltb-true}
-use borrow.Author.Needs.{needs}
 use Rattle.kept_body.proofs.is_opened_alike.Statement.{statement}
 use Rattle.kept_body.proofs.is_opened_alike.Tie as tie
 use Rattle.kept_body.proofs.is_opened_alike.Reads as reads

@@ -1,11 +1,10 @@
 -- A body that may be copied is put into the slot of its gate, and the other slots stay.
-use native.Mathlib.Omega.{arith}
 use mathlib.Core.Path.{_∙_}
 use denote.Ref.{now}
 use borrow.Author.Needs.{needs}
 use borrow.Author.Tests.{not-false}
 use Rattle.kept_body.proofs.KeptBodiesLaws.{bodies-put}
-use Rattle.kept_body.proofs.BodyCopiedLaws.{lent-slot, slot-near, slot-whole, slot-wide}
+use Rattle.kept_body.proofs.BodyCopiedLaws.{lent-slot, slot-whole}
 use borrow.Author.Needs.{needs}
 use Rattle.kept_body.proofs.keep_body.Statement.{statement}
 use Rattle.kept_body.proofs.keep_body.Tie as tie

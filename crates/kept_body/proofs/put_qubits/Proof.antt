@@ -3,7 +3,6 @@ use Prim.Native.Nat.{ℕ, _-_, _≤_}
 use native.Mathlib.Omega.{arith}
 use native.Mathlib.Nat.{le-antisymm}
 use mathlib.Core.Path.{_≡_, refl, ap, _∙_}
-use mathlib.Core.List.{List}
 use lib.ListN.{length, take, length-set}
 use lib.Seq.{sets}
 use denote.Ref.{now}

@@ -3,7 +3,7 @@ use mathlib.Core.Path.{_≡_}
 use Prim.Native.Nat.{ℕ}
 use Prim.Native.Nat.{_-_, _≤_}
 use native.Mathlib.Omega.{arith}
-use native.Mathlib.Nat.{le-antisymm, not-suc-le-zero}
+use native.Mathlib.Nat.{le-antisymm}
 use mathlib.Core.Path.{subst}
 use denote.Ref.{now}
 use Rattle.kept_body.specs.Slot.{SameAngles}

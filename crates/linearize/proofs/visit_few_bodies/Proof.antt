@@ -1,9 +1,6 @@
 -- The short room is enough for the slots of the image, and nothing is kept at first.
-use native.Mathlib.Omega.{arith}
 use borrow.Author.Needs.{needs}
 use denote.Ref.{now}
-use mathlib.Core.Path.{ap}
-use Prim.Native.Nat.{_*_}
 use Rattle.kept_body.proofs.KeptBodiesLaws.{no-bodies}
 use borrow.Author.Needs.{needs}
 use Rattle.linearize.proofs.visit_few_bodies.Statement.{statement}
