@@ -16,9 +16,9 @@
  *   - The answer, the output and the trace are written. They must not overlap each other or the image, not even
  *     where lengths are such that nothing is written. The image is only read.
  *   - The answer has as many words as stated below, all of which are written.
- *   - A run has up to 1.4 MiB of stack: 0.45 MiB, and 7.5 KiB for each gate call that it is in, at most 128 of them
- *     (STACK-TODO). Check and tally have less than 0.1 MiB. (Measured with the kit that README.md names. The main thread
- *     and a thread of 2 MiB are large enough.)
+ *   - A run has up to 1.3 MiB of stack: 0.35 MiB, and 7.7 KiB for each gate call that it is in, at most 128 of them. Check
+ *     and tally have less than 0.1 MiB. (Measured with the kit that README.md names. The main thread and a thread of
+ *     2 MiB are large enough.)
  *   - A run may be long and is not refused for it: document 01 has no number for that. Its time grows with the words
  *     that it writes, unless gate bodies write nothing and are called with other angles than the time before, as in
  *     g(x) { h(x/2); h(x+1); }: then each call runs a body, and every such gate doubles their number. No more bodies are

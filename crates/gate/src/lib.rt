@@ -429,7 +429,7 @@ fn open_gate(
     expression::put_frame_angles(values, call.parameters, &mut angles);
     match kept_body::copy_body(kept_bodies, call, &angles, &qubits, out, at) {
         BodyCopy::Copied(next) => Linearized::Done(next),
-        BodyCopy::NotKept => visit_body(
+        BodyCopy::NotCopied => visit_body(
             image,
             l,
             register_starts,

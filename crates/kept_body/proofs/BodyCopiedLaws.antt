@@ -130,8 +130,8 @@ written-few r {out} {from} {words} v h =
 -- ---- the answer
 
 module _ {image : List ℕ} {call : Call} {angles : List Value} {qubits out : List ℕ} {at : Position} where
-  pub not-kept : BodyCopied image call angles qubits out at bodyCopy.NotKept out
-  not-kept = record { wrote = λ next e. absurd (let z : _≡_ {A = ℕ} 0 1 = cc in omega arith); untouched = λ e. refl }
+  pub not-copied : BodyCopied image call angles qubits out at bodyCopy.NotCopied out
+  not-copied = record { wrote = λ next e. absurd (let z : _≡_ {A = ℕ} 0 1 = cc in omega arith); untouched = λ e. refl }
 
   pub was-copied : {next : Position} {out′ : List ℕ} → WroteStepsTo (calledSteps image call angles qubits) out at next out′ → BodyCopied image call angles qubits out at (bodyCopy.Copied next) out′
   was-copied {next} {out′} w = record { wrote = λ p e. subst (λ (q : Position). WroteStepsTo (calledSteps image call angles qubits) out at q out′) (which e) w; untouched = λ e. absurd (let z : _≡_ {A = ℕ} 0 1 = cc in omega arith) }

@@ -58,7 +58,7 @@ pub record CopyGiven (table out : List ℕ) (call : Call) (qubits : List ℕ) (a
 -- a body was copied, and to do so was to play its steps; or it was not, and nothing was written
 pub record BodyCopied (image : List ℕ) (call : Call) (angles : List Value) (qubits out : List ℕ) (at : Position) (r : BodyCopy) (out′ : List ℕ) : Type 0 where
   pub wrote : (next : Position) → r ≡ bodyCopy.Copied next → WroteStepsTo (calledSteps image call angles qubits) out at next out′
-  pub untouched : r ≡ bodyCopy.NotKept → out′ ≡ out
+  pub untouched : r ≡ bodyCopy.NotCopied → out′ ≡ out
 
 -- the body of a call was run to its end between two positions
 pub record BodyRun (image : List ℕ) (call : Call) (angles : List Value) (qubits out : List ℕ) (at next : Position) (out′ : List ℕ) : Type 0 where

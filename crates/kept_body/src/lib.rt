@@ -29,7 +29,7 @@ pub const MOST_SLOT_WORDS: usize = ANGLES_AT + expression::FRAME_ANGLE_WORDS + i
 // Whether a body was copied, and where the run stands then.
 pub enum BodyCopy {
     Copied(Position),
-    NotKept,
+    NotCopied,
 }
 
 // ---- the width of slots
@@ -57,14 +57,14 @@ pub fn slot_width(image: &[u64], l: Layout) -> u64
 
 // Whether a body that was opened with some levels left, and wrote some words, does the same with those of a call: there are as many, or every
 // call in it is opened in both, since a gate calls gates of smaller number; one that wrote nothing does so with more levels, too.
-fn is_opened_alike(levels: u64, words: u64, call: Call) -> bool
-    ensures { λ r. ⌜ (r ≡ true → OpenedAlike (call .gate) levels (call .site .«levels_left») words) ⌝ }
+fn is_opened_alike(levels: u64, body_words: u64, call: Call) -> bool
+    ensures { λ r. ⌜ (r ≡ true → OpenedAlike (call .gate) levels (call .site .«levels_left») «body_words») ⌝ }
 {
     let levels_left = call.site.levels_left;
     if levels == levels_left {
         return true;
     }
-    if words == 0 {
+    if body_words == 0 {
         if levels <= levels_left {
             return true;
         }
@@ -144,17 +144,17 @@ pub fn copy_body(
     let end = first + width;
     let slot = &kept_bodies[first..end];
     if !is_same_body(slot, call, angles) {
-        return BodyCopy::NotKept;
+        return BodyCopy::NotCopied;
     }
     let words = slot[2] as usize;
     if words == 0 {
         return BodyCopy::Copied(at);
     }
     if record_writer::is_full(out, at, words) {
-        return BodyCopy::NotKept;
+        return BodyCopy::NotCopied;
     }
     if !are_distinct(qubits, call.arguments) {
-        return BodyCopy::NotKept;
+        return BodyCopy::NotCopied;
     }
     let behind_angles = ANGLES_AT + (expression::VALUE_WORDS * call.parameters) as usize;
     let written = copy::copy_records(

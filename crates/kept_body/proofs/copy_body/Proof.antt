@@ -5,7 +5,7 @@ use lib.ListN.{length}
 use borrow.Author.Needs.{needs}
 use borrow.Author.Tests.{not-false}
 use denote.Ref.{now}
-use Rattle.kept_body.proofs.BodyCopiedLaws.{lentSlot, lent-slot, slot-wide, qubits-behind, room-left, stands-in-slot, kept-in-slot, written-few, silent-copied, records-copied, not-kept, was-copied}
+use Rattle.kept_body.proofs.BodyCopiedLaws.{lentSlot, lent-slot, slot-wide, qubits-behind, room-left, stands-in-slot, kept-in-slot, written-few, silent-copied, records-copied, not-copied, was-copied}
 use borrow.Author.Needs.{needs}
 use Rattle.kept_body.proofs.copy_body.Statement.{statement}
 use Rattle.kept_body.proofs.copy_body.Tie as tie
@@ -44,7 +44,7 @@ is-same-body-requires : tie.Need-is-same-body-requires
 is-same-body-requires c κs = search needs
 
 returns : tie.Need-returns
-returns c = λ image _ _. not-kept
+returns c = λ image _ _. not-copied
 
 shared-slice-read-words : tie.Need-shared-slice-read-words
 shared-slice-read-words c = search needs
@@ -65,7 +65,7 @@ same-length : tie.Need-same-length
 same-length c = search needs
 
 returns-3 : tie.Need-returns-3
-returns-3 c = λ image _ _. not-kept
+returns-3 c = λ image _ _. not-copied
 
 are-distinct-requires : tie.Need-are-distinct-requires
 are-distinct-requires c κs = search needs
@@ -74,7 +74,7 @@ same-length-2 : tie.Need-same-length-2
 same-length-2 c = search needs
 
 returns-4 : tie.Need-returns-4
-returns-4 c = λ image _ _. not-kept
+returns-4 c = λ image _ _. not-copied
 
 mul-behind-angles : tie.Need-mul-behind-angles
 mul-behind-angles c = search needs
