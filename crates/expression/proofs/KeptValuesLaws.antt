@@ -41,11 +41,12 @@ pub kept-constant : (image t : List ℕ) (e : ℕ) → ConstantsKept image t →
 kept-constant image t e f h m xs ys = f .each e h m xs ∙ sym (f .each e h m ys)
 
 module _ (image : List ℕ) (angles : List Value) where
-  pub keeps-none : (t : List ℕ) → expressions image ≤ 2727 → ConstantsKept image t → ValuesKept image angles (replicate 2727 false) t
-  keeps-none t few f = record { constants = f; each = λ e l k. absurd (none e l k); sound = λ e l k. absurd (none e l k) }
+  -- nothing is known where no entry is marked
+  pub keeps-none : (n : ℕ) (t : List ℕ) → expressions image ≤ n → ConstantsKept image t → ValuesKept image angles (replicate n false) t
+  keeps-none n t few f = record { constants = f; marks = subst (λ (k : ℕ). expressions image ≤ k) (sym (length-replicate n false)) few; each = λ e l k. absurd (none e l k); sound = λ e l k. absurd (none e l k) }
     where
-      none : (e : ℕ) → e < expressions image → getD (replicate 2727 false) e false ≡ true → ⊥
-      none e l k = subst T (sym (sym (getD-replicate 2727 e false false (omega arith)) ∙ k)) tt
+      none : (e : ℕ) → e < expressions image → getD (replicate n false) e false ≡ true → ⊥
+      none e l k = subst T (sym (sym (getD-replicate n e false false (omega arith)) ∙ k)) tt
 
   -- a value that is known, or a constant's, is an entry's
   pub known-value : (known : List Bool) (t : List ℕ) (e : ℕ) (x : Value) → ValuesKept image angles known t → e < expressions image → getD known e false ≡ true → x ≡ keptAt t e → EvaluatesTo (evaluate image angles 32 e) (evaluation.Value x)
@@ -60,6 +61,7 @@ module _ (image : List ℕ) (angles : List Value) where
     keeps-more x known′ t′ r k v q s =
         record {
           constants = record { room = subst (λ (n : ℕ). 7 * expressions image ≤ n) (sym (s .same)) (k .constants .room); each = λ i l m. constant i l m (eqb i e) refl .0; sound = λ i l m. constant i l m (eqb i e) refl .1 };
+          marks = subst (λ (n : ℕ). expressions image ≤ n) (sym (ap length (s .marked) ∙ length-set known e true)) (k .marks);
           each = λ i l m. known-now i l m (eqb i e) refl .0;
           sound = λ i l m. known-now i l m (eqb i e) refl .1;
         }
@@ -95,6 +97,7 @@ module _ (image : List ℕ) (angles : List Value) where
     keeps-constant x k v q c =
         record {
           constants = record { room = subst (λ (n : ℕ). 7 * expressions image ≤ n) (sym (length-set t (7 * e) 1)) (k .constants .room); each = λ i l m. constant i l m (eqb i e) refl .0; sound = λ i l m. constant i l m (eqb i e) refl .1 };
+          marks = k .marks;
           each = λ i l m. k .each i l m ∙ ap evaluation.Value (sym (unchanged i));
           sound = λ i l m. rw (unchanged i) (k .sound i l m);
         }

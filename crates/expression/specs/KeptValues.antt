@@ -37,9 +37,10 @@ pub record ConstantsKept (image kept : List ℕ) : Type 0 where
   pub each : (e : ℕ) → e < expressions image → constantAt kept e ≡ 1 → (xs : List Value) → evaluate image xs mostLevels e ≡ evaluation.Value (keptAt kept e)
   pub sound : (e : ℕ) → e < expressions image → constantAt kept e ≡ 1 → Sound (keptAt kept e)
 
--- what is marked as known has its value with the parameters at hand
+-- what is marked as known has its value with the parameters at hand, and there is a mark for each entry
 pub record ValuesKept (image : List ℕ) (angles : List Value) (known : List Bool) (kept : List ℕ) : Type 0 where
   pub constants : ConstantsKept image kept
+  pub marks : expressions image ≤ length known
   pub each : (e : ℕ) → e < expressions image → getD known e false ≡ true → evaluate image angles mostLevels e ≡ evaluation.Value (keptAt kept e)
   pub sound : (e : ℕ) → e < expressions image → getD known e false ≡ true → Sound (keptAt kept e)
 

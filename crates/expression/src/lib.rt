@@ -16,11 +16,11 @@ ghost use Rattle.value.specs.Promise.{EvaluatesTo, SoundEvaluation};
 ghost use Rattle.value.specs.declared.Value.{Value};
 ghost use mathlib.Core.List.{List};
 ghost use Rattle.model.specs.Evaluate.{evaluate, zeroValue};
-ghost use Rattle.model.specs.Image.{expressionAt};
+ghost use Rattle.model.specs.Image.{expressions, expressionAt};
 ghost use Rattle.model.specs.Steps.{parameterValues};
 ghost use Rattle.record_writer.specs.Promise.{SoundAngles, AnglesGiven};
-ghost use Rattle.model.specs.Limits.{mostParameters, mostLevels, mostExpressions};
-ghost use Rattle.image.specs.Layout.{WithinLimits, Small, LayoutOf};
+ghost use Rattle.model.specs.Limits.{mostParameters, mostLevels};
+ghost use Rattle.image.specs.Layout.{fewExpressions, WithinLimits, Small, LayoutOf};
 ghost use Rattle.expression.specs.Angles.{denominatorOf, fractionAt, signWord, putFraction, valueAt, putValue, valueWords, AngleWords, anglesIn};
 ghost use Rattle.expression.specs.KeptValues.{keptValueWords, Constant, ConstantsKept, ValueStored, ValuesKept, AngleContext, Evaluated};
 ghost use Rattle.expression.specs.Operands.{BinaryResult, UnaryResult, NullaryResult, AcceptedExpression, NoValue, RefusalOf, RefusedAt, ParametersGiven};
@@ -160,13 +160,8 @@ fn unary(kind: u64, x: Value) -> Evaluation
 // ---- values that are kept: a constant is worked out once in a run, any other operand once in an expression
 
 // Keeps a value as that of an entry, which is known from then on.
-fn keep_value(
-    known: &mut [bool; image::MOST_EXPRESSIONS],
-    kept_values: &mut [u64],
-    e: u64,
-    x: Value,
-)
-    requires { ⌜ (e < mostExpressions) × (keptValueWords * e + valueWords < length (now «kept_values»)) × Sound x ⌝ }
+fn keep_value(known: &mut [bool], kept_values: &mut [u64], e: u64, x: Value)
+    requires { ⌜ (e < length (now known)) × (keptValueWords * e + valueWords < length (now «kept_values»)) × Sound x ⌝ }
     ensures { λ r. ⌜ ValueStored (now (known .entry)) (now («kept_values» .entry)) e x (now (known .exit)) (now («kept_values» .exit)) ⌝ }
 {
     put_value(kept_values, KEPT_VALUE_WORDS * e + 1, x);
@@ -199,12 +194,18 @@ fn is_constant(image: &[u64], l: Layout, kept_values: &[u64], e: u64) -> bool
 fn keep_evaluation(
     image: &[u64],
     l: Layout,
-    known: &mut [bool; image::MOST_EXPRESSIONS],
+    known: &mut [bool],
     kept_values: &mut [u64],
     e: u64,
     r: Evaluation,
 ) -> Evaluation
-    requires { ⌜ LayoutOf (now image) l × AcceptedExpression (now image) e × ConstantsKept (now image) (now «kept_values») × SoundEvaluation r ⌝ }
+    requires { ⌜
+        LayoutOf (now image) l
+        × AcceptedExpression (now image) e
+        × ConstantsKept (now image) (now «kept_values»)
+        × SoundEvaluation r
+        × (expressions (now image) ≤ length (now known))
+        ⌝ }
     ensures { λ answer. ⌜
         ((angles : List Value)
         → Evaluated (now (image .entry)) angles e r (now (known .entry)) (now («kept_values» .entry))
@@ -227,7 +228,7 @@ fn evaluate(
     image: &[u64],
     l: Layout,
     angles: &[u64; FRAME_ANGLE_WORDS],
-    known: &mut [bool; image::MOST_EXPRESSIONS],
+    known: &mut [bool],
     kept_values: &mut [u64],
     e: u64,
 ) -> Evaluation
@@ -266,8 +267,27 @@ fn evaluate(
     keep_evaluation(image, l, known, kept_values, e, binary(kind, x, y))
 }
 
-// The angle of an expression that is worked out entry by entry, where no value is known but those of constants.
-fn evaluate_entries(
+// The angle of an expression of a program with few expressions, worked out entry by entry.
+fn evaluate_few_expressions(
+    image: &[u64],
+    l: Layout,
+    angles: &[u64; FRAME_ANGLE_WORDS],
+    kept_values: &mut [u64],
+    e: u64,
+) -> Evaluation
+    requires { ⌜
+        AngleContext (now image) l (anglesIn (now angles)) (now «kept_values»)
+        × AcceptedExpression (now image) e
+        × (l .expressions ≤ fewExpressions)
+        ⌝ }
+    ensures { λ r. ⌜ EvaluatesTo (evaluate (now (image .entry)) (anglesIn (now (angles .entry))) mostLevels e) r × ConstantsKept (now (image .entry)) (now («kept_values» .exit)) ⌝ }
+{
+    let mut known = [false; image::FEW_EXPRESSIONS];
+    evaluate(image, l, angles, &mut known, kept_values, e)
+}
+
+// The angle of an expression, worked out entry by entry, with marks for as many expressions as an image may have.
+fn evaluate_many_expressions(
     image: &[u64],
     l: Layout,
     angles: &[u64; FRAME_ANGLE_WORDS],
@@ -279,6 +299,23 @@ fn evaluate_entries(
 {
     let mut known = [false; image::MOST_EXPRESSIONS];
     evaluate(image, l, angles, &mut known, kept_values, e)
+}
+
+// The angle of an expression that is worked out entry by entry, where no value is known but those of constants.
+fn evaluate_entries(
+    image: &[u64],
+    l: Layout,
+    angles: &[u64; FRAME_ANGLE_WORDS],
+    kept_values: &mut [u64],
+    e: u64,
+) -> Evaluation
+    requires { ⌜ AngleContext (now image) l (anglesIn (now angles)) (now «kept_values») × AcceptedExpression (now image) e ⌝ }
+    ensures { λ r. ⌜ EvaluatesTo (evaluate (now (image .entry)) (anglesIn (now (angles .entry))) mostLevels e) r × ConstantsKept (now (image .entry)) (now («kept_values» .exit)) ⌝ }
+{
+    if l.expressions <= image::FEW_EXPRESSIONS as u64 {
+        return evaluate_few_expressions(image, l, angles, kept_values, e);
+    }
+    evaluate_many_expressions(image, l, angles, kept_values, e)
 }
 
 // The angle of an expression where no value is known but those of constants. A constant, and a parameter alone, are read straight away.

@@ -20,6 +20,10 @@ contentsWith l =
     0 ∷ l .«quantum_registers» ∷ l .«classical_registers» ∷ l .gates ∷ l .statements ∷ 0
     ∷ l .arguments ∷ l .parameters ∷ l .expressions ∷ []
 
+-- the most expressions of a program that has few
+abbrev pub fewExpressions : ℕ
+fewExpressions = 128
+
 -- a number so small that no place worked out from it wraps
 abbrev pub Small : ℕ → Type 0
 Small n = n ≤ 262144

@@ -56,6 +56,9 @@ pub const MOST_ELEMENTS: u64 = 4096;
 // No image has room for more expressions.
 pub const MOST_EXPRESSIONS: usize = ((MOST_WORDS - CONTENTS_WORDS) / EXPRESSION_WORDS) as usize;
 
+// The most expressions of a program that has few. Tables of theirs have this length: a small program should not pay for clearing the long ones.
+pub const FEW_EXPRESSIONS: usize = 128;
+
 // ---- the counts
 
 // The counts of an image; its statements are main's and the further ones.

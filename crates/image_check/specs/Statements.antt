@@ -11,10 +11,6 @@ use Rattle.image.specs.declared.Layout.{Layout}
 use Rattle.image.specs.Layout.{GatesAccepted}
 use Rattle.image_entries.specs.Judging.{TablesOf}
 
--- the most expressions of a program that has few
-abbrev pub fewExpressions : ℕ
-fewExpressions = 128
-
 -- what is known where the statements of a scope are judged
 pub record CheckContext (image : List ℕ) (l : Layout) (levels variable-counts : List ℕ) (scope : ℕ) : Type 0 where
   pub tables : TablesOf image l levels variable-counts

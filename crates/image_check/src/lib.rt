@@ -13,11 +13,11 @@ ghost use Rattle.model.specs.Image.{U, CX, Gate, Barrier, Measure, Reset, state
 ghost use Rattle.model.specs.Check.{firstBad, expressionOk, downward, conditionalFlaw, plainFlaw, flaw, statementEntries, check, inConditional};
 ghost use Rattle.model.specs.Limits.{mostLevels, mostParameters, mostWords};
 ghost use Rattle.image.specs.Answer.{refusalFlaw, answerFlaw};
-ghost use Rattle.image.specs.Layout.{LayoutOf, GatesAccepted};
+ghost use Rattle.image.specs.Layout.{fewExpressions, LayoutOf, GatesAccepted};
 ghost use Rattle.image_entries.specs.Flaws.{flawOf};
 ghost use Rattle.image_entries.specs.Judging.{TablesFit, TablesOf};
 ghost use Rattle.image_check.specs.Answer.{entriesFlaw, LayoutAnswerOf};
-ghost use Rattle.image_check.specs.Statements.{fewExpressions, CheckContext, callFits, callFlaw, noIf};
+ghost use Rattle.image_check.specs.Statements.{CheckContext, callFits, callFlaw, noIf};
 
 // ---- statements
 
@@ -411,16 +411,13 @@ fn first_bad_judged(image: &[u64], l: Layout, levels: &[u64], variables: &[u64])
     }
 }
 
-// The tables of a few expressions have this length: a small program should not pay for clearing the long ones.
-pub const FEW_EXPRESSIONS: usize = 128;
-
 // The first bad statement, with tables for a few expressions.
 fn first_bad_few_expressions(image: &[u64], l: Layout) -> Flaw
     requires { ⌜ LayoutOf (now image) l × GatesAccepted (now image) × (l .expressions ≤ fewExpressions) ⌝ }
     ensures { λ r. ⌜ flawOf r ≡ statementEntries (now (image .entry)) ⌝ }
 {
-    let mut levels = [0u64; FEW_EXPRESSIONS];
-    let mut variables = [0u64; FEW_EXPRESSIONS];
+    let mut levels = [0u64; image::FEW_EXPRESSIONS];
+    let mut variables = [0u64; image::FEW_EXPRESSIONS];
     image_entries::judge_expressions(image, l, &mut levels, &mut variables);
     first_bad_judged(image, l, &levels, &variables)
 }
@@ -441,7 +438,7 @@ fn first_bad_statement(image: &[u64], l: Layout) -> Flaw
     requires { ⌜ LayoutOf (now image) l × GatesAccepted (now image) ⌝ }
     ensures { λ r. ⌜ flawOf r ≡ statementEntries (now (image .entry)) ⌝ }
 {
-    if l.expressions <= FEW_EXPRESSIONS as u64 {
+    if l.expressions <= image::FEW_EXPRESSIONS as u64 {
         return first_bad_few_expressions(image, l);
     }
     first_bad_many_expressions(image, l)

@@ -4,9 +4,9 @@ use native.Mathlib.Omega.{arith}
 use mathlib.Core.Path.{_≡_, refl, sym, ap, ap₂, subst, _∙_}
 use mathlib.Core.Logic.{_⊎_, inl, inr}
 use mathlib.Core.List.{List, [], flatMap}
-use mathlib.Core.Bool.{Bool, false}
+use mathlib.Core.Bool.{Bool, true, false}
 use lib.Dec.{T, ltb}
-use borrow.Author.Tests.{ltb-false}
+use borrow.Author.Tests.{ltb-true, ltb-false, eq-eqb, ne-eqb, le-leb, lt-leb}
 use lib.ListN.{length, take, drop, length-drop}
 use lib.Seq.{sets, length-take-le, take-take}
 use Rattle.value.specs.declared.Value.{Value}
@@ -29,8 +29,9 @@ use Rattle.copy.proofs.Renamed.{Levels}
 use Rattle.copy.proofs.BodyKeptLaws.{distinct-formals, renamed-shorter, keptRecords, copiedPlace, kept-copies, kept-silent}
 use Rattle.copy.proofs.CopiedRecordsLaws.{copied-once}
 use Rattle.kept_body.specs.declared.BodyCopy.the-variants as bodyCopy
-use Rattle.kept_body.specs.Slot.{slotNeed, slotWidth, slotOf, slotLevels, slotStart, slotWords, slotRecords, slotQubits, slotAngles, OpenedAlike, SameBody, SlotStands}
-use Rattle.kept_body.specs.KeptBodies.{SlotKept, BodiesKept, CalledGate, calledSteps, SlotGiven, CopyGiven, BodyCopied}
+use Rattle.kept_body.specs.Slot.{slotNeed, slotWidth, slotOf, slotLevels, slotStart, slotWords, slotRecords, slotQubits, slotAngles, sameBody, mayBeCopied, SlotStands}
+use Rattle.kept_body.specs.KeptBodies.{SlotKept, BodiesKept, CalledGate, calledSteps, SlotGiven, CopyGiven, copies, BodyCopied}
+use Rattle.kept_body.proofs.SlotLaws.{OpenedAlike, body-alike, body-angles}
 use Rattle.kept_body.proofs.KeptBodiesLaws.{angles-same, kept-each}
 
 module _ {image : List ℕ} {call : Call} (c : CalledGate image call) where
@@ -40,9 +41,9 @@ module _ {image : List ℕ} {call : Call} (c : CalledGate image call) where
   few-qubits : call .arguments ≤ 16
   few-qubits = omega (arith, c .arguments-are, few-arguments (c .accepted) (call .gate) (c .listed))
 
-  module _ {slot angles : List ℕ} (s : SameBody slot call angles) where
+  module _ (slot angles : List ℕ) (s : T (sameBody slot call angles)) where
     values-are : slotAngles slot (gateParameters image (call .gate)) ≡ take (call .parameters) (anglesIn angles)
-    values-are = ap (slotAngles slot) (sym (c .parameters-are)) ∙ angles-same slot angles (call .parameters) few-values (s .same)
+    values-are = ap (slotAngles slot) (sym (c .parameters-are)) ∙ angles-same slot angles (call .parameters) few-values (body-angles slot call angles s)
 
     module _ {out : List ℕ} (at : Position) (wide : slotNeed (call .parameters) (call .arguments) ≤ length slot) (k : SlotKept image slot out (at .words) (call .gate)) (qubits : List ℕ) where
       abbrev old : List ℕ
@@ -56,7 +57,7 @@ module _ {image : List ℕ} {call : Call} (c : CalledGate image call) where
       silent-copied e inside =
           record {
             plays = subst (λ (vs : List Value). Plays (bodySteps image (call .site .«levels_left») [] (call .gate) vs (take (call .arguments) qubits)) (stateAt out at) (stateAt out at) done) values-are
-                (kept-silent (c .accepted) (stateAt out at) (call .gate) (slotLevels slot) (call .site .«levels_left») (slotAngles slot (gateParameters image (call .gate))) old (take (call .arguments) qubits) [] (k .body) e (c .listed) old-qubits (levels (s .alike)) inside);
+                (kept-silent (c .accepted) (stateAt out at) (call .gate) (slotLevels slot) (call .site .«levels_left») (slotAngles slot (gateParameters image (call .gate))) old (take (call .arguments) qubits) [] (k .body) e (c .listed) old-qubits (levels (body-alike slot call angles s)) inside);
             level = refl;
           }
         where
@@ -83,7 +84,7 @@ module _ {image : List ℕ} {call : Call} (c : CalledGate image call) where
           record {
             plays = subst (λ (vs : List Value). Plays (bodySteps image (call .site .«levels_left») [] (call .gate) vs new) (stateAt out at) (stateAt out′ (record { records = at .records + slotRecords slot; words = at .words + written; trace = at .trace })) done) values-are
                 (subst (λ (p : OutputState). Plays (bodySteps image (call .site .«levels_left») [] (call .gate) (slotAngles slot (gateParameters image (call .gate))) new) (stateAt out at) p done) place
-                (kept-copies (c .accepted) (renaming old new) (stateAt out at) (call .gate) (slotLevels slot) (call .site .«levels_left») (slotAngles slot (gateParameters image (call .gate))) old new [] (k .body) (c .listed) (levels (s .alike) (renaming old new) some) formals fits));
+                (kept-copies (c .accepted) (renaming old new) (stateAt out at) (call .gate) (slotLevels slot) (call .site .«levels_left») (slotAngles slot (gateParameters image (call .gate))) old new [] (k .body) (c .listed) (levels (body-alike slot call angles s) (renaming old new) some) formals fits));
             level = refl;
           }
         where
@@ -126,6 +127,41 @@ pub written-few : (r : ℕ → ℕ) {out : List ℕ} {from words to written : �
 written-few r {out} {from} {words} v h =
     let long : length (flatMap encode (v .records)) ≡ words = ap length (sym (v .stands)) ∙ length-take-le words (drop from out) (omega (arith, length-drop from out)) in
     omega (arith, v .counted, renamed-shorter r (v .records), long)
+
+-- ---- whether a body is copied: one law for each answer of the code
+
+-- what is asked of a slot
+pub record Asked : Type 0 where
+  pub slot : List ℕ
+  pub out : List ℕ
+  pub call : Call
+  pub angles : List ℕ
+  pub qubits : List ℕ
+  pub at : Position
+
+abbrev pub answer : Asked → Bool
+answer a = copies (a .slot) (a .out) (a .call) (a .angles) (a .qubits) (a .at)
+
+-- what is answered for the slot as the code lends it is answered for the table's
+pub of-table : (a : Asked) (table : List ℕ) {b : Bool} → a .slot ≡ slotOf table (a .call .gate) → b ≡ answer a → b ≡ copies (slotOf table (a .call .gate)) (a .out) (a .call) (a .angles) (a .qubits) (a .at)
+of-table a table {b} e h = subst (λ (l : List ℕ). b ≡ copies l (a .out) (a .call) (a .angles) (a .qubits) (a .at)) e h
+
+module _ (a : Asked) {same : Bool} (e : same ≡ sameBody (a .slot) (a .call) (a .angles)) where
+  abbrev end : ℕ
+  end = a .at .words + slotWords (a .slot)
+
+  pub another-body : same ≡ false → false ≡ answer a
+  another-body f = rw (sym e ∙ f) refl
+
+  module _ (t : same ≡ true) where
+    pub silent-copies : slotWords (a .slot) ≡ 0 → a .at .words ≤ length (a .out) → true ≡ answer a
+    silent-copies z h = rw (sym e ∙ t, le-leb end (length (a .out)) (omega arith), eq-eqb (slotWords (a .slot)) 0 z) refl
+
+    pub no-room : {full : Bool} → full ≡ ltb (length (a .out)) end → full ≡ true → false ≡ answer a
+    no-room f g = rw (sym e ∙ t, lt-leb end (length (a .out)) (ltb-true (length (a .out)) end (sym f ∙ g))) refl
+
+    pub distinct-copies : ¬ (slotWords (a .slot) ≡ 0) → end ≤ length (a .out) → {distinct : Bool} → distinct ≡ differ (take (a .call .arguments) (a .qubits)) → distinct ≡ answer a
+    distinct-copies n fits d = rw (sym e ∙ t, le-leb end (length (a .out)) fits, ne-eqb (slotWords (a .slot)) 0 n) d
 
 -- ---- the answer
 

@@ -30,8 +30,9 @@ use Rattle.model.specs.All.{All}
 use Rattle.copy.specs.BodyRecord.{BodyRecord}
 use Rattle.copy.proofs.BodyRecords.{openings-bodily, bodily-plays}
 use Rattle.copy.proofs.BodyKeptLaws.{keptRecords, kept-later, kept-new}
-use Rattle.kept_body.specs.Slot.{slotWidth, slotOf, WideEnough, slotLevels, slotQubits, slotAngles, SameAngles, SlotStands, SlotFilled}
-use Rattle.kept_body.specs.KeptBodies.{SlotKept, BodiesKept, BodyRun}
+use Rattle.kept_body.specs.Slot.{slotWidth, slotOf, WideEnough, slotLevels, slotQubits, slotAngles, sameAngles, mayBeCopied, SlotStands, SlotFilled}
+use Rattle.kept_body.specs.KeptBodies.{SlotKept, BodiesKept, BodyPut, BodyRun}
+use Rattle.kept_body.proofs.SlotLaws.{told, word-same, written-distinct}
 
 -- ---- slots of a table in which one was put anew
 
@@ -93,21 +94,21 @@ module _ (table slot : List ℕ) (g : ℕ) (whole : length slot ≡ slotWidth ta
 fraction-same : (v w : List ℕ) (p q : ℕ) → getD v p 0 ≡ getD w q 0 → getD v (p + 1) 0 ≡ getD w (q + 1) 0 → getD v (p + 2) 0 ≡ getD w (q + 2) 0 → fractionAt v p ≡ fractionAt w q
 fraction-same v w p q e f g = rw (e, f, g) refl
 
-pub angles-same : (slot angles : List ℕ) (n : ℕ) → n ≤ 16 → SameAngles slot angles (6 * n) → slotAngles slot n ≡ take n (anglesIn angles)
+pub angles-same : (slot angles : List ℕ) (n : ℕ) → n ≤ 16 → T (sameAngles slot angles (6 * n)) → slotAngles slot n ≡ take n (anglesIn angles)
 angles-same slot angles n few s =
     let long : (w : List ℕ) → length (take n (anglesIn w)) ≡ n = λ w. length-take-le n (anglesIn w) (omega (arith, sixteen w)) in
     ext-getD zeroValue (slotAngles slot n) (take n (anglesIn angles)) (long (drop 4 slot) ∙ sym (long angles)) (λ i h.
     let k : i < n = omega (arith, long (drop 4 slot)) in
     getD-take n (anglesIn (drop 4 slot)) i zeroValue k ∙ angle-at (drop 4 slot) i zeroValue (omega arith) ∙ value i k ∙ sym (getD-take n (anglesIn angles) i zeroValue k ∙ angle-at angles i zeroValue (omega arith)))
   where
-    word-same : (j : ℕ) → j < 6 * n → getD (drop 4 slot) j 0 ≡ getD angles j 0
-    word-same j h = getD-drop 4 slot j 0 ∙ s .each j h
+    word-is : (j : ℕ) → j < 6 * n → getD (drop 4 slot) j 0 ≡ getD angles j 0
+    word-is j h = getD-drop 4 slot j 0 ∙ word-same slot angles (6 * n) s j h
 
     value : (i : ℕ) → i < n → valueAt (drop 4 slot) (6 * i) ≡ valueAt angles (6 * i)
     value i h =
         ap₂ (λ (a b : Rational64). record { a = a; b = b })
-        (fraction-same (drop 4 slot) angles (6 * i) (6 * i) (word-same (6 * i) (omega arith)) (word-same (6 * i + 1) (omega arith)) (word-same (6 * i + 2) (omega arith)))
-        (fraction-same (drop 4 slot) angles (6 * i + 3) (6 * i + 3) (word-same (6 * i + 3) (omega arith)) (word-same (6 * i + 3 + 1) (omega arith)) (word-same (6 * i + 3 + 2) (omega arith)))
+        (fraction-same (drop 4 slot) angles (6 * i) (6 * i) (word-is (6 * i) (omega arith)) (word-is (6 * i + 1) (omega arith)) (word-is (6 * i + 2) (omega arith)))
+        (fraction-same (drop 4 slot) angles (6 * i + 3) (6 * i + 3) (word-is (6 * i + 3) (omega arith)) (word-is (6 * i + 3 + 1) (omega arith)) (word-is (6 * i + 3 + 2) (omega arith)))
 
 -- ---- what is written later leaves what is kept
 
@@ -118,7 +119,7 @@ bodies-later {image} {table} {ss} {p} {q} w b =
 -- ---- a body that was run is put into its slot
 
 module _ {image : List ℕ} {call : Call} {angles qubits out out′ : List ℕ} {at next : Position} (r : BodyRun image call (anglesIn angles) qubits out at next out′) where
-  slot-kept : {slot : List ℕ} → SlotFilled slot (call .site .«levels_left») (at .words) (next .words - at .words) (next .records - at .records) call angles qubits → (¬ (next .words - at .words ≡ 0) → T (differ (take (call .arguments) qubits))) → SlotKept image slot out′ (next .words) (call .gate)
+  slot-kept : {slot : List ℕ} → SlotFilled slot (call .site .«levels_left») (at .words) (next .words - at .words) (next .records - at .records) call angles qubits → T (mayBeCopied (next .words - at .words) (take (call .arguments) qubits)) → SlotKept image slot out′ (next .words) (call .gate)
   slot-kept {slot} f d =
       let c = r .called in
       let few : call .parameters ≤ 16 = omega (arith, c .parameters-are, few-parameters (c .accepted) (call .gate) (c .listed)) in
@@ -126,11 +127,11 @@ module _ {image : List ℕ} {call : Call} {angles qubits out out′ : List ℕ} 
       let qs : slotQubits slot (gateParameters image (call .gate)) (gateArguments image (call .gate)) ≡ take (call .arguments) qubits = ap₂ (slotQubits slot) (sym (c .parameters-are)) (sym (c .arguments-are)) ∙ f .qubits-are in
       record {
         body = rw (vs, qs, f .levels-are, f .start-is, f .words-are, f .records-are) (kept-new image (call .gate) (call .site .«levels_left») [] (take (call .parameters) (anglesIn angles)) (take (call .arguments) qubits) (r .wrote .plays) (r .inside));
-        distinct = λ n. subst (λ (l : List ℕ). T (differ l)) (sym qs) (d (λ e. n (f .words-are ∙ e)));
+        distinct = λ n. subst (λ (l : List ℕ). T (differ l)) (sym qs) (written-distinct _ _ d (λ e. n (f .words-are ∙ e)));
       }
 
   pub bodies-put : (table slot : List ℕ) → length slot ≡ slotWidth table → 1 + slotWidth table * call .gate + slotWidth table ≤ length table → BodiesKept image table out′ (next .words)
-      → SlotFilled slot (call .site .«levels_left») (at .words) (next .words - at .words) (next .records - at .records) call angles qubits → (¬ (next .words - at .words ≡ 0) → T (differ (take (call .arguments) qubits)))
+      → SlotFilled slot (call .site .«levels_left») (at .words) (next .words - at .words) (next .records - at .records) call angles qubits → T (mayBeCopied (next .words - at .words) (take (call .arguments) qubits))
       → BodiesKept image (putInto table slot (call .gate)) out′ (next .words)
   bodies-put table slot whole room b f d =
       let width = width-stays table slot (call .gate) whole room in
@@ -147,6 +148,23 @@ module _ {image : List ℕ} {call : Call} {angles qubits out out′ : List ℕ} 
       go g h k false e =
           let other = slot-other table slot (call .gate) whole room g (eqb-false g (call .gate) e) in
           subst (λ (l : List ℕ). SlotKept image l out′ (next .words) g) (sym other) (b .each g h (λ z. k (ap slotLevels other ∙ z)))
+
+-- ---- what keeping a body changes
+
+module _ {table angles qubits : List ℕ} {call : Call} {at next : Position} {r : Bool} (e : r ≡ mayBeCopied (next .words - at .words) (take (call .arguments) qubits)) where
+  -- one that may not be copied is not kept
+  pub body-left : r ≡ false → BodyPut table call angles qubits at next table
+  body-left f = record { filled = λ t. absurd (subst T (sym e ∙ f) t); untouched = λ _. refl; others = λ g n. refl }
+
+  -- any other is put into the slot of its gate
+  pub body-put : r ≡ true → (slot : List ℕ) → length slot ≡ slotWidth table → 1 + slotWidth table * call .gate + slotWidth table ≤ length table
+      → SlotFilled slot (call .site .«levels_left») (at .words) (next .words - at .words) (next .records - at .records) call angles qubits → BodyPut table call angles qubits at next (putInto table slot (call .gate))
+  body-put t slot whole room f =
+      record {
+        filled = λ _. subst (λ (l : List ℕ). SlotFilled l (call .site .«levels_left») (at .words) (next .words - at .words) (next .records - at .records) call angles qubits) (sym (slot-put table slot (call .gate) whole room)) f;
+        untouched = λ n. absurd (subst T n (told e t));
+        others = slot-other table slot (call .gate) whole room;
+      }
 
 -- ---- what a slot tells of stands in the output
 

@@ -4,8 +4,11 @@ use native.Mathlib.Nat.{zero-add, not-suc-le-zero, eq-or-lt-of-le, max-le, le-ma
 use native.Mathlib.Omega.{arith}
 use mathlib.Core.Path.{_≡_, refl, sym, ap, subst, _∙_}
 use mathlib.Core.Logic.{_⊎_, inl, inr}
+use mathlib.Core.Bool.{Bool, true, false, not, _&&_, _||_}
 use mathlib.Core.List.{List, [], _∷_, map, map-append}
-use lib.Dec.{T}
+use mathlib.Core.Option.{none, some}
+use lib.Dec.{T, T-not, eqb, leb, ltb, eqb→eq, ltb→lt}
+use borrow.Author.Tests.{eqb-true, leb-true, ltb-true, eq-eqb, ne-eqb, le-leb, lt-leb}
 use lib.ListN.{length, getD, set, take, drop, length-set, length-map}
 use lib.Seq.{sets, length-sets, ext-getD, getD-take, getD-drop, getD-set-same, getD-set-other, length-take-le}
 use Rattle.model.specs.Image.{word, gateAt, gates, gateParameters, gateArguments}
@@ -16,36 +19,158 @@ use Rattle.model.specs.Claims.{differ}
 use Rattle.model.proofs.ListLaws.{entry-of-map}
 use Rattle.model.proofs.SetsLaws.{put-more, range-more}
 use Rattle.model.proofs.Lengths.{length-range}
-use Rattle.model.proofs.StepsSound.{no-overlap}
+use Rattle.model.specs.All.{nil}
+use Rattle.model.specs.Steps.{overlap}
+use Rattle.model.proofs.All.{and-T, all-All, All-all, All-range, range-All}
+use Rattle.model.proofs.StepsSound.{no-overlap, differ-apart}
+use Rattle.statement.specs.declared.Overlap.{Overlap}
 use Rattle.statement.specs.declared.Overlap.the-variants as overlapping
-use Rattle.statement.specs.Statements.{Overlaps}
+use Rattle.statement.specs.Statements.{Overlaps, overlapAt}
 use Rattle.copy.proofs.BodyKeptLaws.{part-new}
 use Rattle.statement.specs.declared.Call.{Call}
-use Rattle.kept_body.specs.Slot.{slotNeed, mostSlotWords, WideEnough, SameAngles, firstWords, SlotFilled}
+use Rattle.kept_body.specs.Slot.{slotNeed, mostSlotWords, WideEnough, slotLevels, slotWords, openedAlike, sameAngles, sameBody, mayBeCopied, firstWords, SlotFilled}
+
+-- ---- tests
+
+-- what a test says that was passed
+pub told : {r b : Bool} → r ≡ b → r ≡ true → T b
+told e t = subst T (sym (sym e ∙ t)) tt
+
+pub holds : (b : Bool) → T b → b ≡ true
+holds true t = refl
+holds false t = absurd t
+
+-- a body that wrote words was run with different qubits
+pub written-distinct : (words : ℕ) (qubits : List ℕ) → T (mayBeCopied words qubits) → ¬ (words ≡ 0) → T (differ qubits)
+written-distinct words qubits t n = subst (λ (b : Bool). T (b || differ qubits)) (ne-eqb words 0 n) t
+
+-- ---- levels
+
+-- levels with which a body is opened alike, test by test
+abbrev pub OpenedAlike : ℕ → ℕ → ℕ → ℕ → Type 0
+OpenedAlike g n n′ words = (n ≡ n′) ⊎ (((words ≡ 0) × (n ≤ n′)) ⊎ ((g < n) × (g < n′)))
+
+module _ (g n n′ words : ℕ) where
+  alike-says : T (openedAlike g n n′ words) → OpenedAlike g n n′ words
+  alike-says = go (eqb n n′) refl (eqb words 0) refl (leb n n′) refl (ltb g n) refl
+    where
+      go : (a : Bool) → eqb n n′ ≡ a → (b : Bool) → eqb words 0 ≡ b → (c : Bool) → leb n n′ ≡ c → (d : Bool) → ltb g n ≡ d → T (a || ((b && c) || (d && ltb g n′))) → OpenedAlike g n n′ words
+      go true e b f c h d k t = inl (eqb-true n n′ e)
+      go false e true f true h d k t = inr (inl (eqb-true words 0 f, leb-true n n′ h))
+      go false e true f false h true k t = inr (inr (ltb-true g n k, ltb→lt g n′ t))
+      go false e true f false h false k t = absurd t
+      go false e false f c h true k t = inr (inr (ltb-true g n k, ltb→lt g n′ t))
+      go false e false f c h false k t = absurd t
+
+  pub alike-equal : n ≡ n′ → true ≡ openedAlike g n n′ words
+  alike-equal e = rw (eq-eqb n n′ e) refl
+
+  pub alike-silent : words ≡ 0 → n ≤ n′ → true ≡ openedAlike g n n′ words
+  alike-silent e l = go (eqb n n′)
+    where
+      go : (a : Bool) → true ≡ (a || ((eqb words 0 && leb n n′) || (ltb g n && ltb g n′)))
+      go true = refl
+      go false = rw (eq-eqb words 0 e, le-leb n n′ l) refl
+
+  -- where neither is so, every call is opened in both or it is not alike
+  pub alike-opened : ¬ (n ≡ n′) → ((words ≡ 0) → n′ < n) → (ltb g n && ltb g n′) ≡ openedAlike g n n′ words
+  alike-opened a b = rw (ne-eqb n n′ a) (go (eqb words 0) refl)
+    where
+      go : (s : Bool) → eqb words 0 ≡ s → (ltb g n && ltb g n′) ≡ ((s && leb n n′) || (ltb g n && ltb g n′))
+      go true e = rw (lt-leb n n′ (b (eqb-true words 0 e))) refl
+      go false e = refl
 
 -- ---- angles
 
-pub same-none : (slot angles : List ℕ) → SameAngles slot angles 0
-same-none slot angles = record { each = λ j h. absurd (not-suc-le-zero h) }
+pub word-same : (slot angles : List ℕ) (n : ℕ) → T (sameAngles slot angles n) → (j : ℕ) → j < n → getD slot (4 + j) 0 ≡ getD angles j 0
+word-same slot angles n t j h = eqb→eq _ _ (range-All 0 n j (all-All (λ i. eqb (getD slot (4 + i) 0) (getD angles i 0)) (range 0 n) t) (omega arith) (omega arith))
 
-pub same-next : {slot angles : List ℕ} {i : ℕ} → SameAngles slot angles i → getD slot (4 + i) 0 ≡ getD angles i 0 → SameAngles slot angles (i + 1)
-same-next {slot} {angles} {i} k e = record { each = λ j h. go j (eq-or-lt-of-le (omega arith)) }
+pub words-same : (slot angles : List ℕ) (n : ℕ) → ((j : ℕ) → j < n → getD slot (4 + j) 0 ≡ getD angles j 0) → T (sameAngles slot angles n)
+words-same slot angles n h = All-all (λ i. eqb (getD slot (4 + i) 0) (getD angles i 0)) (All-range 0 n (λ j p q. subst T (sym (eq-eqb _ _ (h j (omega arith)))) tt))
+
+pub same-none : (slot angles : List ℕ) → T (sameAngles slot angles 0)
+same-none slot angles = words-same slot angles 0 (λ j h. absurd (not-suc-le-zero h))
+
+pub same-next : (slot angles : List ℕ) (i : ℕ) → T (sameAngles slot angles i) → getD slot (4 + i) 0 ≡ getD angles i 0 → T (sameAngles slot angles (i + 1))
+same-next slot angles i t e = words-same slot angles (i + 1) (λ j h. go j (eq-or-lt-of-le (omega arith)))
   where
     go : (j : ℕ) → (j ≡ i) ⊎ (j < i) → getD slot (4 + j) 0 ≡ getD angles j 0
     go j (inl d) = ap (λ (m : ℕ). getD slot (4 + m) 0) d ∙ e ∙ ap (λ (m : ℕ). getD angles m 0) (sym d)
-    go j (inr l) = k .each j l
+    go j (inr l) = word-same slot angles i t j l
+
+-- a word that is another one
+pub word-differs : (slot angles : List ℕ) (n i : ℕ) → i < n → ¬ (getD slot (4 + i) 0 ≡ getD angles i 0) → false ≡ sameAngles slot angles n
+word-differs slot angles n i h d = go (sameAngles slot angles n) refl
+  where
+    go : (b : Bool) → sameAngles slot angles n ≡ b → false ≡ b
+    go true e = absurd (d (word-same slot angles n (subst T (sym e) tt) i h))
+    go false e = refl
+
+-- ---- whether a slot keeps the body of a call: one law for each answer of the code
+
+module _ (slot : List ℕ) (call : Call) (angles : List ℕ) where
+  pub no-body : slotLevels slot ≡ 0 → false ≡ sameBody slot call angles
+  no-body e = rw (eq-eqb (slotLevels slot) 0 e) refl
+
+  module _ {alike : Bool} (a : alike ≡ openedAlike (call .gate) (slotLevels slot) (call .site .«levels_left») (slotWords slot)) where
+    pub another-level : alike ≡ false → false ≡ sameBody slot call angles
+    another-level f = rw (sym a ∙ f) (go (not (eqb (slotLevels slot) 0)))
+      where
+        go : (b : Bool) → false ≡ (b && (false && sameAngles slot angles (6 * call .parameters)))
+        go true = refl
+        go false = refl
+
+    pub angles-left : ¬ (slotLevels slot ≡ 0) → alike ≡ true → {same : Bool} → same ≡ sameAngles slot angles (6 * call .parameters) → same ≡ sameBody slot call angles
+    angles-left n t s = rw (ne-eqb (slotLevels slot) 0 n, sym a ∙ t) s
+
+-- ---- what such a slot says
+
+module _ (slot : List ℕ) (call : Call) (angles : List ℕ) (t : T (sameBody slot call angles)) where
+  abbrev alike : Bool
+  alike = openedAlike (call .gate) (slotLevels slot) (call .site .«levels_left») (slotWords slot)
+
+  tests : T (not (eqb (slotLevels slot) 0)) × (T alike × T (sameAngles slot angles (6 * call .parameters)))
+  tests =
+      let s = and-T (not (eqb (slotLevels slot) 0)) (alike && sameAngles slot angles (6 * call .parameters)) t in
+      (s .0, and-T alike (sameAngles slot angles (6 * call .parameters)) (s .1))
+
+  pub body-kept : ¬ (slotLevels slot ≡ 0)
+  body-kept e = T-not (eqb (slotLevels slot) 0) (tests .0) (subst T (sym (eq-eqb (slotLevels slot) 0 e)) tt)
+
+  pub body-alike : OpenedAlike (call .gate) (slotLevels slot) (call .site .«levels_left») (slotWords slot)
+  body-alike = alike-says (call .gate) (slotLevels slot) (call .site .«levels_left») (slotWords slot) (tests .1 .0)
+
+  pub body-angles : T (sameAngles slot angles (6 * call .parameters))
+  body-angles = tests .1 .1
 
 -- ---- qubits
 
--- where no two of n arguments have one qubit, the first n qubits differ
-pub apart-differ : {q : List ℕ} {n : ℕ} → Overlaps q n overlapping.Apart → n ≤ length q → T (differ (take n q))
-apart-differ {q} {n} o h = subst (λ (l : List ℕ). T (differ l)) front-is (no-overlap (λ j. getD q j 0) [] (range 0 n) (o .finds (λ j. getD q j 0) 0 (λ j l. ap (λ (m : ℕ). getD q m 0) (zero-add j))) .0)
-  where
-    front-is : map (λ j. getD q j 0) (range 0 n) ≡ take n q
-    front-is =
-        ext-getD 0 (map (λ j. getD q j 0) (range 0 n)) (take n q) (length-map (range 0 n) (λ j. getD q j 0) ∙ length-range 0 n ∙ sym (length-take-le n q h))
-        (λ i l. let k : i < n = omega (arith, length-map (range 0 n) (λ j. getD q j 0), length-range 0 n) in
-        entry-of-map (λ j. getD q j 0) 0 n i 0 k ∙ ap (λ (m : ℕ). getD q m 0) (zero-add i) ∙ sym (getD-take n q i 0 k))
+module _ (q : List ℕ) (n : ℕ) (h : n ≤ length q) where
+  abbrev qubit : ℕ → ℕ
+  qubit j = getD q j 0
+
+  front-is : map qubit (range 0 n) ≡ take n q
+  front-is =
+      ext-getD 0 (map qubit (range 0 n)) (take n q) (length-map (range 0 n) qubit ∙ length-range 0 n ∙ sym (length-take-le n q h))
+      (λ i l. let k : i < n = omega (arith, length-map (range 0 n) qubit, length-range 0 n) in
+      entry-of-map qubit 0 n i 0 k ∙ ap qubit (zero-add i) ∙ sym (getD-take n q i 0 k))
+
+  found : {r : Overlap} → Overlaps q n r → overlap qubit [] (range 0 n) ≡ overlapAt 0 r
+  found o = o .finds qubit 0 (λ j l. ap qubit (zero-add j))
+
+  -- where no two of n arguments have one qubit, the first n qubits differ
+  pub apart-differ : Overlaps q n overlapping.Apart → true ≡ differ (take n q)
+  apart-differ o = sym (holds _ (subst (λ (l : List ℕ). T (differ l)) front-is (no-overlap qubit [] (range 0 n) (found o) .0)))
+
+  -- where two have one, they do not
+  pub pair-same : {i j : ℕ} → Overlaps q n (overlapping.Pair i j) → false ≡ differ (take n q)
+  pair-same {i} {j} o = go (differ (take n q)) refl
+    where
+      go : (b : Bool) → differ (take n q) ≡ b → false ≡ b
+      go true e =
+          let none-is = differ-apart qubit [] (range 0 n) (subst (λ (l : List ℕ). T (differ l)) (sym front-is) (subst T (sym e) tt)) nil in
+          absurd (let both : none ≡ some (0 + i, 0 + j) = sym none-is ∙ found o in let z : _≡_ {A = ℕ} 0 1 = cc in omega arith)
+      go false e = refl
 
 -- ---- a slot that was filled
 
@@ -77,11 +202,9 @@ slot-filled slot qubits angles levels start words records call {slot₁} {slot�
       start-is = number 1 (omega arith) ∙ second-number slot levels start words records (omega (arith, need));
       words-are = number 2 (omega arith) ∙ third-number slot levels start words records (omega (arith, need));
       records-are = number 3 (omega arith) ∙ getD-set-same (set (set (set slot 0 levels) 1 start) 2 words) 3 records 0 (omega (arith, need, length-set (set (set slot 0 levels) 1 start) 2 words, length-set (set slot 0 levels) 1 start, length-set slot 0 levels));
-      angles-are = record {
-        each = λ j h.
-            ap (λ (l : List ℕ). getD l (4 + j) 0) e₂ ∙ word-before (4 + j) (4 + n) (take m qubits) slot₁ (omega arith) ∙ ap (λ (l : List ℕ). getD l (4 + j) 0) e₁
-            ∙ word-put j 4 (firstWords angles n) numbers (omega (arith, long, angle-words, need)) (omega (arith, angle-words)) ∙ entry-of-map (λ i. getD angles i 0) 0 n j 0 h ∙ ap (λ (i : ℕ). getD angles i 0) (zero-add j);
-      };
+      angles-are = words-same slot₂ angles n (λ j h.
+          ap (λ (l : List ℕ). getD l (4 + j) 0) e₂ ∙ word-before (4 + j) (4 + n) (take m qubits) slot₁ (omega arith) ∙ ap (λ (l : List ℕ). getD l (4 + j) 0) e₁
+          ∙ word-put j 4 (firstWords angles n) numbers (omega (arith, long, angle-words, need)) (omega (arith, angle-words)) ∙ entry-of-map (λ i. getD angles i 0) 0 n j 0 h ∙ ap (λ (i : ℕ). getD angles i 0) (zero-add j));
       qubits-are =
           ap (λ (l : List ℕ). take m (drop (4 + n) l)) e₂ ∙ ap (λ (k : ℕ). take k (drop (4 + n) (sets slot₁ (4 + n) (take m qubits)))) (sym qubit-words)
           ∙ part-new (4 + n) (take m qubits) slot₁ (omega (arith, long₁, qubit-words, need));

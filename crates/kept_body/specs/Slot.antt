@@ -1,23 +1,30 @@
 -- The words that the table of kept bodies has for a gate: its slot.
 use Prim.Native.Nat.{ℕ, _+_, _*_, _≤_, _<_}
 use mathlib.Core.Path.{_≡_}
-use mathlib.Core.Logic.{_⊎_}
+use mathlib.Core.Bool.{Bool, not, _&&_, _||_}
 use mathlib.Core.List.{List, map}
+use lib.Dec.{T, eqb, leb, ltb}
 use lib.ListN.{getD, take, drop}
 use Rattle.value.specs.declared.Value.{Value}
+use Rattle.model.specs.Limits.{mostParameters, mostArguments}
 use Rattle.model.specs.Image.{gates, gateParameters, gateArguments}
-use Rattle.model.specs.Lists.{range}
+use Rattle.model.specs.Lists.{range, all}
+use Rattle.model.specs.Claims.{differ}
 use Rattle.expression.specs.Angles.{valueWords, anglesIn}
 use Rattle.statement.specs.declared.Call.{Call}
 use Rattle.copy.specs.CopiedRecords.{RecordsStand}
 
--- the words that a body with n parameters and m arguments needs: four numbers, the words of its angles, and its qubits
+-- where a slot holds the words of its angles: behind four numbers
+abbrev pub anglesAt : ℕ
+anglesAt = 4
+
+-- the words that a body with n parameters and m arguments needs: the numbers, the words of its angles, and its qubits
 abbrev pub slotNeed : ℕ → ℕ → ℕ
-slotNeed n m = 4 + valueWords * n + m
+slotNeed n m = anglesAt + valueWords * n + m
 
 -- the most words that a body may need
 abbrev pub mostSlotWords : ℕ
-mostSlotWords = 116
+mostSlotWords = slotNeed mostParameters mostArguments
 
 -- the words of each slot are the first word of a table
 abbrev pub slotWidth : List ℕ → ℕ
@@ -48,26 +55,31 @@ slotRecords slot = getD slot 3 0
 
 -- the angles and the qubits that a body with n parameters and m arguments was run with
 abbrev pub slotAngles : List ℕ → ℕ → List Value
-slotAngles slot n = take n (anglesIn (drop 4 slot))
+slotAngles slot n = take n (anglesIn (drop anglesAt slot))
 
 abbrev pub slotQubits : List ℕ → ℕ → ℕ → List ℕ
-slotQubits slot n m = take m (drop (4 + valueWords * n) slot)
+slotQubits slot n m = take m (drop (anglesAt + valueWords * n) slot)
 
--- ---- whether a body is the one that is kept
+-- ---- whether a body is copied
 
 -- A body of gate g that was opened with n levels left and wrote so many words is opened alike with n′: as many levels are left; or it wrote nothing and no fewer are left; or every call in it is opened in both.
-abbrev pub OpenedAlike : ℕ → ℕ → ℕ → ℕ → Type 0
-OpenedAlike g n n′ words = (n ≡ n′) ⊎ (((words ≡ 0) × (n ≤ n′)) ⊎ ((g < n) × (g < n′)))
+abbrev pub openedAlike : ℕ → ℕ → ℕ → ℕ → Bool
+openedAlike g n n′ words = eqb n n′ || ((eqb words 0 && leb n n′) || (ltb g n && ltb g n′))
 
 -- the first n words of a slot's angles are those of others
-pub record SameAngles (slot angles : List ℕ) (n : ℕ) : Type 0 where
-  pub each : (j : ℕ) → j < n → getD slot (4 + j) 0 ≡ getD angles j 0
+abbrev pub sameAngles : List ℕ → List ℕ → ℕ → Bool
+sameAngles slot angles n = all (λ j. eqb (getD slot (anglesAt + j) 0) (getD angles j 0)) (range 0 n)
 
 -- a slot keeps the body of a call with these words of angles
-pub record SameBody (slot : List ℕ) (call : Call) (angles : List ℕ) : Type 0 where
-  pub kept : ¬ (slotLevels slot ≡ 0)
-  pub alike : OpenedAlike (call .gate) (slotLevels slot) (call .site .«levels_left») (slotWords slot)
-  pub same : SameAngles slot angles (valueWords * call .parameters)
+abbrev pub sameBody : List ℕ → Call → List ℕ → Bool
+sameBody slot call angles =
+    not (eqb (slotLevels slot) 0)
+    && (openedAlike (call .gate) (slotLevels slot) (call .site .«levels_left») (slotWords slot)
+    && sameAngles slot angles (valueWords * call .parameters))
+
+-- a body that wrote so many words with these qubits may be copied, or be a copy: it wrote nothing, or they are different ones
+abbrev pub mayBeCopied : ℕ → List ℕ → Bool
+mayBeCopied words qubits = eqb words 0 || differ qubits
 
 -- ---- what a slot holds
 
@@ -87,5 +99,5 @@ pub record SlotFilled (slot : List ℕ) (levels start words records : ℕ) (call
   pub start-is : slotStart slot ≡ start
   pub words-are : slotWords slot ≡ words
   pub records-are : slotRecords slot ≡ records
-  pub angles-are : SameAngles slot angles (valueWords * call .parameters)
+  pub angles-are : T (sameAngles slot angles (valueWords * call .parameters))
   pub qubits-are : slotQubits slot (call .parameters) (call .arguments) ≡ take (call .arguments) qubits

@@ -4,10 +4,8 @@ use record_writer::Position;
 use statement::Call;
 use statement::Overlap;
 ghost use mathlib.Core.Path.{_≡_};
-ghost use mathlib.Core.Bool.{true};
 ghost use mathlib.Core.List.{List};
 ghost use Prim.Native.Nat.{ℕ, _+_, _-_, _*_, _≤_};
-ghost use lib.Dec.{T};
 ghost use lib.ListN.{length, take};
 ghost use lib.Seq.{sets};
 ghost use Rattle.model.specs.Limits.{mostParameters};
@@ -16,8 +14,8 @@ ghost use Rattle.model.specs.Claims.{differ};
 ghost use Rattle.image.specs.Layout.{LayoutOf};
 ghost use Rattle.record_writer.specs.Promise.{QubitsGiven};
 ghost use Rattle.expression.specs.Angles.{anglesIn, valueWords};
-ghost use Rattle.kept_body.specs.Slot.{slotNeed, WideEnough, OpenedAlike, SameAngles, SameBody, firstWords, SlotFilled};
-ghost use Rattle.kept_body.specs.KeptBodies.{BodiesKept, CalledGate, SlotGiven, CopyGiven, BodyCopied, BodyRun};
+ghost use Rattle.kept_body.specs.Slot.{anglesAt, slotNeed, slotOf, WideEnough, openedAlike, sameAngles, sameBody, mayBeCopied, firstWords, SlotFilled};
+ghost use Rattle.kept_body.specs.KeptBodies.{BodiesKept, CalledGate, SlotGiven, CopyGiven, copies, isCopied, BodyCopied, BodyPut, BodyRun};
 
 // Where a slot holds the words of its angles, behind four numbers: the levels left, the first output word, the words and the records of the body. Its
 // qubits stand behind the angles.
@@ -58,7 +56,7 @@ pub fn slot_width(image: &[u64], l: Layout) -> u64
 // Whether a body that was opened with some levels left, and wrote some words, does the same with those of a call: there are as many, or every
 // call in it is opened in both, since a gate calls gates of smaller number; one that wrote nothing does so with more levels, too.
 fn is_opened_alike(levels: u64, body_words: u64, call: Call) -> bool
-    ensures { λ r. ⌜ (r ≡ true → OpenedAlike (call .gate) levels (call .site .«levels_left») «body_words») ⌝ }
+    ensures { λ r. ⌜ r ≡ openedAlike (call .gate) levels (call .site .«levels_left») «body_words» ⌝ }
 {
     let levels_left = call.site.levels_left;
     if levels == levels_left {
@@ -77,8 +75,8 @@ fn is_opened_alike(levels: u64, body_words: u64, call: Call) -> bool
 
 // Whether the first n words of the kept angles are those of others.
 fn same_angles(slot: &[u64], angles: &[u64; expression::FRAME_ANGLE_WORDS], n: usize) -> bool
-    requires { ⌜ (4 + n ≤ length (now slot)) × (n ≤ valueWords * mostParameters) ⌝ }
-    ensures { λ r. ⌜ (r ≡ true → SameAngles (now (slot .entry)) (now (angles .entry)) n) ⌝ }
+    requires { ⌜ (anglesAt + n ≤ length (now slot)) × (n ≤ valueWords * mostParameters) ⌝ }
+    ensures { λ r. ⌜ r ≡ sameAngles (now (slot .entry)) (now (angles .entry)) n ⌝ }
 {
     let mut i = 0;
     while i < n {
@@ -92,8 +90,8 @@ fn same_angles(slot: &[u64], angles: &[u64; expression::FRAME_ANGLE_WORDS], n: u
 
 // Whether what is kept is the body of a call with these angles.
 fn is_same_body(slot: &[u64], call: Call, angles: &[u64; expression::FRAME_ANGLE_WORDS]) -> bool
-    requires { ⌜ (4 + valueWords * call .parameters ≤ length (now slot)) × (call .parameters ≤ mostParameters) ⌝ }
-    ensures { λ r. ⌜ (r ≡ true → SameBody (now (slot .entry)) call (now (angles .entry))) ⌝ }
+    requires { ⌜ (anglesAt + valueWords * call .parameters ≤ length (now slot)) × (call .parameters ≤ mostParameters) ⌝ }
+    ensures { λ r. ⌜ r ≡ sameBody (now (slot .entry)) call (now (angles .entry)) ⌝ }
 {
     let levels = slot[0];
     if levels == 0 {
@@ -112,7 +110,7 @@ fn is_same_body(slot: &[u64], call: Call, angles: &[u64; expression::FRAME_ANGLE
 // Whether the first n of sixteen qubits are n different ones.
 fn are_distinct(qubits: &[u64; image::FRAME_QUBITS], n: u64) -> bool
     requires { ⌜ QubitsGiven (now qubits) n ⌝ }
-    ensures { λ r. ⌜ (r ≡ true → T (differ (take n (now (qubits .entry))))) ⌝ }
+    ensures { λ r. ⌜ r ≡ differ (take n (now (qubits .entry))) ⌝ }
 {
     match statement::first_overlap(qubits, n) {
         Overlap::Apart => true,
@@ -135,7 +133,8 @@ pub fn copy_body(
 ) -> BodyCopy
     requires { ⌜ CopyGiven (now «kept_bodies») (now out) call (now qubits) at ⌝ }
     ensures { λ r. ⌜
-        ((image : List ℕ) → CalledGate image call → BodiesKept image (now («kept_bodies» .entry)) (now (out .entry)) (at .words)
+        (isCopied r ≡ copies (slotOf (now («kept_bodies» .entry)) (call .gate)) (now (out .entry)) call (now (angles .entry)) (now (qubits .entry)) at)
+        × ((image : List ℕ) → CalledGate image call → BodiesKept image (now («kept_bodies» .entry)) (now (out .entry)) (at .words)
         → BodyCopied image call (anglesIn (now (angles .entry))) (now (qubits .entry)) (now (out .entry)) at r (now (out .exit)))
         ⌝ }
 {
@@ -177,8 +176,8 @@ pub fn copy_body(
 
 // Puts the first n words of angles into a slot.
 fn put_angle_words(slot: &mut [u64], angles: &[u64; expression::FRAME_ANGLE_WORDS], n: usize)
-    requires { ⌜ (4 + n ≤ length (now slot)) × (n ≤ valueWords * mostParameters) ⌝ }
-    ensures { λ _. ⌜ now (slot .exit) ≡ sets (now (slot .entry)) 4 (firstWords (now (angles .entry)) n) ⌝ }
+    requires { ⌜ (anglesAt + n ≤ length (now slot)) × (n ≤ valueWords * mostParameters) ⌝ }
+    ensures { λ _. ⌜ now (slot .exit) ≡ sets (now (slot .entry)) anglesAt (firstWords (now (angles .entry)) n) ⌝ }
 {
     let mut i = 0;
     while i < n {
@@ -231,7 +230,7 @@ fn put_body(
 // different ones. One that wrote nothing does so with any qubits.
 fn may_be_copied(written: u64, qubits: &[u64; image::FRAME_QUBITS], n: u64) -> bool
     requires { ⌜ QubitsGiven (now qubits) n ⌝ }
-    ensures { λ r. ⌜ (r ≡ true → ¬ (written ≡ 0) → T (differ (take n (now (qubits .entry))))) ⌝ }
+    ensures { λ r. ⌜ r ≡ mayBeCopied written (take n (now (qubits .entry))) ⌝ }
 {
     if written == 0 {
         return true;
@@ -250,7 +249,8 @@ pub fn keep_body(
 )
     requires { ⌜ SlotGiven (now «kept_bodies») call (now qubits) × ((at .words ≤ next .words) × (at .records ≤ next .records)) ⌝ }
     ensures { λ _. ⌜
-        ((image out out′ : List ℕ) → BodyRun image call (anglesIn (now (angles .entry))) (now (qubits .entry)) out at next out′
+        BodyPut (now («kept_bodies» .entry)) call (now (angles .entry)) (now (qubits .entry)) at next (now («kept_bodies» .exit))
+        × ((image out out′ : List ℕ) → BodyRun image call (anglesIn (now (angles .entry))) (now (qubits .entry)) out at next out′
         → BodiesKept image (now («kept_bodies» .entry)) out′ (next .words) → BodiesKept image (now («kept_bodies» .exit)) out′ (next .words))
         ⌝ }
 {

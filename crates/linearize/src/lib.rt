@@ -9,7 +9,7 @@ use statement::Site;
 ghost use mathlib.Core.Path.{_≡_};
 ghost use Prim.Native.Nat.{_+_, _-_, _*_, _≤_};
 ghost use Rattle.model.specs.Steps.{steps};
-ghost use Rattle.image_check.specs.Statements.{fewExpressions};
+ghost use Rattle.image.specs.Layout.{fewExpressions};
 ghost use Rattle.expression.specs.KeptValues.{ConstantsKept};
 ghost use Rattle.record_writer.specs.Promise.{positionOf};
 ghost use Rattle.kept_body.specs.Slot.{WideEnough};
@@ -388,8 +388,7 @@ fn visit_few_expressions(
         (now (out .entry)) at (now (trace .entry)) r (now (out .exit)) (now (trace .exit))
         ⌝ }
 {
-    let mut kept_values = [0u64; (expression::KEPT_VALUE_WORDS as usize)
-        * image_check::FEW_EXPRESSIONS];
+    let mut kept_values = [0u64; (expression::KEPT_VALUE_WORDS as usize) * image::FEW_EXPRESSIONS];
     visit_with_kept_bodies(
         image,
         l,
@@ -447,7 +446,7 @@ fn visit_with_kept_values(
         (now (out .entry)) at (now (trace .entry)) r (now (out .exit)) (now (trace .exit))
         ⌝ }
 {
-    if l.expressions <= image_check::FEW_EXPRESSIONS as u64 {
+    if l.expressions <= image::FEW_EXPRESSIONS as u64 {
         return visit_few_expressions(image, l, register_starts, levels_left, out, trace, at);
     }
     visit_many_expressions(image, l, register_starts, levels_left, out, trace, at)

@@ -16,7 +16,7 @@ use Rattle.model.specs.Check.{matching, argumentOk, classicalArgumentOk,
 use Rattle.model.specs.Records.{Record}
 use Rattle.model.specs.Steps.{Step, write, enter, refuse, Frame, holder, clash, overlap, offsetsOf, offsets, resolveQreg, qubitIn, bitIn, argumentQubits, pushFrame, headRecord, steps}
 use Rattle.model.specs.Claims.{inRegister, differ, isQubit}
-use Rattle.model.proofs.All.{head-All, tail-All, test, All-every, all-All, All-all, All-weaken, All-front, All-back, All-getD, All-members, members-All, All-flat, All-of, of-All, All-range}
+use Rattle.model.proofs.All.{head-All, tail-All, test, All-every, all-All, All-all, All-weaken, All-append, All-front, All-back, All-getD, All-members, members-All, All-flat, All-of, of-All, All-range}
 use Rattle.model.specs.All.{All, nil, cons}
 use Rattle.model.proofs.Lengths.{length-range}
 use Rattle.model.proofs.BarrierLaws.{rising-all, rising-rises}
@@ -29,6 +29,10 @@ use Rattle.model.proofs.Origins.{Runs, itself, held, Call, calledFrame,
 
 unequal : (b : Bool) → b ≡ false → T (not b)
 unequal b e = rw e tt
+
+refuted : (b : Bool) → T (not b) → b ≡ false
+refuted true t = absurd t
+refuted false t = refl
 
 no-holder : (q : ℕ → ℕ) (x : ℕ) (l : List ℕ) → holder q x l ≡ none → All (λ b. T (not (eqb x (q b)))) l
 unfolding holder
@@ -58,6 +62,19 @@ no-overlap q before (a ∷ l) e = go (holder q (q a) before) refl e (λ d. no-ov
           All-every (cons (All-all _ (All-of q (head-All (All-back before (a ∷ []) (x .1))))) (cons (x .0) nil)),
           All-members before λ b m. cons (members-All (no-holder q (q a) before h) b m) (members-All (All-front before (a ∷ []) (x .1)) b m),
         )
+
+-- and where they differ there is no overlap
+apart-holder : (q : ℕ → ℕ) (x : ℕ) (l : List ℕ) → All (λ b. T (not (eqb x (q b)))) l → holder q x l ≡ none
+unfolding holder
+apart-holder q x [] h = refl
+apart-holder q x (b ∷ l) h = rw (refuted (eqb x (q b)) (head-All h)) (apart-holder q x l (tail-All h))
+
+pub differ-apart : (q : ℕ → ℕ) (before l : List ℕ) → T (differ (map q l)) → All (Apart q l) before → overlap q before l ≡ none
+unfolding overlap clash differ
+differ-apart q before [] d h = refl
+differ-apart q before (a ∷ l) d h =
+    rw (apart-holder q (q a) before (All-weaken (λ b k. head-All k) h))
+    (differ-apart q (before ++ a ∷ []) l (test 1 _ d) (All-append (All-weaken (λ b k. tail-All k) h) (cons (of-All q l (all-All _ (map q l) (test 0 _ d))) nil)))
 
 -- ---- registers
 

@@ -31,37 +31,43 @@ is-constant-requires c κs = search needs
 keep-value-requires : tie.Need-keep-value-requires
 keep-value-requires c κs =
     let r = c .before .before .before .before .before .r in
-    let s = c .before .before .before .before .before .before .before .before .before in
-    (omega (arith, few s), omega (arith, room s), rw (r .given .1) at (s .pre .3))
+    let s = c .before .before .before .before .before .before .before .before .before .before in
+    (omega (arith, s .pre .4, listed s), omega (arith, room s), rw (r .given .1) at (s .pre .3))
 
 mul-kept-values : tie.Need-mul-kept-values
-mul-kept-values c = record { fits = omega (arith, few (c .before .before .before .before .before .before .before .before .before .before .before .before .before)) }
+mul-kept-values c = record { fits = omega (arith, few (c .before .before .before .before .before .before .before .before .before .before .before .before .before .before .before .before)) }
 
 mul-kept-values-2 : tie.Need-mul-kept-values-2
-mul-kept-values-2 c = record { fits = omega (arith, few (c .before .before .before .before .before .before .before .before .before .before .before .before .before)) }
+mul-kept-values-2 c = record { fits = omega (arith, few (c .before .before .before .before .before .before .before .before .before .before .before .before .before .before .before .before)) }
 
 slice-write-kept-values : tie.Need-slice-write-kept-values
 slice-write-kept-values c =
-    let s = c .before .before .before .before .before .before .before .before .before .before .before .before .before in
-    omega (arith, room s, c .before .before .before .keep-value .ensures .same)
+    let s = c .before .before .before .before .before .before .before .before .before .before .before .before .before .before .before .before in
+    omega (arith, room s, c .before .before .before .before .before .keep-value .ensures .same)
 
 same-length : tie.Need-same-length
 same-length c = search needs
 
-returns-2 : tie.Need-returns-2
-returns-2 c =
-    let keep-value = c .before .before .before .keep-value .ensures in
-    let is-constant = c .before .before .before .before .before .before .is-constant .ensures in
-    let r = c .before .before .before .before .before .before .before .before .before .r in
-    λ angles h. keeps-constant-value _ angles _ _ _ _ _ _ _ keep-value (r .given .1) (is-constant (c .if1 .taken)) h
-
 same-length-2 : tie.Need-same-length-2
 same-length-2 c = search needs
 
+returns-2 : tie.Need-returns-2
+returns-2 c =
+    let keep-value = c .before .before .before .before .before .keep-value .ensures in
+    let is-constant = c .before .before .before .before .before .before .before .before .is-constant .ensures in
+    let r = c .before .before .before .before .before .before .before .before .before .before .before .r in
+    λ angles h. keeps-constant-value _ angles _ _ _ _ _ _ _ keep-value (r .given .1) (is-constant (c .if1 .taken)) h
+
+same-length-3 : tie.Need-same-length-3
+same-length-3 c = search needs
+
+same-length-4 : tie.Need-same-length-4
+same-length-4 c = search needs
+
 returns-3 : tie.Need-returns-3
 returns-3 c =
-    let keep-value = c .before .before .before .keep-value .ensures in
-    let r = c .before .before .before .before .before .before .before .before .before .r in
+    let keep-value = c .before .before .before .before .before .keep-value .ensures in
+    let r = c .before .before .before .before .before .before .before .before .before .before .before .r in
     λ angles h. keeps-value _ angles _ _ _ _ _ _ _ keep-value (r .given .1) h
 
 pub keep-evaluation-spec : {M : Type 1} → statement M
@@ -76,6 +82,8 @@ keep-evaluation-spec =
     mul-kept-values-2
     slice-write-kept-values
     same-length
-    returns-2
     same-length-2
+    returns-2
+    same-length-3
+    same-length-4
     returns-3)

@@ -14,16 +14,19 @@ add-put-value c = search needs
 put-value-requires : tie.Need-put-value-requires
 put-value-requires c κs = search needs
 
-element-write-known : tie.Need-element-write-known
-element-write-known c = search needs
+slice-write-known : tie.Need-slice-write-known
+slice-write-known c = search needs
 
 same-length : tie.Need-same-length
 same-length c = search needs
 
+same-length-2 : tie.Need-same-length-2
+same-length-2 c = search needs
+
 returns : tie.Need-returns
 returns c =
-    let args = c .before .before .before .before .before .args in
-    let pre = c .before .before .before .before .before .pre in
+    let args = c .before .before .before .before .before .before .args in
+    let pre = c .before .before .before .before .before .before .pre in
     stored _ (now (args .kept-values)) _ (args .e) (args .x) (pre .1) (pre .2) (c .before .before .put-value .ensures)
 
 pub keep-value-spec : {M : Type 1} → statement M
@@ -33,6 +36,7 @@ keep-value-spec =
     mul-put-value
     add-put-value
     put-value-requires
-    element-write-known
+    slice-write-known
     same-length
+    same-length-2
     returns)

@@ -184,7 +184,7 @@ open-gate-visit-body-requires : (t : ℕ) → open-gate-lts.Need-visit-body-requ
 open-gate-visit-body-requires t c κs =
     let s = c .before .before .before .before .before .before .before .before .before .before .before .before .before .before .before .before .before .before .before .before .before .before .before .before .before in
     let pre = s .pre .1 in
-    let copied = c .before .before .before .before .before .before .before .before .before .before .copy-body .ensures _ (called-gate (pre .0) (pre .3 .is-call)) (pre .0 .bodies) in
+    let copied = c .before .before .before .before .before .before .before .before .before .before .copy-body .ensures .1 _ (called-gate (pre .0) (pre .3 .is-call)) (pre .0 .bodies) in
     let same = copied .untouched (c .before .before .before .before .before .before .enum-told .given .1) in
     (omega (arith, s .pre .0), (context-same same (pre .0), pre .1, c .before .before .before .before .before .before .before .before .before .before .before .before .before .before .before .put-frame-angles .ensures .sound, pre .3))
 
@@ -192,7 +192,7 @@ open-gate-returns : (t : ℕ) → open-gate-lts.Need-returns (open-gate-callees 
 open-gate-returns t c =
     let s = c .before .before .before .before .before .before .before .before .before .before .before .before .before .before .before .before .before .before .before .before in
     let pre = s .pre .1 in
-    let w = copied-ran _ _ (pre .3 .is-call) (c .before .before .before .before .before .copy-body .ensures _ (called-gate (pre .0) (pre .3 .is-call)) (pre .0 .bodies) .wrote _ (c .before .next .given .1)) in
+    let w = copied-ran _ _ (pre .3 .is-call) (c .before .before .before .before .before .copy-body .ensures .1 _ (called-gate (pre .0) (pre .3 .is-call)) (pre .0 .bodies) .wrote _ (c .before .next .given .1)) in
     let opened = ran-steps (ap (λ (x : Frame). openGate (opening (now (s .args .image)) (s .args .call .site .«levels_left»)) x (s .args .call .gate)) (same-frame _ (s .args .call) (parameters-are (pre .3 .is-call)) (c .before .before .before .before .before .before .before .before .before .before .put-frame-angles .ensures) _)) w in
     (opened, pre .0 .context .constants, bodies-ran opened (pre .0 .bodies))
 
@@ -212,7 +212,7 @@ open-gate-returns-2 : (t : ℕ) → open-gate-lts.Need-returns-2 (open-gate-call
 open-gate-returns-2 t c =
     let s = c .before .before .before .before .before .before .before .before .before .before .before .before .before .before .before .before .before .before .before .before .before .before .before .before .before .before .before .before .before .before .before .before .before .before in
     let pre = s .pre .1 in
-    let copied = c .before .before .before .before .before .before .before .before .before .before .before .before .before .before .before .before .before .before .before .copy-body .ensures _ (called-gate (pre .0) (pre .3 .is-call)) (pre .0 .bodies) in
+    let copied = c .before .before .before .before .before .before .before .before .before .before .before .before .before .before .before .before .before .before .before .copy-body .ensures .1 _ (called-gate (pre .0) (pre .3 .is-call)) (pre .0 .bodies) in
     let same = copied .untouched (c .before .before .before .before .before .before .before .before .before .before .before .before .before .before .before .enum-told .given .1) in
     let v = c .before .before .before .before .before .before .before .before .visit-body .ensures in
     (ran-steps (ap (λ (x : Frame). openGate (opening (now (s .args .image)) (s .args .call .site .«levels_left»)) x (s .args .call .gate)) (same-frame _ (s .args .call) (parameters-are (pre .3 .is-call)) (c .before .before .before .before .before .before .before .before .before .before .before .before .before .before .before .before .before .before .before .before .before .before .before .before .put-frame-angles .ensures) _)) (ran-same-output same (v .0)), v .1, v .2)
@@ -343,7 +343,7 @@ visit-body-returns-2 t c =
     let pre = s .pre .1 in
     let loop = c .before .before .before .before .before .before .loop .inv in
     let w = ran-steps (open-steps _ _ _ _ _ _ _ (pre .3 .has-level) (holds-body _ _ (c .before .before .before .before .before .before .before .statements-of .ensures))) (ran-enter [] _ (ran-still (loop .1) (ran-done _ _ (loop .0) (c .before .before .before .before .if1 .left) refl))) in
-    (w, loop .2, c .before .before .keep-body .ensures _ _ _ (body-run (pre .0) (pre .3 .is-call) w) (loop .4))
+    (w, loop .2, c .before .before .keep-body .ensures .1 _ _ _ (body-run (pre .0) (pre .3 .is-call) w) (loop .4))
 
 visit-call-call-at-requires : (t : ℕ) → visit-call-lts.Need-call-at-requires (visit-call-callees t) (visit-call-at t) visit-call.Post
 visit-call-call-at-requires t c κs =

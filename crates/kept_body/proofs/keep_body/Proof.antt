@@ -2,8 +2,9 @@
 use mathlib.Core.Path.{_∙_}
 use denote.Ref.{now}
 use borrow.Author.Needs.{needs}
-use borrow.Author.Tests.{not-false}
-use Rattle.kept_body.proofs.KeptBodiesLaws.{bodies-put}
+use borrow.Author.Tests.{not-true, not-false}
+use Rattle.kept_body.proofs.SlotLaws.{told}
+use Rattle.kept_body.proofs.KeptBodiesLaws.{bodies-put, body-left, body-put}
 use Rattle.kept_body.proofs.BodyCopiedLaws.{lent-slot, slot-whole}
 use borrow.Author.Needs.{needs}
 use Rattle.kept_body.proofs.keep_body.Statement.{statement}
@@ -20,7 +21,7 @@ may-be-copied-requires : tie.Need-may-be-copied-requires
 may-be-copied-requires c κs = search needs
 
 returns : tie.Need-returns
-returns c = search needs
+returns c = (body-left (c .before .may-be-copied .ensures) (not-true _ (c .if1 .taken)), λ image out out′ _ b. b)
 
 slice-read-width : tie.Need-slice-read-width
 slice-read-width c = search needs
@@ -57,7 +58,10 @@ returns-2 c =
     let s = c .before .before .before .before .before .before .before .before .before .before in
     let e = lent-slot (now (s .args .kept-bodies)) (s .args .call .gate) in
     let put = c .before .before .put-body in
-    λ image out out′ ran b. bodies-put ran (now (s .args .kept-bodies)) (put .last .0) (put .kept .0 ∙ slot-whole (s .pre .0) e) (s .pre .0 .room) b (put .ensures) (c .before .before .before .before .before .before .may-be-copied .ensures (not-false _ (c .before .before .before .before .before .if1 .left)))
+    let may = c .before .before .before .before .before .before .may-be-copied .ensures in
+    let yes = not-false _ (c .before .before .before .before .before .if1 .left) in
+    let whole = put .kept .0 ∙ slot-whole (s .pre .0) e in
+    (body-put may yes (put .last .0) whole (s .pre .0 .room) (put .ensures), λ image out out′ ran b. bodies-put ran (now (s .args .kept-bodies)) (put .last .0) whole (s .pre .0 .room) b (put .ensures) (told may yes))
 
 pub keep-body-spec : {M : Type 1} → statement M
 keep-body-spec =
