@@ -29,7 +29,7 @@ use Rattle.copy.proofs.Renamed.{Levels}
 use Rattle.copy.proofs.BodyKeptLaws.{distinct-formals, renamed-shorter, keptRecords, copiedPlace, kept-copies, kept-silent}
 use Rattle.copy.proofs.CopiedRecordsLaws.{copied-once}
 use Rattle.kept_body.specs.declared.BodyCopy.the-variants as bodyCopy
-use Rattle.kept_body.specs.Slot.{slotNeed, slotWidth, slotOf, slotLevels, slotStart, slotWords, slotRecords, slotQubits, slotAngles, sameBody, mayBeCopied, SlotStands}
+use Rattle.kept_body.specs.Slot.{slotNeed, slotWidth, slotOf, slotLevels, slotStart, slotWords, slotRecords, slotQubits, slotAngles, sameBody, SlotStands}
 use Rattle.kept_body.specs.KeptBodies.{SlotKept, BodiesKept, CalledGate, calledSteps, SlotGiven, CopyGiven, copies, BodyCopied}
 use Rattle.kept_body.proofs.SlotLaws.{OpenedAlike, body-alike, body-angles}
 use Rattle.kept_body.proofs.KeptBodiesLaws.{angles-same, kept-each}

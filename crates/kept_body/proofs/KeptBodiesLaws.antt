@@ -21,7 +21,6 @@ use Rattle.model.specs.Steps.{Step}
 use Rattle.model.proofs.ListLaws.{drop-take}
 use Rattle.model.proofs.Accepted.{few-parameters}
 use Rattle.record_writer.specs.declared.Position.{Position}
-use Rattle.record_writer.specs.declared.Linearized.the-variants as linearized
 use Rattle.expression.specs.Angles.{fractionAt, valueAt, anglesIn}
 use Rattle.expression.proofs.AnglesLaws.{angle-at, sixteen}
 use Rattle.statement.specs.declared.Call.{Call}

@@ -14,7 +14,7 @@ returns : tie.Need-returns
 returns c = let a = c .before .args in alike-equal (a .call .gate) (a .levels) (a .call .site .«levels_left») (a .body-words) (c .if1 .taken)
 
 returns-2 : tie.Need-returns-2
-returns-2 c = let a = c .before .before .before .args in alike-silent (a .call .gate) (a .levels) (a .call .site .«levels_left») (a .body-words) (c .before .if2 .taken) (c .if3 .taken)
+returns-2 c = let a = c .before .before .before .args in alike-silent (a .call .gate) (a .levels) (a .call .site .«levels_left») (a .body-words) (c .before .if2 .taken) (omega (arith, c .if3 .taken))
 
 -- behind the tests of levels and words, what is left is whether every call is opened in both
 opened : (j : tie.Joined2) → (let a = j .before .before .args in (ltb (a .call .gate) (a .levels) && ltb (a .call .gate) (a .call .site .«levels_left»)) ≡ openedAlike (a .call .gate) (a .levels) (a .call .site .«levels_left») (a .body-words))

@@ -6,13 +6,8 @@ use borrow.Author.Tests.{not-true, not-false}
 use Rattle.kept_body.proofs.SlotLaws.{told}
 use Rattle.kept_body.proofs.KeptBodiesLaws.{bodies-put, body-left, body-put}
 use Rattle.kept_body.proofs.BodyCopiedLaws.{lent-slot, slot-whole}
-use borrow.Author.Needs.{needs}
 use Rattle.kept_body.proofs.keep_body.Statement.{statement}
 use Rattle.kept_body.proofs.keep_body.Tie as tie
-use Rattle.kept_body.proofs.keep_body.Reads as reads
-use Rattle.kept_body.proofs.keep_body.Lts as lts
-use Rattle.kept_body.proofs.may_be_copied.Reads as may-be-copied-reads
-use Rattle.kept_body.proofs.put_body.Reads as put-body-reads
 
 sub-may-be-copied : tie.Need-sub-may-be-copied
 sub-may-be-copied c = search needs

@@ -1,4 +1,5 @@
 -- A body that wrote words is asked for its qubits.
+use native.Mathlib.Omega.{arith}
 use mathlib.Core.Path.{refl}
 use borrow.Author.Needs.{needs}
 use borrow.Author.Tests.{eq-eqb, ne-eqb}
@@ -6,7 +7,7 @@ use Rattle.kept_body.proofs.may_be_copied.Statement.{statement}
 use Rattle.kept_body.proofs.may_be_copied.Tie as tie
 
 returns : tie.Need-returns
-returns c = rw (eq-eqb (c .before .args .written) 0 (c .if1 .taken)) refl
+returns c = rw (eq-eqb (c .before .args .written) 0 (omega (arith, c .if1 .taken))) refl
 
 are-distinct-requires : tie.Need-are-distinct-requires
 are-distinct-requires c κs = search needs

@@ -10,8 +10,6 @@ use Rattle.kept_body.proofs.SlotLaws.{holds, same-none, same-next, word
 use borrow.Author.Needs.{needs}
 use Rattle.kept_body.proofs.same_angles.Statement.{statement}
 use Rattle.kept_body.proofs.same_angles.Tie as tie
-use Rattle.kept_body.proofs.same_angles.Reads as reads
-use Rattle.kept_body.proofs.same_angles.Lts as lts
 
 abbrev Inv-loop : tie.InvT-loop
 Inv-loop slot angles n i₀ i = (i ≤ n) × T (sameAngles slot angles i)
