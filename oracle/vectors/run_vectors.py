@@ -402,6 +402,20 @@ def shared_expressions():
     stated(words, 2, head([1]), f"refused 13 {place(words, EXPRESSIONS, 31)} 0")
 
 
+def many_expressions():
+    heading("Images of 127, 128, 129 and 2,700 expressions, the last ones worked out of a parameter or a constant and used twice")
+    for count in 127, 128, 129, 2700:
+        # The last five are -7, which main hands on as x, then x, 2x, 2x - 7 and twice that.
+        given, x, double, less, last = range(count - 5, count)
+        entries = [integer(7)] * given + [(NEGATE, 0, 0), variable(0), (PLUS, x, x), (MINUS, double, 0), (PLUS, less, less)]
+        lists = dict(parameters=[given], expressions=entries)
+        words = program([call(0)], [(1, 1, [(U, last, less, double, 0)])], **lists)
+        stated(words, 2, head([1]), "1 -42 1 0 1 -21 1 0 1 -14 1 0 1 0", "done 2")
+        entries = [integer(7)] * (count - 2) + [(NEGATE, 0, 0), (PLUS, count - 2, count - 2)]
+        words = image(quantum=[1], main=[(U, count - 1, count - 2, 0, 0)], arguments=[(0, 0)], expressions=entries)
+        stated(words, 2, head([1]), "1 -14 1 0 1 -7 1 0 1 7 1 0 1 0", "done 2")
+
+
 def variables():
     heading("Variables: the caller's angles, worked out once a call, through two bodies in another order")
     # Gate 0 has U(x, y, x + y); gate 1 calls it with y and -x.
@@ -1724,7 +1738,7 @@ def random_hundred():
 
 SECTIONS = (
     examples, example_lengths,
-    angle_kinds, angle_orders, angle_refusals, first_refusals, shared_expressions,
+    angle_kinds, angle_orders, angle_refusals, first_refusals, shared_expressions, many_expressions,
     variables, sixteen_parameters,
     nested_refusals, nested_output_ends, deep_chain, refusals_after_others, numbers_that_differ,
     refusals_of_parameters, handed_down, without_arguments, without_arguments_inside,
