@@ -63,6 +63,7 @@ copies slot out call angles qubits at =
     && (leb (at .words + slotWords slot) (length out)
     && mayBeCopied (slotWords slot) (take (call .arguments) qubits))
 
+-- an answer says that a body was copied
 abbrev pub isCopied : BodyCopy → Bool
 isCopied (bodyCopy.Copied next) = true
 isCopied bodyCopy.NotCopied = false
