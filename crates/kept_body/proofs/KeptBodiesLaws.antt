@@ -151,11 +151,11 @@ module _ {image : List ℕ} {call : Call} {angles qubits out out′ : List ℕ} 
 -- ---- what keeping a body changes
 
 module _ {table angles qubits : List ℕ} {call : Call} {at next : Position} {r : Bool} (e : r ≡ mayBeCopied (next .words - at .words) (take (call .arguments) qubits)) where
-  -- one that may not be copied is not kept
+  -- a body that may not be copied is not kept
   pub body-left : r ≡ false → BodyPut table call angles qubits at next table
   body-left f = record { filled = λ t. absurd (subst T (sym e ∙ f) t); untouched = λ _. refl; others = λ g n. refl }
 
-  -- any other is put into the slot of its gate
+  -- a body that may be copied is put into the slot of its gate
   pub body-put : r ≡ true → (slot : List ℕ) → length slot ≡ slotWidth table → 1 + slotWidth table * call .gate + slotWidth table ≤ length table
       → SlotFilled slot (call .site .«levels_left») (at .words) (next .words - at .words) (next .records - at .records) call angles qubits → BodyPut table call angles qubits at next (putInto table slot (call .gate))
   body-put t slot whole room f =

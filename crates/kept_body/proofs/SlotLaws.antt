@@ -72,7 +72,7 @@ module _ (g n n′ words : ℕ) where
       go true = refl
       go false = rw (eq-eqb words 0 e, le-leb n n′ l) refl
 
-  -- where neither is so, every call is opened in both or it is not alike
+  -- where the levels differ, and fewer are left now if the body wrote nothing, it is opened alike exactly if every call in it is opened in both
   pub alike-opened : ¬ (n ≡ n′) → ((words ≡ 0) → n′ < n) → (ltb g n && ltb g n′) ≡ openedAlike g n n′ words
   alike-opened a b = rw (ne-eqb n n′ a) (go (eqb words 0) refl)
     where
@@ -123,7 +123,7 @@ module _ (slot : List ℕ) (call : Call) (angles : List ℕ) where
     pub angles-left : ¬ (slotLevels slot ≡ 0) → alike ≡ true → {same : Bool} → same ≡ sameAngles slot angles (6 * call .parameters) → same ≡ sameBody slot call angles
     angles-left n t s = rw (ne-eqb (slotLevels slot) 0 n, sym a ∙ t) s
 
--- ---- what such a slot says
+-- ---- what a slot that keeps the body of a call says
 
 module _ (slot : List ℕ) (call : Call) (angles : List ℕ) (t : T (sameBody slot call angles)) where
   abbrev alike : Bool
@@ -162,7 +162,7 @@ module _ (q : List ℕ) (n : ℕ) (h : n ≤ length q) where
   pub apart-differ : Overlaps q n overlapping.Apart → true ≡ differ (take n q)
   apart-differ o = sym (holds _ (subst (λ (l : List ℕ). T (differ l)) front-is (no-overlap qubit [] (range 0 n) (found o) .0)))
 
-  -- where two have one, they do not
+  -- where two of n arguments have one qubit, the first n qubits do not differ
   pub pair-same : {i j : ℕ} → Overlaps q n (overlapping.Pair i j) → false ≡ differ (take n q)
   pair-same {i} {j} o = go (differ (take n q)) refl
     where

@@ -63,7 +63,7 @@ no-overlap q before (a ∷ l) e = go (holder q (q a) before) refl e (λ d. no-ov
           All-members before λ b m. cons (members-All (no-holder q (q a) before h) b m) (members-All (All-front before (a ∷ []) (x .1)) b m),
         )
 
--- and where they differ there is no overlap
+-- where the arguments' qubits differ there is no overlap
 apart-holder : (q : ℕ → ℕ) (x : ℕ) (l : List ℕ) → All (λ b. T (not (eqb x (q b)))) l → holder q x l ≡ none
 unfolding holder
 apart-holder q x [] h = refl
