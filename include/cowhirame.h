@@ -121,7 +121,7 @@ enum cowhirame_record {
     COWHIRAME_U = 1,         /* three angles, qubit: 14 words */
     COWHIRAME_CX = 2,        /* control, target: 3 words */
     COWHIRAME_GATE = 3,      /* an opaque gate, or one whose body is not opened: gate, p, q, p angles, q qubits: 4 + 4*p + q words */
-    COWHIRAME_BARRIER = 4,   /* how many, the qubits: 2 + how many words */
+    COWHIRAME_BARRIER = 4,   /* how many, the qubits, each once and in rising order: 2 + how many words */
     COWHIRAME_MEASURE = 5,   /* qubit, bit: 3 words */
     COWHIRAME_RESET = 6,     /* qubit: 2 words */
     COWHIRAME_IF = 7,        /* first bit, how many bits, value: 4 words. What follows up to the end is conditional */

@@ -1,10 +1,12 @@
-"""A second reading of document 01: check, tally, run, record reader and listing.
+"""A second reading of document 01: check, tally, run, record reader and listing,
+with the tickets of document 02 that have landed.
 
 It is made so that another program can be compared with it.  It was written
-from document 01 and its settled readings only, with no sight of the code it
-tests.  A word is a Python integer below 2^64; sums and products are taken on
+from these documents and their settled readings only, with no sight of the code
+it tests.  A word is a Python integer below 2^64; sums and products are taken on
 unbounded integers, so nothing wraps.  Sentences of document 01 stand in
-quotation marks beside the lines that render them.
+quotation marks beside the lines that render them; those of document 02 with
+their ticket.
 
     check(words)                        the flaw, (number, place), or None
     tally(words, depth)                 the nine figures of an accepted image
@@ -520,7 +522,8 @@ class Run:
             self.write(CX, control, target)
 
     def barrier(self, frame, statement):
-        # "4 barrier: count, qubits."  "A barrier holds each qubit once", rising.
+        # "4 barrier: count, qubits."  "A barrier holds each qubit once".
+        # Document 02, One: "A barrier's qubits are written in increasing number."
         qubits = set()
         for argument, sort in self.image.named_arguments(statement):
             first, size = self.resolve(frame, argument, sort)

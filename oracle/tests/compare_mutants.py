@@ -18,6 +18,7 @@ ROOT = Path(__file__).resolve().parent.parent.parent
 RUST = ROOT / "oracle" / "rust"
 WORK = RUST / "target" / "mutants"
 NUM, EXACT, IMAGE, PUBLISHED = "num/src/lib.rs", "num/src/exact.rs", "src/image.rs", "src/published.rs"
+RECORDS = "src/lib.rs"
 
 # What is wrong, and the file with the text that is replaced by another.
 MUTANTS = [
@@ -62,6 +63,8 @@ MUTANTS = [
     ("body: last statement lost", IMAGE, "(first..first + length)", "(first..first + length.saturating_sub(1))"),
     ("body: opened though opaque", IMAGE, "0 => None,", "0 if parameters > 0 => None,"),
     ("literal of 2^63 or more: wraps", IMAGE, "first >= 1 << 63 =>", "first >= u64::MAX =>"),
+    ("barrier: first argument lost", IMAGE, "regs: (first..first + second)", "regs: (first + 1..first + second)"),
+    ("barrier: falling", RECORDS, ".sort_unstable()", ".sort_unstable_by(|a, b| b.cmp(a))"),
     ("trace: gate without the 1", PUBLISHED, "numbers(&caller)[0] + 1", "numbers(&caller)[0]"),
     ("overlap: places exchanged", PUBLISHED, "(12, at(a), at(b))", "(12, at(b), at(a))"),
     ("float without a fraction: NaN as it is", PUBLISHED, "if value.is_nan() { image::NAN } else { bits }", "bits"),

@@ -1,10 +1,11 @@
 """Whether each quotation in the definitions is a document's own words.
 
-    python3 -m oracle.tests.quotations DOCUMENT [FILE ..]
+    python3 -m oracle.tests.quotations DOCUMENT_01 DOCUMENT_02 [FILE ..]
 
-A quotation is what stands between double quotes in a comment. DOCUMENT is document 01; the files are those of the
-definitions, crates/*/specs/*.antt, unless others are named. Whitespace is not compared. Prints each quotation that is
-not found; the exit status is 0 if there is none, 1 otherwise.
+A quotation is what stands between double quotes in a comment. It is of a ticket of document 02 if that stands in front
+of it, as in: document 02, One: "..". Any other is of document 01. The files are those of the definitions,
+crates/*/specs/*.antt, unless others are named. Whitespace is not compared. Prints each quotation that is not found in its
+document or ticket; the exit status is 0 if there is none, 1 otherwise.
 """
 
 import pathlib
@@ -34,22 +35,30 @@ def comments(text):
     return found
 
 
+def tickets(text):
+    """The text of each ticket of document 02, by its name: a line that begins with **NAME. begins one."""
+    _, *parts = re.split(r"^\*\*(\w+)\. ", text, flags=re.MULTILINE)
+    return {name: words(part) for name, part in zip(parts[::2], parts[1::2])}
+
+
 def main(arguments):
-    if not arguments:
+    if len(arguments) < 2:
         print(__doc__)
         return 2
-    document = words(pathlib.Path(arguments[0]).read_text())
+    first, second = (pathlib.Path(f).read_text() for f in arguments[:2])
+    texts = tickets(second) | {"": words(first)}
     root = pathlib.Path(__file__).resolve().parents[2]
-    files = [pathlib.Path(f) for f in arguments[1:]] or sorted(root.glob("crates/*/specs/*.antt"))
-    count = missing = 0
+    files = [pathlib.Path(f) for f in arguments[2:]] or sorted(root.glob("crates/*/specs/*.antt"))
+    count = of_tickets = missing = 0
     for path in files:
         for line, comment in comments(path.read_text()):
-            for quotation in re.findall(r'"([^"]*)"', comment):
+            for ticket, quotation in re.findall(r'(?:[Dd]ocument 02, (\w+): )?"([^"]*)"', comment):
                 count += 1
-                if not re.search(r"(?<!\w)" + re.escape(words(quotation)) + r"(?!\w)", document):
+                of_tickets += ticket != ""
+                if not re.search(r"(?<!\w)" + re.escape(words(quotation)) + r"(?!\w)", texts.get(ticket, "")):
                     missing += 1
                     print(f"{path}:{line}: {quotation}")
-    print(f"{count} quotations, {missing} not found")
+    print(f"{count} quotations, {of_tickets} of them of tickets, {missing} not found")
     return 1 if missing else 0
 
 

@@ -624,6 +624,29 @@ class BarrierTwice(Unchanged):
         self.write(BARRIER, len(held), *sorted(held))
 
 
+@mutant("a barrier in falling order")
+class BarrierFalling(Unchanged):
+    def write(self, *record):
+        if record[0] == BARRIER:
+            record = (*record[:2], *reversed(record[2:]))
+        super().write(*record)
+
+
+@mutant("a barrier in the order of its qubits' digits")
+class BarrierDigits(Unchanged):
+    def write(self, *record):
+        if record[0] == BARRIER:
+            record = (*record[:2], *sorted(record[2:], key=str))
+        super().write(*record)
+
+
+@mutant("a barrier without its last argument's qubits")
+class BarrierLast(Unchanged):
+    def barrier(self, frame, statement):
+        kind, first, count, *unused = statement
+        super().barrier(frame, (kind, first, max(count - 1, 0), *unused))
+
+
 @mutant("a barrier without arguments is not written")
 class BarrierNone(Unchanged):
     def barrier(self, frame, statement):

@@ -879,6 +879,39 @@ def body_barriers():
     every_length(words, 0)
 
 
+def barrier_orders():
+    heading("Barriers over several registers, in every order of arguments that overlap: the same words")
+    quantum = [2, 3, 1, 4]  # from 0, 2, 5, 6
+    for arguments in permutations(((3, 0), (1, 2), (0, 0), (3, 3))):
+        words = image(quantum=quantum, main=[(BARRIER, 0, 4)], arguments=list(arguments))
+        stated(words, 0, head(quantum), "4 7 0 1 3 6 7 8 9", "done 2")
+    heading("Barriers whose qubits have one to four digits: by number and not by digits")
+    numbers = 1000, 101, 20, 9, 100, 10, 11, 999, 2
+    for quantum, arguments in (
+        ([1001], qubits(*numbers)),
+        ([1001], qubits(*sorted(numbers, key=str))),
+        ([9, 91, 900, 1], [(3, 0), (2, 2), (1, 12), (1, 1), (2, 1), (1, 2), (1, 3), (2, 900), (0, 3)]),
+    ):
+        words = image(quantum=quantum, main=[(BARRIER, 0, 9)], arguments=arguments)
+        stated(words, 0, head(quantum), "4 9 2 9 10 11 20 100 101 999 1000", "done 2")
+
+
+def body_barrier_orders():
+    heading("Barriers in bodies: every order of three formals, in a body that is called and one that it calls; and none")
+    for order in permutations(range(3)):
+        lists = Lists()
+        inner = [lists.barrier(*order), lists.barrier(), lists.barrier(order[2], order[0])]
+        outer = [lists.call(0, formals(*order)), lists.barrier(*order, *order[:2])]
+        main, texts = [], []
+        for row in (10, 2, 9), (2, 9, 10):
+            main.append(lists.call(1, qubits(*row)))
+            handed = [row[number] for number in order]
+            pair = sorted((handed[order[2]], handed[order[0]]))
+            texts += ["4 3 2 9 10", "4 0", f"4 2 {joined(pair)}", "4 3 2 9 10"]
+        words = lists.program(main, [(0, 3, inner), (0, 3, outer)], quantum=[11])
+        stated(words, 3, head([11]), *texts, "done 9")
+
+
 # ------------------------------------------------------------- conditionals
 
 
@@ -1745,7 +1778,7 @@ SECTIONS = (
     cx_overlaps, opaque_overlaps, overlaps_in_later_rounds, overlaps_and_more,
     lock_step, turned_formals, sixteen_arguments,
     large_broadcasts, large_pairs, large_bodies, many_registers,
-    barriers, body_barriers, ifs, ifs_in_turn, refusals_in_ifs,
+    barriers, body_barriers, barrier_orders, body_barrier_orders, ifs, ifs_in_turn, refusals_in_ifs,
     short_outputs, records_too_long, short_outputs_inside, refused_by_the_check,
     empties, longest_images, shared_bodies, towers_at_depths,
     repeated_calls, repeated_parameters, repeated_arguments, repeated_with_equal_qubits, repeated_overlaps,

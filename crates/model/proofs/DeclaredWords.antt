@@ -1,16 +1,16 @@
--- The tests `declared` and `distinct` of a record's words are those of the record.
+-- The tests `declared` and `distinct` of a record's words are those of the record; a barrier's words behind its count rise if its qubits do.
 use Prim.Native.Nat.{ℕ, _+_, _*_}
 use native.Mathlib.Omega.{arith}
 use mathlib.Core.Path.{_≡_, refl, ap}
 use mathlib.Core.List.{List, [], _∷_, _++_, flatMap}
 use lib.Dec.{T}
-use lib.ListN.{length}
+use lib.ListN.{length, getD, drop}
 use lib.Seq.{take-at, drop-at}
 use Rattle.value.specs.declared.Value.{Value}
 use Rattle.model.specs.Records.{Record, kind, angleWords, pair, fields, encode}
-use Rattle.model.specs.Claims.{pairsOf, opaqueQubits, declared, distinct}
+use Rattle.model.specs.Claims.{pairsOf, opaqueQubits, rises, declared, distinct}
 use Rattle.model.proofs.Lengths.{length-words, length-pairs}
-use Rattle.model.proofs.TypedRecords.{declaredRecord, distinctRecord}
+use Rattle.model.proofs.TypedRecords.{declaredRecord, distinctRecord, risesRecord}
 
 pairs-back : (l : List (ℕ × ℕ)) → pairsOf (flatMap pair l) ≡ l
 unfolding pairsOf pair flatMap
@@ -57,3 +57,15 @@ module _ (image : List ℕ) where
 
   pub distinct-words : (r : Record) → T (distinctRecord image r) → T (distinct image (encode r))
   distinct-words r t = rw distinct-encode t
+
+pub rises-words : (r : Record) → T (risesRecord r) → getD (encode r) 0 0 ≡ 4 → T (rises (drop 2 (encode r)))
+unfolding risesRecord encode kind fields
+rises-words (Record.Head qs bs) t e = absurd (omega arith)
+rises-words (Record.U theta phi lambda q) t e = absurd (omega arith)
+rises-words (Record.CX a b) t e = absurd (omega arith)
+rises-words (Record.Opaque g xs qs) t e = absurd (omega arith)
+rises-words (Record.Barrier qs) t e = t
+rises-words (Record.Measure q b) t e = absurd (omega arith)
+rises-words (Record.Reset q) t e = absurd (omega arith)
+rises-words (Record.ConditionalStart b n v) t e = absurd (omega arith)
+rises-words Record.ConditionalEnd t e = absurd (omega arith)

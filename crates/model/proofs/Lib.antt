@@ -5,11 +5,11 @@ pub mod Accepted
 pub mod ListLaws
 pub mod Lengths
 pub mod Ranges
+pub mod BarrierLaws
 pub mod Counts
 pub mod TallySums
 pub mod TypedRecords
 pub mod Origins
-pub mod BarrierLaws
 pub mod StepsSound
 pub mod Depth
 pub mod AnglesSound

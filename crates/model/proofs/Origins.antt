@@ -8,11 +8,11 @@ use mathlib.Core.Option.{Option, none, some}
 use lib.Dec.{eqb}
 use lib.ListN.{getD}
 use Rattle.value.specs.declared.Value.{Value}
-use Rattle.model.specs.Lists.{range, largest, rising}
+use Rattle.model.specs.Lists.{range, largest}
 use Rattle.model.specs.Image.{Statement, Gate, Conditional, statement, argumentAt, parameter, gateParameters, gateArguments, gateBody, firstBit, classicalSize, mainStatements, argumentSize, classicalArgumentSize, rounds, scopeStatements}
 use Rattle.model.specs.Evaluate.{zeroValue}
 use Rattle.model.specs.Records.{Record}
-use Rattle.model.specs.Steps.{Refusal, OverlappingRegs, Step, write, enter, refuse, Frame, mainFrame, Values, have, lack, given, inRounds, overlap, qubitIn, bitIn, argumentQubits, parameterValues, withValues, writeU, writeCX, distinctly, writeOpaque, writeMeasure, writeReset, pushFrame, openGate, visitGate, visitPlain, visitConditional, visitStatement, visitBody, opening, headRecord, steps}
+use Rattle.model.specs.Steps.{Refusal, OverlappingRegs, Step, write, enter, refuse, Frame, mainFrame, Values, have, lack, given, inRounds, overlap, qubitIn, bitIn, barrierHolds, parameterValues, withValues, writeU, writeCX, distinctly, writeOpaque, writeMeasure, writeReset, pushFrame, openGate, visitGate, visitPlain, visitConditional, visitStatement, visitBody, opening, headRecord, steps}
 use Rattle.model.proofs.All.{All-append, All-flat, All-range, All-members}
 use Rattle.model.specs.All.{All, nil, cons}
 
@@ -41,7 +41,7 @@ module _ (image : List ℕ) where
         → eqb (qubitIn image frame i a) (qubitIn image frame i b) ≡ false → Writes frame (Record.CX (qubitIn image frame i a) (qubitIn image frame i b))
     writes-opaque : {s g p a : ℕ} {xs : List Value} {i : ℕ} → Call frame s g p a xs i → eqb (gateBody image g) 0 ≡ true
         → overlap (qubitIn image frame i) [] (range a (gateArguments image g)) ≡ none → Writes frame (Record.Opaque g xs (map (qubitIn image frame i) (range a (gateArguments image g))))
-    writes-barrier : {s a n : ℕ} → Runs (frame .scope) s (Statement.Barrier a n) → Writes frame (Record.Barrier (rising (flatMap (argumentQubits image frame) (range a n))))
+    writes-barrier : {s a n : ℕ} → Runs (frame .scope) s (Statement.Barrier a n) → Writes frame (Record.Barrier (barrierHolds image frame a n))
     writes-measure : {s q c i : ℕ} → Runs (frame .scope) s (Statement.Measure q c) → i < largest (argumentSize image (frame .scope) q ∷ classicalArgumentSize image c ∷ [])
         → Writes frame (Record.Measure (qubitIn image frame i q) (bitIn image i c))
     writes-reset : {s q i : ℕ} → Runs (frame .scope) s (Statement.Reset q) → i < rounds image (frame .scope) (q ∷ []) → Writes frame (Record.Reset (qubitIn image frame i q))

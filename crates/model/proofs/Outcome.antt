@@ -6,7 +6,7 @@ use mathlib.Core.Path.{_≡_, refl, sym, ap, _∙_, subst}
 use mathlib.Core.Bool.{Bool, true, false, not, cond}
 use mathlib.Core.List.{List, [], _∷_, _++_, map, flatMap, List·Memᴰ, List·Memᴰ·head, List·Memᴰ·tail}
 use lib.Dec.{T, eqb, leb, ltb, nleb→lt}
-use lib.ListN.{length, drop, length-append, length-drop, length-map}
+use lib.ListN.{length, getD, drop, length-append, length-drop, length-map}
 use lib.Seq.{take-append-seam}
 use borrow.Author.Tests.{ltb-false}
 use Rattle.model.specs.Lists.{range, sum, all}
@@ -17,18 +17,18 @@ use Rattle.model.specs.Steps.{Step, write, enter, refuse, steps}
 use Rattle.model.specs.Run.{Answer, done, full, flawed, shortTrace, Played, stop, after, traceOf, play, accepted, runs, output, laidOver, linearize}
 use Rattle.model.specs.Tally.{weightTally, ofKind, theWords, recordFigure, entryFigure, wordBound}
 use Rattle.model.specs.RecordReader.{recordsIn}
-use Rattle.model.specs.Claims.{count, declared, distinct, Claims, written, recordsFound}
+use Rattle.model.specs.Claims.{count, rises, declared, distinct, Claims, written, recordsFound}
 use Rattle.model.proofs.All.{head-All, tail-All, All-front, All-of, members-All}
 use Rattle.model.specs.All.{All, nil, cons}
 use Rattle.model.proofs.Accepted.{accepts}
 use Rattle.model.specs.Accepted.{Accepted}
 use Rattle.model.proofs.FlawLaws.{check-claims}
 use Rattle.model.proofs.Counts.{weighs, clean, steps-tallied}
-use Rattle.model.proofs.TypedRecords.{declaredRecord, distinctRecord}
+use Rattle.model.proofs.TypedRecords.{declaredRecord, distinctRecord, risesRecord}
 use Rattle.model.proofs.StepsSound.{Good, steps-good}
 use Rattle.model.proofs.AnglesSound.{step-claims}
 use Rattle.model.proofs.ReadBack.{reads-back}
-use Rattle.model.proofs.DeclaredWords.{declared-words, distinct-words}
+use Rattle.model.proofs.DeclaredWords.{declared-words, distinct-words, rises-words}
 use Rattle.model.proofs.WordRange.{steps-words, output-words}
 use Rattle.model.proofs.PlayLaws.{output-fits}
 use Rattle.model.proofs.TallySums.{ofKinds, kinds-total, ends, heads}
@@ -168,7 +168,7 @@ module _ (w : List ℕ) (acc : Accepted w) where
       go : (b : Bool) → length (traceOf (play (room - length (encode r)) ss .answer)) ≤ 256
           → length (traceOf (cond b (after r (play (room - length (encode r)) ss)) (stop (full t)) .answer)) ≤ 256
       go true k = k
-      go false k = head-All h .2
+      go false k = head-All h .3
 
 -- ---- a run
 
@@ -333,8 +333,8 @@ module _ (image : List ℕ) (depth : ℕ) (out trace : List ℕ) where
   found-all : (P : List ℕ → Type 0) → All (λ r. P (encode r)) (played .written) → (r : List ℕ) → List·Memᴰ r (recordsFound (linearize image depth out trace)) → P r
   found-all P h r m = members-All (subst (All P) (sym records-read) (All-of encode h)) r m
 
-  sound-step : (acc : Accepted image) (t : List ℕ) (r : Record) → List·Memᴰ (write t r) (steps image depth) → T (declaredRecord image r) × T (distinctRecord image r)
-  sound-step acc t r m = let g = members-All (steps-good image acc depth) (write t r) m in (g .0, g .1)
+  sound-step : (acc : Accepted image) (t : List ℕ) (r : Record) → List·Memᴰ (write t r) (steps image depth) → T (declaredRecord image r) × T (distinctRecord image r) × T (risesRecord r)
+  sound-step acc t r m = let g = members-All (steps-good image acc depth) (write t r) m in (g .0, g .1, g .2)
 
   words-written : T (all (λ x. ltb x (2 ^ 64)) image) → T (all (λ x. ltb x (2 ^ 64)) (output played))
   unfolding output
@@ -343,7 +343,7 @@ module _ (image : List ℕ) (depth : ℕ) (out trace : List ℕ) where
       (all-written image depth (length out) (length trace)
       (λ acc t r m.
       members-All
-      (steps-words image acc h depth (λ u q k. let g = sound-step acc u q k in (g .0, g .1, step-claims image depth .angles u q k)))
+      (steps-words image acc h depth (λ u q k. let g = sound-step acc u q k in (g .0, g .2, step-claims image depth .angles u q k)))
       (write t r) m))
 
   pub claims : Claims image depth out trace (linearize image depth out trace)
@@ -361,6 +361,7 @@ module _ (image : List ℕ) (depth : ℕ) (out trace : List ℕ) where
         entries = entries-done image depth (length out) (length trace);
         declares = found-all (λ r. T (declared image r)) (all-written image depth (length out) (length trace) (λ acc t r m. declared-words image r (sound-step acc t r m .0)));
         differs = found-all (λ r. T (distinct image r)) (all-written image depth (length out) (length trace) (λ acc t r m. distinct-words image r (sound-step acc t r m .1)));
+        barriers-rise = found-all (λ r. getD r 0 0 ≡ 4 → T (rises (drop 2 r))) (all-written image depth (length out) (length trace) (λ acc t r m. rises-words r (sound-step acc t r m .2)));
         flaws = flaw-number image depth (length out) (length trace);
         traces = trace-fits image depth (length out) (length trace) .0;
         lengths = (kept (output played) out (room-enough image depth (length out) (length trace)), kept (traceOf (played .answer)) trace (trace-fits image depth (length out) (length trace) .1));

@@ -1,4 +1,4 @@
--- Every record of an accepted program's run is declared and distinct, and every trace has at most 256 words.
+-- Every record of an accepted program's run is declared and distinct, a barrier's qubits rise, and every trace has at most 256 words.
 use Prim.Native.Nat.{ℕ, zero, suc, _+_, _-_, _*_, _≤_, _<_}
 use native.Mathlib.Nat.{not-suc-le-zero, suc-add, add-suc, add-zero, zero-add}
 use native.Mathlib.Omega.{arith}
@@ -19,10 +19,10 @@ use Rattle.model.specs.Claims.{inRegister, differ, isQubit}
 use Rattle.model.proofs.All.{head-All, tail-All, test, All-every, all-All, All-all, All-weaken, All-append, All-front, All-back, All-getD, All-members, members-All, All-flat, All-of, of-All, All-range}
 use Rattle.model.specs.All.{All, nil, cons}
 use Rattle.model.proofs.Lengths.{length-range}
-use Rattle.model.proofs.BarrierLaws.{rising-all, rising-rises}
+use Rattle.model.proofs.BarrierLaws.{rising-all, barrier-claims}
 use Rattle.model.proofs.Accepted.{passes}
 use Rattle.model.specs.Accepted.{Accepted, Declared, FrameOk}
-use Rattle.model.proofs.TypedRecords.{declaredRecord, distinctRecord}
+use Rattle.model.proofs.TypedRecords.{declaredRecord, distinctRecord, risesRecord}
 use Rattle.model.proofs.Origins.{Runs, itself, held, Call, calledFrame, Writes, writes-U, writes-CX, writes-opaque, writes-barrier, writes-measure, writes-reset, writes-start, writes-end, Reached, main, called, Origin, head, writes, cuts, enters, refuses, origins}
 
 -- ---- without an overlap the arguments' qubits differ
@@ -211,25 +211,25 @@ module _ (w : List ℕ) (acc : Accepted w) where
         let p = all-All _ _ m in
         All-every (cons (qubit-below q i h (matched _ _ i (head-All p) k)) (cons (lt→ltb _ _ (bit-below c i j (matched _ _ i (head-All (tail-All p)) k))) nil))
 
-    written-good : {r : Record} → Writes w frame r → T (declaredRecord w r) × T (distinctRecord w r)
-    unfolding declaredRecord distinctRecord plainFlaw conditionalFlaw conditionalOk
-    written-good (writes-U {q} {i} h e l) = (one-below q i (passes 2 _ (sound h .1) tt) l, tt)
+    written-good : {r : Record} → Writes w frame r → T (declaredRecord w r) × T (distinctRecord w r) × T (risesRecord r)
+    unfolding declaredRecord distinctRecord risesRecord plainFlaw conditionalFlaw conditionalOk
+    written-good (writes-U {q} {i} h e l) = (one-below q i (passes 2 _ (sound h .1) tt) l, tt, tt)
     written-good (writes-CX {a} {b} {i} h l d) =
         let e = sound h .1 in
         let p = all-below i (a ∷ b ∷ []) (cons (test 0 _ (passes 1 _ e tt)) (cons (test 1 _ (passes 1 _ e tt)) nil)) (passes 2 _ e tt) l in
-        (All-every (cons (head-All p) (cons (head-All (tail-All p)) nil)), unequal _ d)
+        (All-every (cons (head-All p) (cons (head-All (tail-All p)) nil)), unequal _ d, tt)
     written-good (writes-opaque {g} {xs} {i} c b d) =
         let k = call-below c in
-        (opaque-declared g xs _ (k .0) (k .2), rw b (no-overlap (qubitIn w frame i) [] _ d .0))
+        (opaque-declared g xs _ (k .0) (k .2), rw b (no-overlap (qubitIn w frame i) [] _ d .0), tt)
     written-good (writes-barrier {a} {n} h) =
-        (All-all (isQubit w) (rising-all (All-flat (argumentQubits w frame) (All-weaken whole-below (all-All _ (range a n) (passes 1 _ (sound h .1) tt))))), rising-rises _)
+        (All-all (isQubit w) (rising-all (All-flat (argumentQubits w frame) (All-weaken whole-below (all-All _ (range a n) (passes 1 _ (sound h .1) tt))))), tt, barrier-claims w frame a n .rise)
     written-good (writes-measure {q} {c} {i} h l) =
         let e = sound h .1 in
-        (measure-declared q c i (test 0 _ (passes 1 _ e tt)) (test 1 _ (passes 1 _ e tt)) (passes 2 _ e tt) l, tt)
-    written-good (writes-reset {q} {i} h l) = (one-below q i (passes 1 _ (sound h .1) tt) l, tt)
+        (measure-declared q c i (test 0 _ (passes 1 _ e tt)) (test 1 _ (passes 1 _ e tt)) (passes 2 _ e tt) l, tt, tt)
+    written-good (writes-reset {q} {i} h l) = (one-below q i (passes 1 _ (sound h .1) tt) l, tt, tt)
     written-good (writes-start {s} {r} {t} m e) =
-        (le→leb _ _ (register-below r (ltb→lt _ _ (test 2 _ (guarded (conditionalOk w (frame .scope) s r t) _ 3 (checked (bounds .0) m e) .0)))), tt)
-    written-good writes-end = (tt, tt)
+        (le→leb _ _ (register-below r (ltb→lt _ _ (test 2 _ (guarded (conditionalOk w (frame .scope) s r t) _ 3 (checked (bounds .0) m e) .0)))), tt, tt)
+    written-good writes-end = (tt, tt, tt)
 
     called-ready : {s g p a : ℕ} {xs : List Value} {i : ℕ} → Call w frame s g p a xs i → Ready (calledFrame w frame s g a xs i)
     unfolding pushFrame downward
@@ -244,7 +244,7 @@ module _ (w : List ℕ) (acc : Accepted w) where
   -- ---- steps
 
   abbrev pub Good : Step → Type 0
-  Good (write t r) = T (declaredRecord w r) × T (distinctRecord w r) × (length t ≤ 256)
+  Good (write t r) = T (declaredRecord w r) × T (distinctRecord w r) × T (risesRecord r) × (length t ≤ 256)
   Good (enter t g) = length t ≤ 256
   Good (refuse t x) = length t ≤ 256
 
@@ -253,16 +253,16 @@ module _ (w : List ℕ) (acc : Accepted w) where
   reached-ready (called {frame} r c) = called-ready frame (reached-ready r) c
 
   head-good : Good (write [] (headRecord w))
-  unfolding headRecord declaredRecord distinctRecord
-  head-good = (All-every (cons (offsets-in (quantumSize w) (quantumRegisters w)) (cons (offsets-in (classicalSize w) (classicalRegisters w)) nil)), tt, omega arith)
+  unfolding headRecord declaredRecord distinctRecord risesRecord
+  head-good = (All-every (cons (offsets-in (quantumSize w) (quantumRegisters w)) (cons (offsets-in (classicalSize w) (classicalRegisters w)) nil)), tt, tt, omega arith)
 
   step-good : {depth : ℕ} (s : Step) → Origin w depth s → Good s
-  unfolding distinctRecord pushFrame
+  unfolding distinctRecord risesRecord pushFrame
   step-good s head = head-good
-  step-good s (writes {frame} r h) = let g = written-good frame (reached-ready r) h in (g .0, g .1, bounds frame (reached-ready r) .1)
+  step-good s (writes {frame} r h) = let g = written-good frame (reached-ready r) h in (g .0, g .1, g .2, bounds frame (reached-ready r) .1)
   step-good s (cuts {frame} {s = o} {g} {a} {xs} {i} r c e) =
       let k = call-below frame (reached-ready r) c in
-      (opaque-declared g [] _ (k .0) (k .2), rw e tt, bounds (calledFrame w frame o g a xs i) (called-ready frame (reached-ready r) c) .1)
+      (opaque-declared g [] _ (k .0) (k .2), rw e tt, tt, bounds (calledFrame w frame o g a xs i) (called-ready frame (reached-ready r) c) .1)
   step-good s (enters {frame} {s = o} {g} {a} {xs} {i} r c) = bounds (calledFrame w frame o g a xs i) (called-ready frame (reached-ready r) c) .1
   step-good s (refuses {frame} r) = bounds frame (reached-ready r) .1
 

@@ -1,4 +1,4 @@
--- The tests `declared` and `distinct` of specs/Claims.antt, of a record before it is written as words.
+-- The tests `declared` and `distinct` of specs/Claims.antt, and that a barrier's qubits rise, of a record before it is written as words.
 use Prim.Native.Nat.{ℕ, _+_}
 use mathlib.Core.Bool.{Bool, true, not, cond}
 use mathlib.Core.List.{List, [], _∷_}
@@ -26,8 +26,19 @@ module _ (image : List ℕ) where
   distinctRecord (U theta phi lambda q) = true
   distinctRecord (CX a b) = not (eqb a b)
   distinctRecord (Opaque g xs qs) = cond (eqb (gateBody image g) 0) (differ qs) true
-  distinctRecord (Barrier qs) = rises qs
+  distinctRecord (Barrier qs) = true
   distinctRecord (Measure q b) = true
   distinctRecord (Reset q) = true
   distinctRecord (ConditionalStart b n v) = true
   distinctRecord ConditionalEnd = true
+
+unfoldable pub risesRecord : Record → Bool
+risesRecord (Head qs bs) = true
+risesRecord (U theta phi lambda q) = true
+risesRecord (CX a b) = true
+risesRecord (Opaque g xs qs) = true
+risesRecord (Barrier qs) = rises qs
+risesRecord (Measure q b) = true
+risesRecord (Reset q) = true
+risesRecord (ConditionalStart b n v) = true
+risesRecord ConditionalEnd = true

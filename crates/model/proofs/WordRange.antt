@@ -1,4 +1,4 @@
--- Where the words of an accepted image are below 2^64, so are the words of its steps' records, if these are declared and distinct and their angles are sound.
+-- Where the words of an accepted image are below 2^64, so are the words of its steps' records, if these are declared, their barriers rise and their angles are sound.
 use Prim.Native.Nat.{ℕ, zero, suc, _+_, _-_, _^_, _≤_}
 use native.Mathlib.Omega.{arith}
 use mathlib.Core.Path.{_≡_, refl, sym, _∙_, subst}
@@ -21,7 +21,7 @@ use Rattle.model.specs.All.{All, nil, cons}
 use Rattle.model.proofs.All.{members-All, All-members}
 use Rattle.model.specs.Accepted.{Accepted}
 use Rattle.model.proofs.Lengths.{length-range, length-offsets, length-values}
-use Rattle.model.proofs.TypedRecords.{declaredRecord, distinctRecord}
+use Rattle.model.proofs.TypedRecords.{declaredRecord, risesRecord}
 
 abbrev pub isWord : ℕ → Bool
 isWord x = ltb x (2 ^ 64)
@@ -112,8 +112,8 @@ module _ (image : List ℕ) (acc : Accepted image) (words : T (all (λ x. ltb x 
   qubit-words : (qs : List ℕ) → T (all (isQubit image) qs) → All Word qs
   qubit-words qs t = All-weaken qubit-word (all-All (isQubit image) qs t)
 
-  pub record-words : (r : Record) → T (declaredRecord image r) → T (distinctRecord image r) → T (countedRecord r) → All Sound (anglesOf r) → All Word (encode r)
-  unfolding encode kind fields declaredRecord distinctRecord countedRecord anglesOf
+  pub record-words : (r : Record) → T (declaredRecord image r) → T (risesRecord r) → T (countedRecord r) → All Sound (anglesOf r) → All Word (encode r)
+  unfolding encode kind fields declaredRecord risesRecord countedRecord anglesOf
   record-words (Record.Head qs bs) d e c a =
       cons tt (cons (test 0 _ c) (cons (test 1 _ c)
       (All-append (pair-words (quantumSize image) (quantumRegisters image) (word-word 1) (λ r. word-word (quantumRegisterAt image r)) qs (test 0 _ d))
@@ -231,9 +231,9 @@ module _ (image : List ℕ) (acc : Accepted image) (words : T (all (λ x. ltb x 
   unfolding steps
   steps-counted depth = either-counted (eqb (mainStatements image) 0) nil (cons head-counted (body-counted (ways (depth - 1)) mainFrame))
 
-  -- the steps, where each record that they write is declared and distinct and its angles are sound
+  -- the steps, where each record that they write is declared, a barrier's qubits rise and the angles are sound
   pub steps-words : (depth : ℕ)
-      → ((t : List ℕ) (r : Record) → List·Memᴰ (write t r) (steps image depth) → T (declaredRecord image r) × T (distinctRecord image r) × ((x : Value) → List·Memᴰ x (anglesOf r) → Sound x))
+      → ((t : List ℕ) (r : Record) → List·Memᴰ (write t r) (steps image depth) → T (declaredRecord image r) × T (risesRecord r) × ((x : Value) → List·Memᴰ x (anglesOf r) → Sound x))
       → All InRange (steps image depth)
   steps-words depth h = All-members (steps image depth) go
     where

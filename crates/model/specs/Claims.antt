@@ -1,4 +1,4 @@
--- What is claimed of every run, and proved in proofs/: demand 3, over the words that stand in the output when it ends (Outcome), the depth rule and the angles (Depth, AnglesSound), and what document 01 says of results that it leaves open (BarrierLaws, FlawLaws).
+-- What is claimed of every run, and proved in proofs/: demand 3, and that a barrier's qubits rise, over the words that stand in the output when it ends (Outcome), the depth rule and the angles (Depth, AnglesSound), what a barrier holds (BarrierLaws), and what document 01 says of a result that it leaves open (FlawLaws).
 use Prim.Native.Nat.{ℕ, _+_, _*_, _/_, _^_, _≤_}
 use mathlib.Core.Path.{_≡_}
 use mathlib.Core.Bool.{Bool, true, false, not, _||_, cond}
@@ -9,11 +9,11 @@ use lib.ListN.{length, getD, take, drop}
 use Rattle.value.specs.declared.Value.{Value}
 use Rattle.value.specs.Value.{Sound}
 use Rattle.model.specs.Refusals as refusal
-use Rattle.model.specs.Lists.{range, sum, every, all, rising}
-use Rattle.model.specs.Image.{mainStatements, quantumRegisters, classicalRegisters, gates, quantumSize, classicalSize, qubits, bits, gateBody, quantumRegisterAt, classicalRegisterAt, gateAt, statementAt}
+use Rattle.model.specs.Lists.{range, sum, every, all}
+use Rattle.model.specs.Image.{Statement, mainStatements, quantumRegisters, classicalRegisters, gates, quantumSize, classicalSize, qubits, bits, gateBody, quantumRegisterAt, classicalRegisterAt, gateAt, statementAt}
 use Rattle.model.specs.Check.{fine, contentsOk, registerFlaw, registers, gateFlaw, gateEntries, flaw, everyStatement}
 use Rattle.model.specs.Records.{Record, kind, encode}
-use Rattle.model.specs.Steps.{Step, write, enter, refuse, steps}
+use Rattle.model.specs.Steps.{Step, write, enter, refuse, Frame, Opening, argumentQubits, barrierHolds, visitPlain, steps}
 use Rattle.model.specs.Run.{Outcome, done, full, flawed, runs}
 use Rattle.model.specs.Tally.{recordFigure, entryFigure, wordBound}
 use Rattle.model.specs.RecordReader.{recordsIn}
@@ -90,10 +90,8 @@ module _ (image : List ℕ) where
       -- kind 2: a CX has two different qubits
       ∷ not (eqb (getD r 1 0) (getD r 2 0))
       -- kind 3: a declared opaque gate has no qubit twice
-      ∷ cond (eqb (gateBody image (getD r 1 0)) 0) (differ (opaqueQubits r)) true
-      -- kind 4: a barrier has each qubit once, and rising
-      ∷ rises (drop 2 r) ∷ [])
-      -- kinds 5 to 8
+      ∷ cond (eqb (gateBody image (getD r 1 0)) 0) (differ (opaqueQubits r)) true ∷ [])
+      -- kinds 4 to 8
       (getD r 0 0) true
 
 -- ---- the depth
@@ -145,9 +143,11 @@ pub record Claims (image : List ℕ) (depth : ℕ) (out trace : List ℕ) (o : O
   -- the record reader finds as many records as the answer says, and they fill the words written
   pub read : length (recordsFound o) ≡ o .records
   pub filled : flatMap (λ r. r) (recordsFound o) ≡ written o
-  -- every index written is a declared one; a CX has two different qubits, a declared opaque gate no qubit twice, a barrier each once
+  -- every index written is a declared one; a CX has two different qubits, a declared opaque gate no qubit twice
   pub declares : (r : List ℕ) → List·Memᴰ r (recordsFound o) → T (declared image r)
   pub differs : (r : List ℕ) → List·Memᴰ r (recordsFound o) → T (distinct image r)
+  -- document 02, One: "A barrier's qubits are written in increasing number." They are the words of a kind 4 behind its count; each is below those after it, so that none stands twice
+  pub barriers-rise : (r : List ℕ) → List·Memᴰ r (recordsFound o) → getD r 0 0 ≡ 4 → T (rises (drop 2 r))
   -- a refusal of check's has one of the numbers 1 to 8
   pub flaws : (n p : ℕ) → o .answer ≡ flawed n p → (refusal.contents ≤ n) × (n ≤ refusal.upward)
   -- the trace fits the 256 words asked for; both slices keep their length
@@ -172,12 +172,23 @@ pub record StepClaims (image : List ℕ) (depth : ℕ) : Type 0 where
   pub depths : (s : Step) → List·Memᴰ s (steps image depth) → T (atDepth image depth s)
   pub angles : (t : List ℕ) (r : Record) → List·Memᴰ (write t r) (steps image depth) → (x : Value) → List·Memᴰ x (anglesOf r) → Sound x
 
--- ---- results that document 01 leaves open
+-- ---- a barrier
 
--- "a barrier's order (its arguments' qubits, each once)": what `rising` holds
-pub record BarrierClaims (l : List ℕ) : Type 0 where
-  pub same : (q : ℕ) → (List·Memᴰ q (rising l) → List·Memᴰ q l) × (List·Memᴰ q l → List·Memᴰ q (rising l))
-  pub once : T (rises (rising l))
+-- of the qubits that a barrier of n arguments from a on holds in a frame, of main or of a body
+pub record BarrierClaims (image : List ℕ) (frame : Frame) (a n : ℕ) : Type 0 where
+  -- the one record that the statement writes holds them
+  pub one-record : (ifDoes : ℕ → ℕ → ℕ → List Step) (opened : Opening) (s : ℕ)
+      → visitPlain image ifDoes opened frame s (Statement.Barrier a n) ≡ write (frame .trace) (Record.Barrier (barrierHolds image frame a n)) ∷ []
+  -- document 02, One: "A barrier's qubits are written in increasing number."
+  pub rise : T (rises (barrierHolds image frame a n))
+  -- each qubit of each argument is among them, and no other
+  pub each : (b q : ℕ) → List·Memᴰ b (range a n) → List·Memᴰ q (argumentQubits image frame b) → List·Memᴰ q (barrierHolds image frame a n)
+  pub no-other : (q : ℕ) → List·Memᴰ q (barrierHolds image frame a n) → (b : ℕ) × List·Memᴰ b (range a n) × List·Memᴰ q (argumentQubits image frame b)
+  -- nothing is left open: a list that rises and holds the same qubits is this one
+  pub fixed : (qs : List ℕ) → T (rises qs) → ((q : ℕ) → List·Memᴰ q qs → List·Memᴰ q (barrierHolds image frame a n))
+      → ((q : ℕ) → List·Memᴰ q (barrierHolds image frame a n) → List·Memᴰ q qs) → qs ≡ barrierHolds image frame a n
+
+-- ---- a result that document 01 leaves open
 
 -- "check's statement (a bad one, with its own number and place)": the first of a list, and none before it is bad
 pub record FirstOfList {A : Type 0} (number place : A → ℕ) (l : List A) (n p : ℕ) : Type 0 where

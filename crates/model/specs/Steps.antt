@@ -112,6 +112,10 @@ module _ (image : List ℕ) where
   unfoldable pub argumentQubits : Frame → ℕ → List ℕ
   argumentQubits frame a = map (λ i. qubitIn frame i a) (range 0 (argumentSize image (frame .scope) a))
 
+  -- the qubits that a barrier of n arguments from a on holds. Document 01: "A barrier holds each qubit once"; document 02, One: "A barrier's qubits are written in increasing number."
+  abbrev pub barrierHolds : Frame → ℕ → ℕ → List ℕ
+  barrierHolds frame a n = rising (flatMap (argumentQubits frame) (range a n))
+
   -- ---- angles
 
   unfoldable pub parameterValues : List Value → List ℕ → Values
@@ -157,7 +161,7 @@ module _ (image : List ℕ) where
 
   -- ---- statements
 
-  -- Statement s. What an if does is handed in, since an if holds no other if. "Parameters are evaluated before anything else of a call. Without arguments nothing is written, opaque or not." "A barrier holds each qubit once": in rising order.
+  -- Statement s. What an if does is handed in, since an if holds no other if. "Parameters are evaluated before anything else of a call. Without arguments nothing is written, opaque or not."
   unfoldable pub visitPlain : (ℕ → ℕ → ℕ → List Step) → Opening → Frame → ℕ → Statement → List Step
   visitPlain ifDoes opened frame s (Statement.U theta phi lambda q) =
       withValues frame (theta ∷ phi ∷ lambda ∷ []) λ xs. inRounds (rounds image (frame .scope) (q ∷ [])) (writeU frame q xs)
@@ -165,7 +169,7 @@ module _ (image : List ℕ) where
   visitPlain ifDoes opened frame s (Gate g p a) =
       withValues frame (map (parameter image) (range p (gateParameters image g))) λ xs.
       inRounds (rounds image (frame .scope) (range a (gateArguments image g))) (visitGate opened frame s g (range a (gateArguments image g)) xs)
-  visitPlain ifDoes opened frame s (Statement.Barrier a n) = write (frame .trace) (Record.Barrier (rising (flatMap (argumentQubits frame) (range a n)))) ∷ []
+  visitPlain ifDoes opened frame s (Statement.Barrier a n) = write (frame .trace) (Record.Barrier (barrierHolds frame a n)) ∷ []
   visitPlain ifDoes opened frame s (Statement.Measure q c) = inRounds (largest (argumentSize image (frame .scope) q ∷ classicalArgumentSize image c ∷ [])) (writeMeasure frame q c)
   visitPlain ifDoes opened frame s (Statement.Reset q) = inRounds (rounds image (frame .scope) (q ∷ [])) (writeReset frame q)
   visitPlain ifDoes opened frame s (Conditional r v t) = ifDoes r v t

@@ -8,11 +8,11 @@ use lib.ListN.{getD, take}
 use mathlib.Core.Option.{Option, none, some}
 use Rattle.value.specs.declared.Value.{Value}
 use Rattle.model.specs.Limits.{mostElements}
-use Rattle.model.specs.Lists.{range, largest, rising}
+use Rattle.model.specs.Lists.{range, largest}
 use Rattle.model.specs.Records.{Record}
 use Rattle.model.specs.Image.{word, argumentAt, argumentSize, classicalArgumentSize, rounds, variables}
 use Rattle.model.specs.Check.{matching}
-use Rattle.model.specs.Steps.{Step, write, refuse, Refusal, overlap, distinctly, inRounds, qubitIn, writeReset, writeMeasure, writeCX, writeOpaque, writeU, withValues, argumentQubits}
+use Rattle.model.specs.Steps.{Step, write, refuse, Refusal, overlap, distinctly, inRounds, qubitIn, writeReset, writeMeasure, writeCX, writeOpaque, writeU, withValues, argumentQubits, barrierHolds}
 use Rattle.model.specs.All.{All}
 use Rattle.record_writer.specs.declared.Position.{Position}
 use Rattle.record_writer.specs.declared.LinearizeErrorKind.the-variants as kind
@@ -96,7 +96,7 @@ qubitsOfAll image scope qubits a n = flatMap (argumentQubits image (scopeFrame i
 
 -- a barrier of the qubits of n arguments from a on
 abbrev pub barrierSteps : List ℕ → ℕ → List ℕ → ℕ → ℕ → List Step
-barrierSteps image scope qubits a n = write [] (Record.Barrier (rising (qubitsOfAll image scope qubits a n))) ∷ []
+barrierSteps image scope qubits a n = write [] (Record.Barrier (barrierHolds image (scopeFrame image scope [] qubits) a n)) ∷ []
 
 -- a U of the qubit that an argument has in a round, with the angles given
 unfoldable pub uRound : Argument → Value → Value → Value → ℕ → List Step

@@ -54,7 +54,8 @@ pub fn records(output: &[u64]) -> Option<Vec<&[u64]>> {
     Some(records)
 }
 
-/// The same words with each barrier's qubits in rising order: a barrier is compared as a set.
+/// The same words with each barrier's qubits in rising order. The published linearizer writes them in the order of a hash
+/// set, so that its barriers are held as sets. Ours must rise as they stand.
 pub fn with_rising_barriers(output: &[u64]) -> Vec<u64> {
     let mut words = output.to_vec();
     let mut at = 0;

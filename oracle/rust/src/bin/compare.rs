@@ -1,6 +1,7 @@
 //! compare SEED COUNT [FIRST]: the sequence unit beside the published linearizer, on random images.
 //!
 //! Of ten items six are programs, three of these with calls that repeat; three are single expressions and one is damaged.
+//! Against the published linearizer a barrier is held as a set: its qubits are put in rising order, in which ours must stand.
 //! Counts by outcome are printed, and every difference with its image; the exit status is 1 if there is any.
 use oracle::published::{self, Domain, Run};
 use oracle::random::Random;
@@ -89,14 +90,13 @@ impl Comparison {
             return None;
         };
         let trace_room = TRACE_ROOM + self.random.below(3) as usize;
-        let mut ours = match unit::run(&mut self.random, image, depth, room, trace_room) {
+        let ours = match unit::run(&mut self.random, image, depth, room, trace_room) {
             Ok(ours) => ours,
             Err(what) => {
                 self.differ(image, depth, room, &what);
                 return None;
             }
         };
-        ours.output = with_rising_barriers(&ours.output);
         let Run { mut outcome, domain, conditional, untested } = run;
         outcome.output = with_rising_barriers(&outcome.output);
         let counts = &mut self.counts;
@@ -240,7 +240,7 @@ fn report(counts: &Counts, count: u64, seconds: f64) {
         let number = if *number == 0 { "finished".into() } else { format!("refused {number}") };
         println!("  {number}{domain}{}: {count}", if *conditional { ", with a conditional" } else { "" });
     }
-    println!("records by kind  {}", listed(&counts.kinds));
+    println!("records by kind  {}; a barrier's qubits are held as a set, and the unit's must rise", listed(&counts.kinds));
     let inside = counts.ends.iter().filter(|((_, domain, conditional), _)| *domain == Domain::Inside && !conditional);
     println!(
         "{} of {} inside document 01's domain",

@@ -466,7 +466,7 @@ fn compare(name: &str, images: &[Vec<u64>], rounds: usize) {
         // All words but the head's must be the same.
         let head = unit.output[..].get(1..3).map_or(0, |counts| 3 + 2 * (counts[0] + counts[1]) as usize);
         if ours > 0 {
-            let same = oracle::with_rising_barriers(&unit.output[head..unit.answer[4] as usize])
+            let same = unit.output[head..unit.answer[4] as usize]
                 == with_gate_numbers(&unit.output[head..], oracle::with_rising_barriers(&output[3..]));
             assert!(same, "{name}");
         }
