@@ -34,5 +34,5 @@ module _ (r : Linearized) (out trace : List ℕ) where
 pub record Linearizes (image : List ℕ) (depth : ℕ) (out trace : List ℕ) (r : Linearized) (out′ trace′ : List ℕ) : Type 0 where
   -- answer, counts, output and trace are the definition's; words that need not be touched are as they were
   pub outcome : answerOutcome r out′ trace′ ≡ linearize image depth out trace
-  -- demand 3, of this answer and these slices: what is written is what the tally said, in records of each kind, body entries and words; every index is a declared one; a CX has two different qubits. Beside it, that a barrier's qubits rise
+  -- demand 3, of this answer and these slices: what is written is what the tally said, in records of each kind, body entries and words; every index is a declared one; a CX has two different qubits. And a barrier's qubits rise
   pub claims : Claims image depth out trace (answerOutcome r out′ trace′)

@@ -113,7 +113,7 @@ atDepth image depth (enter t g) = ltb (frames t) depth
 atDepth image depth (refuse t r) = within depth t
 atDepth image depth (write t r) = cond (isCut image r) (leb depth (frames t)) (within depth t)
 
--- ---- demand 3
+-- ---- demand 3, and what tickets of document 02 add to it
 
 module _ (o : Outcome) where
   -- the output words written, and the records that the record reader finds in them

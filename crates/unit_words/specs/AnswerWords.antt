@@ -76,6 +76,6 @@ pub record RunExport (image : List ℕ) (depth : ℕ) (out trace out′ trace′
   pub answers : answer ≡ runWords (linearize image depth out trace)
   pub output : out′ ≡ linearize image depth out trace .outputLeft
   pub traces : trace′ ≡ linearize image depth out trace .traceLeft
-  -- nothing of the outcome is lost in them, and demand 3 holds of them
+  -- nothing of the outcome is lost in them; demand 3 holds of them, and a barrier's qubits rise
   pub outcome : outcomeIn answer out′ trace′ ≡ linearize image depth out trace
   pub claims : Claims image depth out trace (outcomeIn answer out′ trace′)
