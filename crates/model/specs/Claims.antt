@@ -176,15 +176,15 @@ pub record StepClaims (image : List ℕ) (depth : ℕ) : Type 0 where
 
 -- of the qubits that a barrier of n arguments from a on holds in a frame, of main or of a body
 pub record BarrierClaims (image : List ℕ) (frame : Frame) (a n : ℕ) : Type 0 where
-  -- the one record that the statement writes holds them
+  -- a barrier writes one record, of the qubits that it holds
   pub one-record : (ifDoes : ℕ → ℕ → ℕ → List Step) (opened : Opening) (s : ℕ)
       → visitPlain image ifDoes opened frame s (Statement.Barrier a n) ≡ write (frame .trace) (Record.Barrier (barrierHolds image frame a n)) ∷ []
   -- document 02, One: "A barrier's qubits are written in increasing number."
   pub rise : T (rises (barrierHolds image frame a n))
-  -- each qubit of each argument is among them, and no other
+  -- it holds each qubit of each argument, and no other
   pub each : (b q : ℕ) → List·Memᴰ b (range a n) → List·Memᴰ q (argumentQubits image frame b) → List·Memᴰ q (barrierHolds image frame a n)
   pub no-other : (q : ℕ) → List·Memᴰ q (barrierHolds image frame a n) → (b : ℕ) × List·Memᴰ b (range a n) × List·Memᴰ q (argumentQubits image frame b)
-  -- nothing is left open: a list that rises and holds the same qubits is this one
+  -- no order is left open: any list that rises and has the same qubits is the barrier's own
   pub fixed : (qs : List ℕ) → T (rises qs) → ((q : ℕ) → List·Memᴰ q qs → List·Memᴰ q (barrierHolds image frame a n))
       → ((q : ℕ) → List·Memᴰ q (barrierHolds image frame a n) → List·Memᴰ q qs) → qs ≡ barrierHolds image frame a n
 
