@@ -2,11 +2,10 @@
 #
 #   bytes B             the length of the image in bytes
 #   word W              for each word of the image
-#   depth N             if it was run
 #   from SCOPE PLACE    as in the listing
 #   refused NUMBER PLACE SECOND
 #
-# The numbers and their order are document 01's. What is said here is read off the image and the depth alone: nothing
+# The numbers and their order are document 01's. What is said here is read off the image alone: nothing
 # is checked or run again.
 
 BEGIN {
@@ -51,7 +50,6 @@ BEGIN {
 
 $1 == "bytes" { BYTES = $2 }
 $1 == "word" { WORD[WORDS++] = $2 }
-$1 == "depth" { DEPTH = $2 }
 $1 == "from" { SCOPE[++FRAMES] = $2; CALLED_AT[FRAMES] = $3 }
 $1 == "refused" { NUMBER = $2; PLACE = $3; SECOND = $4 }
 
@@ -158,20 +156,12 @@ function tell_expression(    number) {
     if (FRAMES) tell("(p0, p1, .. are the parameters of the gate in whose body it stands)")
 }
 
-# Whether the gate that the last frame calls is not opened: then its call is refused, and no statement of its body. A body
-# is opened exactly if the frames, its own among them, are fewer than the depth.
-function is_cut() {
-    return FRAMES && FRAMES >= DEPTH
-}
-
 function tell_overlap(    scope) {
-    scope = is_cut() ? SCOPE[FRAMES] : fault_scope()
-    if (!is_cut()) tell_pairs(number_at(PLACE), number_at(SECOND))
+    scope = fault_scope()
+    tell_pairs(number_at(PLACE), number_at(SECOND))
     tell("place " PLACE ": argument " number_at(PLACE) ", " argument_text(number_at(PLACE), scope, QUANTUM))
     tell("place " SECOND ": argument " number_at(SECOND) ", " argument_text(number_at(SECOND), scope, QUANTUM))
     if (scope) tell("Both formal arguments stand for the same qubit in the calls above.")
-    if (is_cut()) tell("Gate " WORD[CALLED_AT[FRAMES] + 1] " is not opened at depth " DEPTH ": it is one operation, and its " \
-        "qubits must differ. It is opened from depth " FRAMES + 1 " on.")
 }
 
 # Fills HERE[1] .. with the statements of a scope, those that an if holds in its place; how many.

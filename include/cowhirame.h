@@ -68,13 +68,13 @@ enum cowhirame_answer {
     /* in a tally's answer; all 0 if it is refused */
     COWHIRAME_TALLY_U = 2,      /* records that a finished run writes, by kind */
     COWHIRAME_TALLY_CX = 3,
-    COWHIRAME_TALLY_GATE = 4,   /* opaque gates, and gates whose bodies are not opened */
+    COWHIRAME_TALLY_GATE = 4,
     COWHIRAME_TALLY_BARRIER = 5,
     COWHIRAME_TALLY_MEASURE = 6,
     COWHIRAME_TALLY_RESET = 7,
     COWHIRAME_TALLY_IF = 8,
     COWHIRAME_TALLY_ENTRIES = 9, /* gate bodies that are entered, run or copied */
-    COWHIRAME_TALLY_WORDS = 10   /* output words, the angles of gates that are not opened among them: as many are always enough */
+    COWHIRAME_TALLY_WORDS = 10   /* output words: as many are always enough */
 };
 
 /* ---- Numbers: why something is refused ---- */
@@ -96,8 +96,7 @@ enum cowhirame_number {
     COWHIRAME_DIVIDED_BY_ZERO = 9, /* 9, 10, 11, 13: place of the expression */
     COWHIRAME_NO_FRACTION = 10,    /* a float without a fraction; second: its bits */
     COWHIRAME_OVERFLOW = 11,
-    COWHIRAME_OVERLAP = 12,        /* place and second: the two arguments on the same qubit, of a CX, an opaque gate or a
-                                      gate whose body is not opened: then the trace ends with the call of this gate */
+    COWHIRAME_OVERLAP = 12,        /* place and second: the two arguments on the same qubit */
     COWHIRAME_FLOAT_FUNCTION = 13,
     COWHIRAME_OUTPUT_FULL = 14,    /* the next record is longer than the output words left; place 0 */
 
@@ -121,8 +120,7 @@ enum cowhirame_record {
     COWHIRAME_HEAD = 0,      /* qubits, bits; register and offset of each qubit, then of each bit: 3 + 2*(qubits + bits) words */
     COWHIRAME_U = 1,         /* three angles, qubit: 14 words */
     COWHIRAME_CX = 2,        /* control, target: 3 words */
-    COWHIRAME_GATE = 3,      /* an opaque gate, or one whose body is not opened: gate, p, q, p angles, q qubits: 4 + 4*p + q words.
-                                p is the gate's number of parameters; the qubits differ */
+    COWHIRAME_GATE = 3,      /* an opaque gate, or one whose body is not opened: gate, p, q, p angles, q qubits: 4 + 4*p + q words */
     COWHIRAME_BARRIER = 4,   /* how many, the qubits, each once and in rising order: 2 + how many words */
     COWHIRAME_MEASURE = 5,   /* qubit, bit: 3 words */
     COWHIRAME_RESET = 6,     /* qubit: 2 words */
@@ -142,8 +140,7 @@ void cowhirame_check(const uint64_t *image, size_t words, uint64_t *answer);
 /*
  * What a run at a depth will write.
  *   image, words   the image and its length
- *   depth          a gate body is opened if fewer calls than this are on the stack, itself among them; if not, the gate
- *                  is written with its angles and qubits, as one operation whose qubits must differ
+ *   depth          a gate body is opened if fewer calls than this are on the stack, itself among them
  *   answer         11 words: number, place, nine figures
  */
 void cowhirame_tally(const uint64_t *image, size_t words, uint64_t depth, uint64_t *answer);

@@ -391,12 +391,12 @@ class Tally:
     def call_round(self, number, depth):
         # "Call, each round: with a body and a depth above 1, one body entry and
         # the body's statements at a depth less by 1.  Otherwise a kind 3 of 4+4p+q
-        # words (p its parameters ...; q its arguments)."  Document 02, Two: "The
-        # tally's word bound counts these angles", those of a gate with a body.
+        # words (p its parameters, 0 with a body; q its arguments)."
         gate = self.image.gate(number)
         if gate.with_body and depth > 1:
             return added(ONE_ENTRY, self.body(number, depth - 1))
-        return records(CALL, 1, 4 + 4 * gate.parameters + gate.arguments)
+        angle_count = 0 if gate.with_body else gate.parameters
+        return records(CALL, 1, 4 + 4 * angle_count + gate.arguments)
 
     def body(self, number, depth):
         """Worked out once for each gate and depth."""
@@ -551,17 +551,15 @@ class Run:
         # gate+1, then the call statement's place.  A body not opened counts as
         # a frame."
         self.stack.append((frame.scope, self.image.statement_place(number)))
-        # "The body is opened only if the frames on the stack after the push are
-        # fewer than the depth."
-        if len(self.stack) < self.depth:
-            for qubits in self.rounds(frame, statement):
+        for qubits in self.rounds(frame, statement):
+            # "The body is opened only if the frames on the stack after the push
+            # are fewer than the depth."
+            if len(self.stack) < self.depth:
                 self.open(gate, Frame(statement[1] + 1, values, qubits))
-        else:
-            # Document 02, Two: "A body that is not opened is now written with its
-            # parameter values, and its qubits are tested for distinctness like
-            # those of an opaque gate, with refusal 12 and the trace that includes
-            # the cut call."
-            self.opaque(frame, statement, values)
+            else:
+                # "A body not opened is written as kind 3 with p = 0 and no
+                # distinctness test."
+                self.write(CALL, statement[1], 0, len(qubits), *qubits)
         self.stack.pop()
 
     def open(self, gate, frame):
@@ -569,7 +567,6 @@ class Run:
             self.statement(frame, number)
 
     def opaque(self, frame, statement, values):
-        """Kind 3, of an opaque gate or of one whose body is cut."""
         # "3 opaque: gate, p, q, p angles, q qubits."
         words = self.angle_words(values)
         arguments = [argument for argument, _ in self.image.named_arguments(statement)]

@@ -1,6 +1,5 @@
 """Mutants of the Rust beside which the unit is compared: one thing is made wrong at
-a time in a copy of the stand-ins, of the driver or of what is altered in the
-published files, which is then compared.
+a time in a copy of the stand-ins or of the driver, which is then compared.
 
     python3 -m oracle.tests.compare_mutants [COUNT] [SEED] [WORDS]
 
@@ -19,29 +18,7 @@ ROOT = Path(__file__).resolve().parent.parent.parent
 RUST = ROOT / "oracle" / "rust"
 WORK = RUST / "target" / "mutants"
 NUM, EXACT, IMAGE, PUBLISHED = "num/src/lib.rs", "num/src/exact.rs", "src/image.rs", "src/published.rs"
-RECORDS, ALTERATIONS = "src/lib.rs", "openqasm/build.rs"
-
-# The texts altered for ticket Two: by the first a cut gate's values are listed, by the second its qubits are tested.
-LISTED = "values.push(value);\n            if def.gates.is_some() {"
-TESTED = "if def.gates.is_none() || self.stack.len() >= self.depth {"
-# The test as it is published, and whether this is a cut gate's first round: a cut gate's frame has no registers, and
-# one that is put there tells the later rounds.
-TEST = """
-    for i in 0..argsn.len() {
-        for j in 0..i { self.assert_different(argsn[i], argsn[j], args[i].span, args[j].span)?; }
-    }"""
-FIRST_ROUND = "self.frame.qregs.insert(name.to_symbol(), (0, 0)).is_none()"
-
-
-def listing(how):
-    """How values are listed instead; those of a gate with a body are put in its frame as they are."""
-    return how + "\n            if def.gates.is_some() {"
-
-
-def testing(how):
-    """How a cut gate is tested instead; an opaque one is tested as it is."""
-    return "if def.gates.is_some() && self.stack.len() >= self.depth {" + how + "} if def.gates.is_none() {"
-
+RECORDS = "src/lib.rs"
 
 # What is wrong, and the file with the text that is replaced by another.
 MUTANTS = [
@@ -94,35 +71,6 @@ MUTANTS = [
     ("output: a record that fits exactly refused", PUBLISHED, "if record.len() > self.room", "if record.len() >= self.room"),
     ("conditional: namesakes in the head", PUBLISHED, "&qubits[..self.0.qubits as usize]", "&qubits[..]"),
     ("depth: one more", PUBLISHED, "depth as usize)", "(depth as usize).saturating_add(1))"),
-    ("cut gate: angles left out", ALTERATIONS, LISTED, listing("if def.gates.is_none() { values.push(value); }")),
-    ("cut gate: first angle alone", ALTERATIONS, LISTED,
-     listing("if def.gates.is_none() || values.is_empty() { values.push(value); }")),
-    ("cut gate: angles in reversed order", ALTERATIONS, LISTED,
-     listing("values.insert(if def.gates.is_some() { 0 } else { values.len() }, value);")),
-    ("cut gate: not tested", ALTERATIONS, TESTED, testing("")),
-    ("cut gate: tested in main alone", ALTERATIONS, TESTED, testing(f"if self.stack.len() == 1 {{ {TEST} }}")),
-    ("cut gate: tested in bodies alone", ALTERATIONS, TESTED, testing(f"if self.stack.len() > 1 {{ {TEST} }}")),
-    ("cut gate: tested in the first round alone", ALTERATIONS, TESTED, testing(f"if {FIRST_ROUND} {{ {TEST} }}")),
-    ("cut gate: all rounds tested before the first record", ALTERATIONS, TESTED, testing(f"""
-    if {FIRST_ROUND} {{
-        for round in 0..size as usize {{
-            let argsn: Vec<usize> = argsn.iter().zip(&fixed).map(|(n, fixed)| if *fixed {{ *n }} else {{ n + round }}).collect();
-            {TEST}
-        }}
-    }}""")),
-    ("cut gate: tested after its record", ALTERATIONS, TESTED, testing("""
-    if (1..argsn.len()).any(|i| argsn[..i].contains(&argsn[i])) {
-        let written = self.writer.write_opaque(name, &values, &argsn);
-        self.err(written.map_err(|error| LinearizeErrorKind::WriterError { error: Box::new(error) }))?;
-    }""" + TEST)),
-    ("cut gate: neighbours alone tested", ALTERATIONS, TESTED, testing(TEST.replace("in 0..i", "in i.saturating_sub(1)..i"))),
-    ("cut gate: largest first argument", ALTERATIONS, TESTED,
-     testing(TEST.replace("in 0..argsn.len()", "in (0..argsn.len()).rev()"))),
-    ("cut gate: places exchanged", ALTERATIONS, TESTED,
-     testing(TEST.replace("args[i].span, args[j].span", "args[j].span, args[i].span"))),
-    ("cut gate: its call missing in the trace of a 12", ALTERATIONS, TESTED,
-     testing("let call = self.frame.call.take();" + TEST + "self.frame.call = call;")),
-    ("opened gate: tested too", ALTERATIONS, TESTED, "if true {"),
 ]
 
 

@@ -62,7 +62,7 @@ class Unchanged(Run):
             if self.opens(turn):
                 self.open(gate, Frame(statement[1] + 1, values, qubits))
             else:
-                self.cut(frame, statement, values, qubits, turn)
+                self.cut(statement, values, qubits)
         self.stack.pop()
 
     def values(self, frame, statement):
@@ -74,20 +74,8 @@ class Unchanged(Run):
     def opens(self, turn):
         return len(self.stack) < self.depth
 
-    def cut(self, frame, statement, values, qubits, turn):
-        numbers = [argument for argument, _ in self.image.named_arguments(statement)]
-        self.one_cut(numbers, qubits, turn, self.cut_record(frame, statement, values, qubits))
-
-    def one_cut(self, numbers, qubits, turn, record):
-        self.cut_distinct(numbers, qubits)
-        self.write(*record)
-
-    def cut_distinct(self, numbers, qubits):
-        # What mutants change of an opaque gate's test stays as it is here.
-        Unchanged.distinct(self, numbers, qubits)
-
-    def cut_record(self, frame, statement, values, qubits):
-        return CALL, statement[1], len(values), len(qubits), *self.angle_words(values), *qubits
+    def cut(self, statement, values, qubits):
+        self.write(CALL, statement[1], 0, len(qubits), *qubits)
 
     def cx(self, frame, statement):
         for turn, (control, target) in enumerate(self.rounds(frame, statement)):
@@ -240,8 +228,8 @@ class StatementsFirst(Unchanged):
                 for qubits in turns:
                     self.statement(Frame(statement[1] + 1, values, qubits), inner)
         else:
-            for turn, qubits in enumerate(turns):
-                self.cut(frame, statement, values, qubits, turn)
+            for qubits in turns:
+                self.cut(statement, values, qubits)
         self.stack.pop()
 
 
@@ -315,10 +303,11 @@ class FirstJ(Unchanged):
                     self.overlap(numbers[i], numbers[j])
 
 
-@mutant("a cut call is not tested for distinctness")
-class CutUntested(Unchanged):
-    def cut_distinct(self, numbers, qubits):
-        pass
+@mutant("a cut call is tested for distinctness")
+class CutTested(Unchanged):
+    def cut(self, statement, values, qubits):
+        self.distinct([number for number, _ in self.image.named_arguments(statement)], qubits)
+        super().cut(statement, values, qubits)
 
 
 @mutant("a call with a body is tested before it is opened")
@@ -383,9 +372,9 @@ class NumberForPlace(Unchanged):
 
 @mutant("a call that is not opened is not in the trace")
 class CutNotTraced(Unchanged):
-    def one_cut(self, numbers, qubits, turn, record):
+    def cut(self, statement, values, qubits):
         popped = self.stack.pop()
-        super().one_cut(numbers, qubits, turn, record)
+        super().cut(statement, values, qubits)
         self.stack.append(popped)
 
 
@@ -466,271 +455,6 @@ class CheckFirst(Unchanged):
         if flaw:
             return Outcome(*flaw, 0, 0, [], [])
         return super().outcome(case, flaw)
-
-
-# ------------------------------------------------------------- cut gates
-
-
-@mutant("a cut gate's angles from the last to the first")
-class CutBackward(Unchanged):
-    def cut_record(self, frame, statement, values, qubits):
-        return super().cut_record(frame, statement, values[::-1], qubits)
-
-
-@mutant("a cut gate with the values of the calling frame")
-class CutCaller(Unchanged):
-    def cut_record(self, frame, statement, values, qubits):
-        own = len(frame.angles) < len(values)
-        return super().cut_record(frame, statement, values if own else frame.angles[: len(values)], qubits)
-
-
-@mutant("a cut gate with the values that it had when it was cut before")
-class CutBefore(Unchanged):
-    def __init__(self, *case):
-        super().__init__(*case)
-        self.before = {}
-
-    def cut_record(self, frame, statement, values, qubits):
-        return super().cut_record(frame, statement, self.before.setdefault(statement[1], values), qubits)
-
-
-@mutant("a cut gate with its first angle alone")
-class CutFirstAngle(Unchanged):
-    def cut_record(self, frame, statement, values, qubits):
-        return super().cut_record(frame, statement, values[:1], qubits)
-
-
-@mutant("a cut gate with fifteen angles")
-class CutFifteen(Unchanged):
-    def cut_record(self, frame, statement, values, qubits):
-        return super().cut_record(frame, statement, values[:15], qubits)
-
-
-@mutant("a cut gate's qubits before its angles")
-class CutQubitsFirst(Unchanged):
-    def cut_record(self, frame, statement, values, qubits):
-        return CALL, statement[1], len(values), len(qubits), *qubits, *self.angle_words(values)
-
-
-@mutant("a cut gate's angles with a count of 0")
-class CutNoCount(Unchanged):
-    def cut_record(self, frame, statement, values, qubits):
-        return CALL, statement[1], 0, len(qubits), *self.angle_words(values), *qubits
-
-
-@mutant("a cut gate without arguments is written")
-class CutWithoutArguments(Unchanged):
-    def call(self, frame, number):
-        super().call(frame, number)
-        statement = self.image.statement(number)
-        gate = self.image.gate(statement[1])
-        if gate.with_body and not gate.arguments and len(self.stack) + 1 >= self.depth:
-            self.write(*self.cut_record(frame, statement, self.values(frame, statement), []))
-
-
-@mutant("an empty body that is cut is not written")
-class CutEmpty(Unchanged):
-    def cut(self, frame, statement, values, qubits, turn):
-        if self.image.gate(statement[1]).length:
-            super().cut(frame, statement, values, qubits, turn)
-
-
-@mutant("an empty body that is cut without its angles")
-class CutEmptyAngles(Unchanged):
-    def cut_record(self, frame, statement, values, qubits):
-        return super().cut_record(frame, statement, values if self.image.gate(statement[1]).length else [], qubits)
-
-
-@mutant("an empty body that is cut is not tested for distinctness")
-class CutEmptyUntested(Unchanged):
-    def cut(self, frame, statement, values, qubits, turn):
-        if self.image.gate(statement[1]).length:
-            super().cut(frame, statement, values, qubits, turn)
-        else:
-            self.write(*self.cut_record(frame, statement, values, qubits))
-
-
-@mutant("distinctness of a cut gate in the first round only")
-class CutOnce(Unchanged):
-    def one_cut(self, numbers, qubits, turn, record):
-        if turn:
-            self.write(*record)
-        else:
-            super().one_cut(numbers, qubits, turn, record)
-
-
-@mutant("distinctness of a cut gate in all rounds before its first record")
-class CutBeforehand(Unchanged):
-    def cut(self, frame, statement, values, qubits, turn):
-        if turn == 0:
-            numbers = [argument for argument, _ in self.image.named_arguments(statement)]
-            for each in self.rounds(frame, statement):
-                self.cut_distinct(numbers, each)
-        super().cut(frame, statement, values, qubits, turn)
-
-
-@mutant("distinctness of a cut gate by its argument entries, not by its qubits")
-class CutEntries(Unchanged):
-    def cut_distinct(self, numbers, qubits):
-        super().cut_distinct(numbers, [self.image.entry(ARGUMENTS, number) for number in numbers])
-
-
-@mutant("a cut gate written before its distinctness test")
-class CutWritten(Unchanged):
-    def one_cut(self, numbers, qubits, turn, record):
-        self.write(*record)
-        self.cut_distinct(numbers, qubits)
-
-
-@mutant("the records of a cut gate's earlier rounds taken back at its 12")
-class CutTakenBack(Unchanged):
-    def cut(self, frame, statement, values, qubits, turn):
-        length = len(self.cut_record(frame, statement, values, qubits))
-        try:
-            super().cut(frame, statement, values, qubits, turn)
-        except Refusal as refusal:
-            if refusal.number == 12:
-                self.output = self.output[: len(self.output) - turn * length]
-                self.records -= turn
-            raise
-
-
-@mutant("14 before the overlaps of a cut gate")
-class CutFullFirst(Unchanged):
-    def one_cut(self, numbers, qubits, turn, record):
-        if self.output_length - len(self.output) < len(record):
-            raise Refusal(14)
-        super().one_cut(numbers, qubits, turn, record)
-
-
-@mutant("j then i of a cut gate")
-class CutPlaces(Unchanged):
-    def cut_distinct(self, numbers, qubits):
-        for i in range(len(qubits)):
-            for j in range(i):
-                if qubits[i] == qubits[j]:
-                    self.overlap(numbers[j], numbers[i])
-
-
-@mutant("an argument of a cut gate tested against the one before it only")
-class CutNeighbours(Unchanged):
-    def cut_distinct(self, numbers, qubits):
-        for i in range(1, len(qubits)):
-            if qubits[i] == qubits[i - 1]:
-                self.overlap(numbers[i], numbers[i - 1])
-
-
-@mutant("the first j of a cut gate, of that the first i")
-class CutFirstJ(Unchanged):
-    def cut_distinct(self, numbers, qubits):
-        for j in range(len(qubits)):
-            for i in range(j + 1, len(qubits)):
-                if qubits[i] == qubits[j]:
-                    self.overlap(numbers[i], numbers[j])
-
-
-@mutant("the last i of a cut gate")
-class CutLastI(Unchanged):
-    def cut_distinct(self, numbers, qubits):
-        for i in reversed(range(len(qubits))):
-            for j in range(i):
-                if qubits[i] == qubits[j]:
-                    self.overlap(numbers[i], numbers[j])
-
-
-@mutant("the places of the caller's call in a 12 of a cut gate")
-class CutCallPlaces(Unchanged):
-    def cut_distinct(self, numbers, qubits):
-        if len(self.stack) > 1:
-            number = (self.stack[-2][1] - self.image.statement_place(0)) // 5
-            first = self.image.statement(number)[3]
-            numbers = [first + self.image.entry(ARGUMENTS, argument)[0] for argument in numbers]
-        super().cut_distinct(numbers, qubits)
-
-
-@mutant("a cut call is not in the trace of its 12")
-class CutOverlapNotTraced(Unchanged):
-    def cut_distinct(self, numbers, qubits):
-        popped = self.stack.pop()
-        super().cut_distinct(numbers, qubits)
-        self.stack.append(popped)
-
-
-@mutant("a cut call in main is not in the trace of its 12")
-class CutMainNotTraced(Unchanged):
-    def cut_distinct(self, numbers, qubits):
-        if len(self.stack) > 1:
-            super().cut_distinct(numbers, qubits)
-            return
-        popped = self.stack.pop()
-        super().cut_distinct(numbers, qubits)
-        self.stack.append(popped)
-
-
-@mutant("a cut call is not in the trace of a 14")
-class CutFullNotTraced(Unchanged):
-    def one_cut(self, numbers, qubits, turn, record):
-        self.cut_distinct(numbers, qubits)
-        popped = self.stack.pop()
-        self.write(*record)
-        self.stack.append(popped)
-
-
-@mutant("the if's place in the trace of a cut gate's 12, not its inner call's")
-class CutIfPlace(IfPlace):
-    def pair(self, frame, statement, number):
-        return Unchanged.pair(self, frame, statement, number)
-
-    def cut_distinct(self, numbers, qubits):
-        inner = self.stack[0]
-        if self.if_number is not None:
-            self.stack[0] = MAIN_SCOPE, self.image.statement_place(self.if_number)
-        super().cut_distinct(numbers, qubits)
-        self.stack[0] = inner
-
-
-@mutant("an opaque call is in the trace of its 12")
-class OpaqueOverlapTraced(Unchanged):
-    def call(self, frame, number):
-        try:
-            super().call(frame, number)
-        except Refusal as refusal:
-            statement = self.image.statement(number)
-            if refusal.number == 12 and not self.image.gate(statement[1]).with_body:
-                self.stack.append(self.pair(frame, statement, number))
-            raise
-
-
-@mutant("parameters of a cut call worked out after its first test")
-class CutTestedFirst(Unchanged):
-    def call(self, frame, number):
-        statement = self.image.statement(number)
-        if self.image.gate(statement[1]).with_body and len(self.stack) + 1 >= self.depth:
-            named = [argument for argument, _ in self.image.named_arguments(statement)]
-            self.stack.append(self.pair(frame, statement, number))
-            for qubits in list(self.rounds(frame, statement))[:1]:
-                self.cut_distinct(named, qubits)
-            self.stack.pop()
-        super().call(frame, number)
-
-
-@mutant("a cut call is in the trace of its own parameters")
-class CutParametersTraced(Unchanged):
-    def call(self, frame, number):
-        statement = self.image.statement(number)
-        if self.image.gate(statement[1]).with_body and len(self.stack) + 1 >= self.depth:
-            self.stack.append(self.pair(frame, statement, number))
-            self.values(frame, statement)
-            self.stack.pop()
-        super().call(frame, number)
-
-
-@mutant("parameters of a cut call worked out in each of its rounds, so in none without arguments")
-class CutEachRound(Unchanged):
-    def values(self, frame, statement):
-        gate = self.image.gate(statement[1])
-        cut = gate.with_body and len(self.stack) + 1 >= self.depth
-        return [] if cut and not gate.arguments else self.angles(frame, statement)
 
 
 # ---------------------------------------------------------------- output
@@ -868,16 +592,16 @@ class FormalNumber(Unchanged):
         return (first if frame.scope == MAIN_SCOPE else self.image.entry(ARGUMENTS, argument)[0]), size
 
 
-@mutant("a cut gate without its angles")
+@mutant("a cut gate with its angles")
 class CutAngles(Unchanged):
-    def cut_record(self, frame, statement, values, qubits):
-        return CALL, statement[1], 0, len(qubits), *qubits
+    def cut(self, statement, values, qubits):
+        self.write(CALL, statement[1], len(values), len(qubits), *self.angle_words(values), *qubits)
 
 
 @mutant("a cut gate with the count of its parameters, without the angles")
 class CutCount(Unchanged):
-    def cut_record(self, frame, statement, values, qubits):
-        return CALL, statement[1], len(values), len(qubits), *qubits
+    def cut(self, statement, values, qubits):
+        self.write(CALL, statement[1], len(values), len(qubits), *qubits)
 
 
 @mutant("a barrier in its arguments' order")
@@ -1159,9 +883,6 @@ class Copying(Unchanged):
     def in_order(self, record, qubits):
         return sorted(qubits) if record[0] == BARRIER else qubits
 
-    def is_cut(self, record):
-        return record[0] == CALL and self.image.gate(record[1]).with_body
-
 
 @mutant("copies: of another gate with these angles")
 class CopiesAnyGate(Copying):
@@ -1371,50 +1092,8 @@ class CopiesCall(Copying):
 @mutant("copies: a cut gate's qubits not renamed")
 class CopiesCut(Copying):
     def renamed(self, record, names):
-        return record if self.is_cut(record) else super().renamed(record, names)
-
-
-@mutant("copies: on equal qubits, of a body that wrote only Us and cut gates")
-class CopiesCutOnEqual(Copying):
-    def fits(self, kept, qubits):
-        untested = all(record[0] == U or self.is_cut(record) for record in kept.records)
-        return untested and self.has_room(kept.records) or super().fits(kept, qubits)
-
-
-@mutant("copies: whatever the angles, of a body that wrote only cut gates")
-class CopiesCutAnyAngle(Copying):
-    def open(self, gate, frame):
-        kept = self.kept.get(frame.scope)
-        if kept and self.apart(frame.qubits) and self.has_room(kept.records):
-            for record in kept.records:
-                self.copy(kept, record, frame.qubits)
-            return
-        start = len(self.output)
-        super().open(gate, frame)
-        written = list(reference.records_of(self.output[start:]))
-        if written and all(map(self.is_cut, written)) and self.apart(frame.qubits):
-            self.kept[frame.scope] = Kept(frame.qubits, written)
-
-
-@mutant("copies: a cut gate without its angles")
-class CopiesCutNoAngles(Copying):
-    def renamed(self, record, names):
-        words = super().renamed(record, names)
-        return (*words[:2], 0, *words[3:4], *words[4 + 4 * record[2] :]) if self.is_cut(record) else words
-
-
-@mutant("copies: a cut gate's angles renamed as its qubits are")
-class CopiesCutRenamed(Copying):
-    def renamed(self, record, names):
-        if self.is_cut(record):
-            return *record[:4], *(names.get(word, word) for word in record[4:])
-        return super().renamed(record, names)
-
-
-@mutant("copies: a cut gate's qubits rising")
-class CopiesCutSorted(Copying):
-    def in_order(self, record, qubits):
-        return sorted(qubits) if self.is_cut(record) else super().in_order(record, qubits)
+        cut = record[0] == CALL and self.image.gate(record[1]).with_body
+        return record if cut else super().renamed(record, names)
 
 
 @mutant("copies: a barrier's qubits not renamed")

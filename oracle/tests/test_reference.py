@@ -1,6 +1,6 @@
 """A quick self-test of the second reading: K1 to K10 of document 01 to the
-byte, hand-computed cases for each refusal, the four misreadings, cut gates, the
-record reader, and the claims that tie the tally to the run on random images.
+byte, hand-computed cases for each refusal, the four misreadings, the record
+reader, and the claims that tie the tally to the run on random images.
 
     python3 -m oracle.tests.test_reference
 """
@@ -55,8 +55,7 @@ class Examples(unittest.TestCase):
         self.assertEqual(listed(K1), lines("0 2 0 0 0 0 1", u + " 0", u + " 1", "2 0 1", "done 4"))
 
     def test_k2(self):
-        cut = "3 0 1 1 0 1 1 2 0", "3 0 1 1 0 1 1 2 1"
-        self.assertEqual(listed(K1, 1), lines("0 2 0 0 0 0 1", *cut, "2 0 1", "done 4"))
+        self.assertEqual(listed(K1, 1), lines("0 2 0 0 0 0 1", "3 0 0 1 0", "3 0 0 1 1", "2 0 1", "done 4"))
 
     def test_k3(self):
         words = image(quantum=[3], main=[(2, 0, 1)], arguments=[(0, 2), (0, 0)])
@@ -355,8 +354,9 @@ class Refusals(unittest.TestCase):
         )
         head = [0, 2, 0, 0, 0, 0, 1]
         self.assertEqual(run(words, 2, 99, 256), Outcome(12, 25, 27, 1, head, [0, 15]))
-        # Cut, it is tested itself: the second argument, then the first, of the call.
-        self.assertEqual(run(words, 1, 99, 256), Outcome(12, 31, 29, 1, head, [0, 15]))
+        # Cut, it is written without a distinctness test.
+        records = [3, 0, 0, 2, 0, 0, 3, 0, 0, 2, 0, 1]
+        self.assertEqual(run(words, 1, 99, 256), Outcome(0, 0, 0, 3, head + records, []))
 
     def test_12_of_an_opaque_gate(self):
         # Arguments q[2], q, r of sizes 1, 3, 3: the third round overlaps.
@@ -438,10 +438,8 @@ class Misreadings(unittest.TestCase):
 
     def test_depth_is_not_the_number_of_opened_levels(self):
         for depth in 0, 1:
-            cut = "3 1 1 1 0 1 1 1 0", "3 1 1 1 0 1 1 1 1"
-            self.assertEqual(listed(nest(), depth), lines("0 2 0 0 0 0 1", *cut, "done 3"))
-        cut = "3 0 1 1 0 1 1 1 0", "3 0 1 1 0 1 1 1 1"
-        self.assertEqual(listed(nest(), 2), lines("0 2 0 0 0 0 1", *cut, "done 3"))
+            self.assertEqual(listed(nest(), depth), lines("0 2 0 0 0 0 1", "3 1 0 1 0", "3 1 0 1 1", "done 3"))
+        self.assertEqual(listed(nest(), 2), lines("0 2 0 0 0 0 1", "3 0 0 1 0", "3 0 0 1 1", "done 3"))
         for depth in 3, 129, WORD_MAX:
             self.assertEqual(self.kinds(nest(), depth), [0, 1, 1])
 
@@ -451,11 +449,9 @@ class Misreadings(unittest.TestCase):
             outcome = run(words, 0, 99, 256)
             self.assertEqual((outcome.number, outcome.records), (12, 3))
 
-    def test_a_cut_gates_angles_are_sent(self):
-        # Document 02, Two, turns this misreading of document 01 round.
-        self.assertEqual(tally(nest(), 1), [0, 0, 2, 0, 0, 0, 0, 0, 7 + 2 * 9])
-        records = [word for k in range(2) for word in (3, 1, 1, 1, 0, 1, 1, 1, k)]
-        self.assertEqual(run(nest(), 1, 99, 256).output[7:], records)
+    def test_a_cut_gates_angles_are_not_sent(self):
+        self.assertEqual(tally(nest(), 1), [0, 0, 2, 0, 0, 0, 0, 0, 7 + 2 * 5])
+        self.assertEqual(run(nest(), 1, 99, 256).output[7:], [3, 1, 0, 1, 0, 3, 1, 0, 1, 1])
 
     def test_parameters_of_a_call_without_arguments_are_evaluated(self):
         for with_body in 0, 1:
@@ -464,120 +460,6 @@ class Misreadings(unittest.TestCase):
             self.assertEqual(run(words, 8, 99, 256), Outcome(9, 26, 0, 1, [0, 0, 0], []))
             words[19] = 0  # the parameter is 1 now: nothing is written
             self.assertEqual(run(words, 8, 99, 256), Outcome(0, 0, 0, 1, [0, 0, 0], []))
-
-
-class CutGates(unittest.TestCase):
-    """Document 02, Two: a body that is not opened is written with its parameter
-    values and tested like an opaque gate, with its own call in the trace."""
-
-    # A gate of two arguments with an empty body, called on one qubit twice: the
-    # statement is at 15, the arguments are at 20 and 22.
-    SMALLEST = [int(word) for word in "24 1 0 1 1 0 2 0 0 1 0 2 1 0 0 3 0 0 0 0 0 1 0 1".split()]
-
-    def test_refused_where_a_larger_depth_finishes(self):
-        head = [0, 1, 0, 0, 0]
-        for depth in 0, 1:
-            self.assertEqual(run(self.SMALLEST, depth, 99, 256), Outcome(12, 22, 20, 1, head, [0, 15]))
-        for depth in 2, 129, WORD_MAX:
-            self.assertEqual(run(self.SMALLEST, depth, 99, 256), Outcome(0, 0, 0, 1, head, []))
-
-    def main(self, *arguments, expressions=(PI, (9, 0, 0)), body=()):
-        """Gate 0 has a parameter for each expression; main calls it with them on these arguments.
-
-        Places: registers 9 and 10, gate 11, main statement 16; without a body the arguments begin at 21."""
-        numbers = range(len(expressions))
-        gates = [(len(expressions), len(arguments), 1, 1, len(body))]
-        lists = dict(arguments=arguments, parameters=numbers, expressions=expressions)
-        return image(quantum=[3, 2], gates=gates, main=[(3, 0, 0, 0)], further=body, **lists)
-
-    HEAD = [0, 5, 0, 0, 0, 0, 1, 0, 2, 1, 0, 1, 1]
-    MINUS_ONE = WORD_MAX
-
-    def test_angles_in_the_order_of_the_call(self):
-        angles = 0, 1, 1, 1, 0, 1, self.MINUS_ONE, 1, 3, 1, 0, 1
-        words = self.main((1, 2), (0, 1), expressions=(PI, (9, 0, 0), THREE))
-        self.assertEqual(run(words, 1, 99, 256).output[13:], [3, 0, 3, 2, *angles, 4, 0])
-        # Gate 1 hands its y and its x on: x = 1, y = 2.
-        words = image(
-            quantum=[1],
-            gates=[(2, 1, 1, 1, 0), (2, 1, 1, 1, 1)],
-            main=[(3, 1, 2, 0)],
-            further=[(3, 0, 0, 0)],
-            arguments=[(0, 0)],
-            parameters=[1, 0, 2, 3],
-            expressions=[(3, 0, 0), (3, 1, 0), ONE, TWO],
-        )
-        self.assertEqual(run(words, 1, 99, 256).output[5:], [3, 1, 2, 1, 1, 1, 0, 1, 2, 1, 0, 1, 0])
-        self.assertEqual(run(words, 2, 99, 256).output[5:], [3, 0, 2, 1, 2, 1, 0, 1, 1, 1, 0, 1, 0])
-
-    def test_12_tells_i_then_j(self):
-        for arguments, i, j in (
-            ([(0, 1), (0, 2), (0, 1)], 2, 0), ([(0, 1), (0, 2), (0, 2), (0, 1)], 2, 1),
-            ([(1, 0), (0, 1), (0, 1)], 2, 1), ([(0, 1), (0, 1), (0, 1)], 1, 0),
-        ):
-            outcome = run(self.main(*arguments), 1, 99, 256)
-            self.assertEqual(outcome, Outcome(12, 21 + 2 * i, 21 + 2 * j, 1, self.HEAD, [0, 16]))
-
-    def test_records_of_earlier_rounds_stay(self):
-        words = self.main((0, 0), (0, 3), expressions=(PI,))
-        records = [word for k in range(2) for word in (3, 0, 1, 2, 0, 1, 1, 1, k, 2)]
-        self.assertEqual(run(words, 1, 99, 256), Outcome(12, 23, 21, 3, self.HEAD + records, [0, 16]))
-        # 12 comes before 14: there is no word to spare; with one less the second record is too long.
-        self.assertEqual(run(words, 1, 33, 256), Outcome(12, 23, 21, 3, self.HEAD + records, [0, 16]))
-        self.assertEqual(run(words, 1, 32, 256), Outcome(14, 0, 0, 2, self.HEAD + records[:10], [0, 16]))
-
-    def test_12_in_a_body(self):
-        # Gate 1 calls gate 0 with its second argument twice, gate 2 calls gate 1.
-        words = image(
-            quantum=[2],
-            gates=[(0, 2, 1, 1, 0), (0, 2, 1, 1, 1), (0, 2, 1, 2, 1)],
-            main=[(3, 2, 0, 4)],
-            further=[(3, 0, 0, 0), (3, 1, 0, 2)],
-            arguments=[(1, 0), (1, 0), (0, 0), (1, 0), (0, 1), (0, 2)],
-        )
-        # Places: gates 10, 15 and 20, statements 25, 30 and 35, arguments 40 to 50.
-        head = [0, 2, 0, 0, 0, 0, 1]
-        self.assertEqual(run(words, 3, 99, 256), Outcome(12, 42, 40, 1, head, [0, 25, 3, 35, 2, 30]))
-        self.assertEqual(run(words, 2, 99, 256), Outcome(0, 0, 0, 2, head + [3, 1, 0, 2, 0, 1], []))
-        self.assertEqual(run(words, 4, 99, 256), Outcome(0, 0, 0, 1, head, []))
-
-    def test_an_opaque_call_stays_out_of_the_trace(self):
-        words = list(self.SMALLEST)
-        words[12] = 0
-        self.assertEqual(run(words, 1, 99, 256), Outcome(12, 22, 20, 1, [0, 1, 0, 0, 0], []))
-
-    def test_a_parameter_is_refused_before_the_overlap(self):
-        # The expression is the third, at 25 + 3 + 6: after two arguments and three parameters.
-        words = self.main((0, 0), (0, 0), expressions=(ONE, ZERO, (7, 0, 1)))
-        for depth in 0, 1, 2:
-            self.assertEqual(run(words, depth, 99, 256), Outcome(9, 34, 0, 1, self.HEAD, []))
-
-    def test_without_arguments(self):
-        for depth in 0, 1, 2:
-            self.assertEqual(run(self.main(body=[(4, 0, 0)]), depth, 99, 256), Outcome(0, 0, 0, 1, self.HEAD, []))
-            words = self.main(body=[(4, 0, 0)], expressions=(ONE, ZERO, (7, 0, 1)))
-            self.assertEqual(run(words, depth, 99, 256), Outcome(9, 35, 0, 1, self.HEAD, []))
-
-    def test_in_an_if(self):
-        def program(second):
-            lists = dict(quantum=[2], classical=[1], gates=[(1, 2, 1, 2, 0)], parameters=[0], expressions=[PI])
-            return image(main=[(7, 0, 1, 1)], further=[(3, 0, 0, 0)], arguments=[(0, 0), second], **lists)
-
-        # Places: registers 9 and 10, gate 11, statements 16 and 21, arguments 26 and 28.
-        head = [0, 2, 1, 0, 0, 0, 1, 0, 0, 7, 0, 1, 1]
-        record = [3, 0, 1, 2, 0, 1, 1, 1, 0, 1]
-        self.assertEqual(run(program((0, 2)), 1, 99, 256), Outcome(12, 28, 26, 3, head + record, [0, 21]))
-        self.assertEqual(run(program((0, 1)), 1, 99, 256), Outcome(12, 28, 26, 2, head, [0, 21]))
-
-    def test_tally(self):
-        for count in 0, 1, 16:
-            for arguments in 1, 2, 16:
-                words = self.main(*[(0, 0)] * arguments, expressions=(PI,) * count)
-                bound = 13 + 3 * (4 + 4 * count + arguments)
-                for depth in 0, 1:
-                    self.assertEqual(tally(words, depth), [0, 0, 3, 0, 0, 0, 0, 0, bound])
-                self.assertEqual(tally(words, 2), [0, 0, 0, 0, 0, 0, 0, 3, 13])
-        self.assertEqual(tally(self.main(), 1), [0, 0, 0, 0, 0, 0, 0, 0, 13])
 
 
 class Runs(unittest.TestCase):
@@ -631,7 +513,7 @@ class Runs(unittest.TestCase):
 class Tally(unittest.TestCase):
     def test_k1(self):
         self.assertEqual(tally(K1, 8), [2, 1, 0, 0, 0, 0, 0, 2, 38])
-        self.assertEqual(tally(K1, 1), [0, 1, 2, 0, 0, 0, 0, 0, 28])
+        self.assertEqual(tally(K1, 1), [0, 1, 2, 0, 0, 0, 0, 0, 20])
         self.assertEqual(tally(image(quantum=[3]), 1), [0] * 9)
 
     def test_many_gates_answer_at_once(self):
@@ -677,16 +559,8 @@ class Claims(unittest.TestCase):
         if outcome.number == 0:
             self.assertEqual(outcome.records, sum(figures[:7]) + figures[6] + (case.words[4] > 0))
             self.assertEqual(outcome.trace, [])
-            if not counts[4]:  # a barrier holds each qubit once, the bound counts its arguments
-                self.assertEqual(len(outcome.output), figures[8])
         if case.output_length >= figures[8]:
             self.assertNotEqual(outcome.number, 14)
-        for record in found:
-            # Document 02, Two: "for the distinct-qubit property a cut gate counts
-            # as an opaque one".
-            if record[0] in (2, 3):
-                qubits = record[1:] if record[0] == 2 else record[4 + 4 * record[2] :]
-                self.assertEqual(len(set(qubits)), len(qubits))
 
     def test_generator(self):
         rng = Random(1)

@@ -3,9 +3,8 @@
     python3 -m oracle.vectors.listing_vectors SEED COUNT
 
 First K1 of document 01, whose listing stands in the document.  Then so many
-listings of the published linearizer, and some that are refused for the qubits of a
-cut gate, which the Rust program `listing_vectors` prints: it needs cargo, and
-OPENQASM_SOURCE, which names the folder of the sources.
+listings of the published linearizer, which the Rust program `listing_vectors`
+prints: it needs cargo, and OPENQASM_SOURCE, which names the folder of the sources.
 
 A line that starts with '#' is a comment.  Every other line holds a listing:
 

@@ -214,8 +214,7 @@ def examples():
     for depth in 8, 2, 3, 129, WORD_MAX:
         stated(K1, depth, "0 2 0 0 0 0 1", f"{u} 0", f"{u} 1", "2 0 1", "done 4")
     for depth in 1, 0:
-        # The lines of K2 in ticket Two of document 02.
-        stated(K1, depth, "0 2 0 0 0 0 1", "3 0 1 1 0 1 1 2 0", "3 0 1 1 0 1 1 2 1", "2 0 1", "done 4")
+        stated(K1, depth, "0 2 0 0 0 0 1", "3 0 0 1 0", "3 0 0 1 1", "2 0 1", "done 4")
     words = image(quantum=[3], main=[(CX, 0, 1)], arguments=[(0, 2), (0, 0)])
     # Contents 9 words, the register 1, the statement 5: the arguments are at 15 and 17.
     stated(words, 8, "0 3 0 0 0 0 1 0 2", "2 1 0", "refused 12 15 17")
@@ -427,11 +426,8 @@ def variables():
     direct = "0 1 1 2 -1 3 0 1 -1 3 1 2"
     us = [f"1 {text} {qubit}" for text in (swapped, direct) for qubit in range(2)]
     stated(words, 3, head([2]), *us, "done 5")
-    # A gate that is cut has the values of its own call.
-    given, turned = "0 1 1 2 -1 3 0 1", "-1 3 0 1 0 1 -1 2"
-    stated(words, 2, head([2]), f"3 0 2 1 {turned} 0", f"3 0 2 1 {turned} 1", *us[2:], "done 5")
-    cut = [f"3 {number} 2 1 {given} {qubit}" for number in (1, 0) for qubit in range(2)]
-    stated(words, 1, head([2]), *cut, "done 5")
+    stated(words, 2, head([2]), "3 0 0 1 0", "3 0 0 1 1", *us[2:], "done 5")
+    stated(words, 1, head([2]), "3 1 0 1 0", "3 1 0 1 1", "3 0 0 1 0", "3 0 0 1 1", "done 5")
 
 
 def sixteen_parameters():
@@ -443,7 +439,7 @@ def sixteen_parameters():
     words = program([call(1), call(0)], gates, **lists)
     turned = " ".join(reversed(texts))
     stated(words, 2, head([2]), f"3 0 16 2 {turned} 0 1", f"3 0 16 2 {' '.join(texts)} 1 0", "done 3")
-    stated(words, 1, head([2]), *(f"3 {number} 16 2 {' '.join(texts)} 1 0" for number in (1, 0)), "done 3")
+    stated(words, 1, head([2]), "3 1 0 2 1 0", f"3 0 16 2 {' '.join(texts)} 1 0", "done 3")
 
 
 # ------------------------------------------------------- refusals in calls
@@ -567,7 +563,7 @@ def handed_down():
     entries, numbers = flat((DIVIDE, PI_TREE, X), (MINUS, X, ONE), ONE, TWO)
     quotient, less, one, two = numbers
     gates = [(1, 1, [(U, quotient, quotient, quotient, 0)]), (1, 1, [call(0, 0), call(0, 0)])]
-    for handed, finished, less_text in (one, False, "0 1 0 1"), (two, True, "1 1 0 1"):
+    for handed, finished in (one, False), (two, True):
         lists = dict(parameters=[less, handed], expressions=entries)
         words = program([call(1, 1)], gates, quantum=[2], **lists)
         u = U_TEXT
@@ -577,7 +573,7 @@ def handed_down():
             first = place(words, MAIN, 0)
             trace = f"from 0 {first}", f"from 2 {first + 5 * 2}"
             stated(words, 3, head([2]), *trace, f"refused 9 {place(words, EXPRESSIONS, quotient)} 0")
-        cut = [f"3 0 1 1 {less_text} {qubit}" for qubit in (0, 0, 1, 1)]
+        cut = [f"3 0 0 1 {qubit}" for qubit in (0, 0, 1, 1)]
         stated(words, 2, head([2]), *cut, "done 5")
 
 
@@ -646,12 +642,10 @@ def opaque_overlaps():
         base = place(words, ARGUMENTS, 0)
         for depth in 0, 2:
             stated(words, depth, head(quantum), f"refused 12 {base + 2 * i} {base + 2 * j}")
-        # With a body it is tested where it is cut; opened, it has no statement that overlaps.
+        # With a body it is not tested: not opened, it is written; opened, it has no statement that overlaps.
         words = program([call(0)], [(0, len(chosen), [NOTHING])], quantum=quantum,
                         arguments=[arguments[k] for k in chosen])
-        base = place(words, ARGUMENTS, 0)
-        cut = f"from 0 {place(words, MAIN, 0)}", f"refused 12 {base + 2 * i} {base + 2 * j}"
-        stated(words, 1, head(quantum), *cut)
+        expect(words, 1, number=0)
         expect(words, 2, number=0)
 
 
@@ -674,10 +668,8 @@ def overlaps_in_later_rounds():
             trace = f"from 0 {place(words, MAIN, 0)}"
             ending = f"refused 12 {base + 2 * (count - 1)} {base + 2 * (count - 2)}"
             stated(words, 2, head([4, 4]), *written, trace, ending)
-            # Cut, it is the call of main that overlaps, in the same round.
-            cut = [f"3 1 0 {count} {' '.join(map(str, resolved(t)))}" for t in range(k)]
-            ending = f"refused 12 {base + 2 * (2 * count - 1)} {base + 2 * (2 * count - 2)}"
-            stated(words, 1, head([4, 4]), *cut, trace, ending)
+            cut = [f"3 1 0 {count} {' '.join(map(str, resolved(t)))}" for t in range(4)]
+            stated(words, 1, head([4, 4]), *cut, "done 5")
 
 
 def overlaps_and_more():
@@ -812,7 +804,7 @@ def large_pairs():
         gates = [(0, 2, [(CX, 0, 1)]), (0, 2, [call(0)])]
         words = program([call(1, 0, 2)], gates, **ALL, arguments=[(0, 0), (1, 0), *arguments])
         few(words, 3, number=12, records=4096, written=ALL_HEAD + 3 * 4095, frames=2)
-        few(words, 2, number=12, records=4096, written=ALL_HEAD + 6 * 4095, frames=2)
+        few(words, 2, number=0, records=4097, written=ALL_HEAD + 6 * 4096)
 
 
 def large_bodies():
@@ -1112,12 +1104,9 @@ def shared_bodies():
                 inner = own + ["1 -3 2 0 1 -2 3 0 1 -3 2 0 1 %d"]
                 done = [u % qubit for qubit in range(2) for u in inner]
                 stated(words, 3, head([2]), "4 0", *done, "4 0", f"done {3 + len(done)}")
-            if number == 2:  # q, q[0] are one qubit in the first round
-                base = place(words, ARGUMENTS, 0)
-                stated(words, 1, head([2]), "4 0", f"from 0 {first + 5}", f"refused 12 {base + 2} {base}")
-            else:
-                cut = [f"3 {number} 1 1 {text} {qubit}" for qubit in range(2)]
-                stated(words, 1, head([2]), "4 0", *cut, "4 0", "done 5")
+            count = 2 if number == 2 else 1
+            cut = [f"3 {number} 0 {count} {qubit}" + " 0" * (count - 1) for qubit in range(2)]
+            stated(words, 1, head([2]), "4 0", *cut, "4 0", "done 5")
 
 
 def towers_at_depths():
@@ -1221,7 +1210,7 @@ def repeated_calls():
         ):
             main.append(lists.call(0, qubits(*pair), tree))
             texts += pair_texts(text, *pair)
-            cut.append(f"3 0 1 2 {text} {joined(pair)}")
+            cut.append(f"3 0 0 2 {joined(pair)}")
         words = lists.program(main, [(1, 2, pair_body(lists))], quantum=[4])
         for depth in 2, WORD_MAX:
             stated(words, depth, head([4]), *texts, f"done {1 + len(texts)}")
@@ -1287,15 +1276,8 @@ def repeated_with_equal_qubits():
             words = lists.program(main, gates, quantum=[3])
             stated(words, 3, head([3]), *texts, f"done {1 + len(texts)}")
             if number:
-                # At depth 2 gate 0 is cut in gate 1, and refused with the first row that has a qubit twice.
-                fine = order.index(next(row for row in order if len(set(row)) < 3))
-                cut = [f"3 0 0 3 {c} {a} {b}" for a, b, c in order[:fine]]
-                a, b, c = order[fine]
-                i, j = (1, 0) if c == a else (2, 0) if c == b else (2, 1)
-                first, named = place(words, MAIN, 0), gates[1][2][0][3]
-                trace = f"from 0 {first + 5 * fine}", f"from 2 {first + 5 * (len(main) + len(body))}"
-                base = place(words, ARGUMENTS, named)
-                stated(words, 2, head([3]), *cut, *trace, f"refused 12 {base + 2 * i} {base + 2 * j}")
+                cut = [f"3 0 0 3 {c} {a} {b}" for a, b, c in order]
+                stated(words, 2, head([3]), *cut, f"done {1 + len(cut)}")
 
 
 def repeated_overlaps():
@@ -1357,7 +1339,7 @@ def repeated_at_levels():
 
             def written(number, a, b, levels, text):
                 if levels == 0:
-                    return [f"3 {number} 1 2 {text} {a} {b}"]
+                    return [f"3 {number} 0 2 {a} {b}"]
                 if number == 0:
                     return [] if silent else [f"1 {text} {ZERO_TEXT} {ZERO_TEXT} {a}", f"2 {a} {b}"]
                 more = written(0, a, b, levels - 1, text) if number > 1 else []
@@ -1422,7 +1404,7 @@ def repeated_doubling():
 
         def written(number, a, b, levels, values):
             if levels == 0:
-                return [joined((3, number, count, 2, *(f"{value} 1 0 1" for value in values), a, b))]
+                return [f"3 {number} 0 2 {a} {b}"]
             if number == 0:
                 texts = " ".join(f"{value} 1 0 1" for value in [*values, 1, 0, 2][:3])
                 return [f"1 {texts} {a}", f"2 {a} {b}"]
@@ -1482,9 +1464,8 @@ def repeated_opaque_gates():
     ):
         main.append(lists.call(number, qubits(a, b, c), whole(x)))
         texts += lines(x, a, b, c) if number == 4 else lines(x, c, b, a) + lines(1, a, c, b)
-        inner = [f"3 4 1 3 {x} 1 0 1 {c} {b} {a}", f"3 4 1 3 1 1 0 1 {a} {c} {b}"]
-        half += lines(x, a, b, c) if number == 4 else inner
-        cut.append(f"3 {number} 1 3 {x} 1 0 1 {a} {b} {c}")
+        half += lines(x, a, b, c) if number == 4 else [f"3 4 0 3 {c} {b} {a}", f"3 4 0 3 {a} {c} {b}"]
+        cut.append(f"3 {number} 0 3 {a} {b} {c}")
     words = lists.program(main, gates, quantum=[4])
     for depth, text in (WORD_MAX, texts), (3, texts), (2, half), (1, cut):
         stated(words, depth, head([4]), *text, f"done {1 + len(text)}")
@@ -1660,444 +1641,6 @@ def silent_pairs(levels, order=1, empty=1):
     return program([call(levels - 1, 0, 1), (RESET, 2)], gates, quantum=[2], arguments=[(0, 0), *qubits(0, 1)])
 
 
-# ------------------------------------------------------------- cut gates
-# Document 02, Two: "A body that is not opened is now written with its parameter
-# values, and its qubits are tested for distinctness like those of an opaque gate,
-# with refusal 12 and the trace that includes the cut call."
-
-# Sixteen angles, no two alike; the first have signs and parts of pi.
-SIXTEEN = ANGLES[6:16] + ANGLES[:6]
-
-# A gate of two arguments with an empty body, called on one qubit twice.
-ONE_QUBIT_TWICE = list(map(int, "24 1 0 1 1 0 2 0 0 1 0 2 1 0 0 3 0 0 0 0 0 1 0 1".split()))
-
-
-def kind_3(number, texts, *numbers):
-    """The line of a gate that is not opened, with these angles and qubits."""
-    return joined((3, number, len(texts), len(numbers), *texts, *numbers))
-
-
-def told(words, depth, *text):
-    """Two lines of a run that the listing program would write so: with as many words as it writes, and with more."""
-    length = len(reference.run(words, depth, OUTPUT_ROOM, 256).output)
-    for lent in length, length + 64:
-        outcome = vector(words, depth, lent)
-        agree(outcome, text_of(outcome), list(text), words)
-
-
-def from_line(words, scope, statement):
-    return f"from {scope} {place(words, MAIN, statement)}"
-
-
-def overlap_line(words, first, i, j):
-    """The refusal of a call whose arguments begin with this one."""
-    return f"refused 12 {place(words, ARGUMENTS, first + i)} {place(words, ARGUMENTS, first + j)}"
-
-
-def refusal_line(words, lists, number, tree, second):
-    """The refusal of an expression by this number."""
-    return f"refused {number} {place(words, EXPRESSIONS, numbered(tree, lists.expressions))} {second}"
-
-
-def cut_angles():
-    heading("Cut gates of 0 to 16 parameters and 1, 2 and 16 arguments, in main and in bodies: each angle another, in order")
-    for count, arguments in (
-        (0, 1), (0, 2), (0, 16), (1, 1), (1, 2), (1, 16), (2, 1), (2, 2), (3, 2), (16, 1), (16, 2), (16, 16),
-    ):
-        texts, trees = [text for text, _ in SIXTEEN[:count]], [tree for _, tree in SIXTEEN[:count]]
-        lists, own = Lists(), list(range(arguments))
-        # Gate 1 calls gate 0 with its arguments in reverse, gate 2 calls gate 1 with its second first.
-        gates = [(count, arguments, [lists.u(0, ONE, TWO, ONE)]),
-                 (0, arguments, [lists.call(0, formals(*own[::-1]), *trees)]),
-                 (0, arguments, [lists.call(1, formals(*own[1:], 0))])]
-        row = [3 * k % 17 for k in own]
-        turned = row[1:] + row[:1]
-        main = [lists.call(0, qubits(*row), *trees), lists.call(1, qubits(*row)), lists.call(2, qubits(*row))]
-        words = lists.program(main, gates, quantum=[17])
-        us = [f"1 1 1 0 1 2 1 0 1 1 1 0 1 {qubit}" for qubit in (row[0], row[-1], turned[-1])]
-        shut = [kind_3(0, texts, *row), kind_3(1, [], *row), kind_3(2, [], *row)]
-        for depth, text in (
-            (0, shut), (1, shut), (2, [us[0], kind_3(0, texts, *row[::-1]), kind_3(1, [], *turned)]),
-            (3, [*us[:2], kind_3(0, texts, *turned[::-1])]), (4, us),
-        ):
-            told(words, depth, head([17]), *text, "done 4")
-
-
-def cut_values():
-    heading("Cut gates called with expressions of the caller's parameters: the call's own values, through one call and two")
-    lists = Lists()
-    gates = [(3, 1, [lists.u(0, X, Y, Z)]),
-             (3, 1, [lists.call(0, formals(0), (MINUS, Z, X), (TIMES, TWO, Y), ratio(1, 2))]),
-             (3, 1, [lists.call(1, formals(0), Y, Z, X)])]
-    given = ratio(1, 3), pi_times(-1, 4), whole(5)
-    words = lists.program([lists.call(number, qubits(number), *given) for number in range(3)], gates, quantum=[3])
-    texts = ["1 3 0 1", "0 1 -1 4", "5 1 0 1"]
-    direct = ["14 3 0 1", "0 1 -1 2", "1 2 0 1"]  # 5 - 1/3, -pi/2
-    turned = ["0 1 -1 4", "5 1 0 1", "1 3 0 1"]
-    through = ["1 3 1 4", "10 1 0 1", "1 2 0 1"]  # 1/3 + pi/4, 10
-    for depth, *text in (
-        (1, *(kind_3(number, texts, number) for number in range(3))),
-        (2, f"1 {joined(texts)} 0", kind_3(0, direct, 1), kind_3(1, turned, 2)),
-        (3, f"1 {joined(texts)} 0", f"1 {joined(direct)} 1", kind_3(0, through, 2)),
-        (4, f"1 {joined(texts)} 0", f"1 {joined(direct)} 1", f"1 {joined(through)} 2"),
-    ):
-        told(words, depth, head([3]), *text, "done 4")
-    every_length(words, 2)
-    heading("Cut gates that differ in one angle, or in its sign or part of pi, one after the other; over registers too")
-    for one, others in NEAR.items():
-        lists = Lists()
-        gates = [(2, 2, [lists.cx(0, 1)]), (2, 2, [lists.call(0, formals(1, 0), X, Y)])]
-        main, shut, inner = [], [], []
-        for other_text, other in others:
-            for number in 0, 1:
-                main.append(lists.call(number, [(0, 0), (1, 2)], one[1], other))
-                shut += [kind_3(number, [one[0], other_text], k, 4) for k in range(3)]
-                inner += [f"2 {k} 4" if number == 0 else kind_3(0, [one[0], other_text], 4, k) for k in range(3)]
-        words = lists.program(main, gates, quantum=[3, 2])
-        for depth, text in (1, shut), (2, inner):
-            told(words, depth, head([3, 2]), *text, f"done {1 + len(text)}")
-
-
-def cut_without_arguments():
-    heading("Cut gates without arguments write nothing, and their parameters are worked out: in main, in a body, in an if")
-    for body in [], [NOTHING]:
-        for number, second, tree in (0, 0, PI_TREE), *ONE_OF_EACH:
-            for where in "main", "body", "if":
-                lists = Lists()
-                inner = lists.call(0, [], PI_TREE, tree)
-                gates = [(2, 0, body), (0, 1, [NOTHING, inner, NOTHING])]
-                main = {"main": [inner], "body": [lists.call(1, qubits(0))], "if": [(IF, 0, 9, 2)]}[where]
-                reset = RESET, lists.named(qubits(0))
-                words = lists.program([*main, reset], gates, [inner] * (where == "if"), quantum=[1], classical=[2])
-                before = {"main": [], "body": ["4 0"], "if": ["7 0 2 9"]}[where]
-                after = {"main": [], "body": ["4 0"], "if": ["8"]}[where]
-                trace = [from_line(words, 0, 0)] * (where == "body")
-                text = [*before, *after, "6 0", f"done {2 + 2 * len(after)}"]
-                if number:
-                    text = [*before, *trace, refusal_line(words, lists, number, tree, second)]
-                for depth in (0, 1) if where != "body" else (2,):
-                    told(words, depth, head([1], [2]), *text)
-
-
-def cut_empty_bodies():
-    heading("Empty bodies: cut they are written with their angles and tested, opened they write nothing")
-    for depth in 0, 1:
-        # The register is at 9, the gate at 10, the statement at 15, the arguments at 20 and 22.
-        told(ONE_QUBIT_TWICE, depth, head([1]), "from 0 15", "refused 12 22 20")
-    for depth in 2, 3, WORD_MAX:
-        told(ONE_QUBIT_TWICE, depth, head([1]), "done 1")
-    for count in 0, 1, 16:
-        texts, trees = [text for text, _ in SIXTEEN[:count]], [tree for _, tree in SIXTEEN[:count]]
-        for equal in False, True:
-            lists = Lists()
-            gates = [(count, 2, []), (0, 2, [lists.call(0, formals(1, 0), *trees)])]
-            main = [lists.call(0, qubits(1, 0), *trees), lists.call(1, qubits(2, 2 if equal else 1))]
-            words = lists.program(main, gates, quantum=[3])
-            first = kind_3(0, texts, 1, 0)
-            if equal:
-                cut = [from_line(words, 0, 1), overlap_line(words, main[1][3], 1, 0)]
-                inner = [from_line(words, 0, 1), from_line(words, 2, 2), overlap_line(words, gates[1][2][0][3], 1, 0)]
-            else:
-                cut, inner = [kind_3(1, [], 2, 1), "done 3"], [kind_3(0, texts, 1, 2), "done 2"]
-            told(words, 1, head([3]), first, *cut)
-            told(words, 2, head([3]), *inner)
-            told(words, 3, head([3]), "done 1")
-
-
-def cut_overlaps():
-    heading("12 of a cut gate: argument i, then j below i, of the first such i, with the cut call in the trace; in main")
-    for chosen, i, j in OVERLAPS:
-        lists = Lists()
-        gates = [(2, len(chosen), [lists.u(0, ONE, ONE, ONE)])]
-        cut = lists.call(0, qubits(*chosen), PI_TREE, ONE)
-        words = lists.program([NOTHING, cut], gates, quantum=[4])
-        for depth in 0, 1:
-            told(words, depth, head([4]), "4 0", from_line(words, 0, 1), overlap_line(words, cut[3], i, j))
-        expect(words, 2, number=0, records=3)
-    heading("12 of a cut gate in a body that names a formal twice: the body's entries, and each call in the trace")
-    for chosen, i, j in OVERLAPS:
-        lists = Lists()
-        inner = lists.call(0, formals(*chosen), (NEGATE, X), ONE)
-        outer = lists.call(1, formals(3, 0, 2, 1), (PLUS, X, ONE))
-        gates = [(2, len(chosen), [NOTHING]), (1, 4, [NOTHING, inner]), (1, 4, [outer])]
-        main = [lists.call(1, qubits(3, 1, 0, 2), ONE), lists.call(2, qubits(0, 1, 2, 3), ONE)]
-        for number in 0, 1:
-            # Statement 0 is main's; then gate 0 has 1, gate 1 has 2 and 3, and gate 2 has 4.
-            words = lists.program([main[number]], gates, quantum=[4])
-            trace = from_line(words, 0, 0), *[from_line(words, 3, 4)] * number, from_line(words, 2, 3)
-            told(words, 2 + number, head([4]), "4 0", *trace, overlap_line(words, inner[3], i, j))
-            told(words, 3 + number, head([4]), "4 0", "4 0", "done 3")
-        told(words, 2, head([4]), kind_3(1, ["2 1 0 1"], 3, 0, 2, 1), "done 2")
-        told(words, 1, head([4]), kind_3(2, ["1 1 0 1"], 0, 1, 2, 3), "done 2")
-    heading("12 of a cut gate in a body that main hands one qubit twice, in the body's order and not in main's")
-    for chosen, (i, j), (k, m) in (
-        ((0, 0), (1, 0), (1, 0)), ((0, 1, 0), (2, 0), (2, 0)), ((0, 1, 1), (2, 1), (1, 0)), ((1, 1, 0), (1, 0), (2, 1)),
-        ((3, 2, 1, 2), (3, 1), (2, 0)), ((2, 3, 2, 1), (2, 0), (3, 1)), ((0, 1, 1, 0), (2, 1), (2, 1)),
-    ):
-        lists, count = Lists(), len(chosen)
-        inner = lists.call(0, formals(*reversed(range(count))), PI_TREE)
-        gates = [(1, count, [NOTHING]), (0, count, [inner])]
-        main = lists.call(1, qubits(*chosen))
-        words = lists.program([main], gates, quantum=[4])
-        told(words, 1, head([4]), from_line(words, 0, 0), overlap_line(words, main[3], i, j))
-        trace = from_line(words, 0, 0), from_line(words, 2, 2)
-        told(words, 2, head([4]), *trace, overlap_line(words, inner[3], k, m))
-        told(words, 3, head([4]), "4 0", "done 2")
-
-
-# Arguments of which two or more are equal, and the two that a 12 tells.
-OVERLAPS = (
-    ((0, 0), 1, 0), ((0, 1, 0), 2, 0), ((0, 1, 1), 2, 1), ((0, 0, 0), 1, 0), ((3, 2, 1, 2), 3, 1), ((3, 2, 3, 2), 2, 0),
-    ((0, 1, 1, 0), 2, 1), ((0, 1, 2, 1, 0), 3, 1), ((0, 1, 2, 3, 3, 0, 1), 4, 3),
-)
-
-
-def cut_overlaps_of_sixteen():
-    heading("12 of a cut gate of 16 parameters and 16 arguments: the last against others, and the smaller i of two pairs")
-    texts, trees = zip(*SIXTEEN)
-    for row, i, j in (
-        ([*range(15), 0], 15, 0), ([*range(15), 7], 15, 7), ([*range(15), 14], 15, 14),
-        ([*range(8), 3, *range(9, 15), 0], 8, 3), ([0, 0, *range(2, 16)], 1, 0),
-    ):
-        lists = Lists()
-        gates = [(16, 16, [NOTHING]), (16, 16, [lists.call(0, formals(*range(16)), *((VARIABLE, k) for k in range(16)))])]
-        main = [lists.call(1, qubits(*range(16)), *trees), lists.call(1, qubits(*row), *trees)]
-        words = lists.program(main, gates, quantum=[16])
-        fine = [kind_3(number, texts, *range(16)) for number in (0, 1)]
-        told(words, 1, head([16]), fine[1], from_line(words, 0, 1), overlap_line(words, main[1][3], i, j))
-        inner = gates[1][2][0][3]
-        trace = from_line(words, 0, 1), from_line(words, 2, 3)
-        told(words, 2, head([16]), fine[0], *trace, overlap_line(words, inner, i, j))
-
-
-def cut_overlaps_in_rounds():
-    heading("12 of a cut gate in the first, a middle and the last round: the records of the rounds before stay")
-    # Registers of 4, 4 and 1 qubits, from 0, 4 and 8.
-    texts = ["0 1 -1 2", "-1 3 0 1"]
-    trees = pi_times(-1, 2), ratio(-1, 3)
-    for k in range(4):
-        for arguments, resolved, i, j in (
-            ([(0, 0), (0, k + 1)], lambda t: (t, k), 1, 0),
-            ([(0, k + 1), (0, 0)], lambda t: (k, t), 1, 0),
-            ([(2, 0), (0, 0), (1, 0), (0, k + 1)], lambda t: (8, t, 4 + t, k), 3, 1),
-            ([(1, k + 1), (2, 1), (0, 0), (1, 0)], lambda t: (4 + k, 8, t, 4 + t), 3, 0),
-            ([(0, 0), (0, k + 1), (1, 0), (1, k + 1)], lambda t: (t, k, 4 + t, 4 + k), 1, 0),
-            ([(0, 0), (0, 4), (1, 0), (1, k + 1)], lambda t: (t, 3, 4 + t, 4 + k), *((3, 2) if k < 3 else (1, 0))),
-        ):
-            lists, count = Lists(), len(arguments)
-            inner = lists.call(0, formals(*range(count)), Y, X)
-            gates = [(2, count, [NOTHING]), (2, count, [inner, NOTHING])]
-            main = lists.call(1, arguments, *trees)
-            words = lists.program([main], gates, quantum=[4, 4, 1])
-            trace = from_line(words, 0, 0), from_line(words, 2, 2)
-            shut = [kind_3(1, texts, *resolved(t)) for t in range(k)]
-            told(words, 1, head([4, 4, 1]), *shut, trace[0], overlap_line(words, main[3], i, j))
-            held = [line for t in range(k) for line in (kind_3(0, texts[::-1], *resolved(t)), "4 0")]
-            told(words, 2, head([4, 4, 1]), *held, *trace, overlap_line(words, inner[3], i, j))
-            expect(words, 3, number=0, records=1 + 8)
-    heading("A register beside itself overlaps in the first round, beside another in none")
-    for arguments, fine in ([(0, 0), (0, 0)], False), ([(0, 0), (1, 0)], True), ([(2, 0), (2, 1)], False):
-        lists = Lists()
-        main = lists.call(0, arguments, *trees)
-        words = lists.program([main], [(2, 2, [])], quantum=[4, 4, 1])
-        text = [kind_3(0, texts, t, 4 + t) for t in range(4)] + ["done 5"]
-        refused = [from_line(words, 0, 0), overlap_line(words, main[3], 1, 0)]
-        told(words, 1, head([4, 4, 1]), *(text if fine else refused))
-
-
-def cut_overlaps_and_parameters():
-    heading("A cut call's refused parameter comes before its 12, before its first record, and without the call in the trace")
-    for number, second, tree in ONE_OF_EACH:
-        for arguments in [(0, 1), (0, 1)], [(0, 0), (0, 0)], [(0, 0), (0, 3)], [(0, 0), (0, 1)]:
-            lists = Lists()
-            inner = lists.call(0, formals(0, 0), PI_TREE, tree, (EXP, ONE))
-            gates = [(3, 2, [NOTHING]), (0, 2, [NOTHING, inner])]
-            main = [lists.call(0, arguments, PI_TREE, tree, (EXP, ONE)), lists.call(1, [(0, 1), (0, 2)])]
-            direct = lists.program([NOTHING, main[0]], gates, quantum=[3])
-            for depth in 0, 1, 2:
-                told(direct, depth, head([3]), "4 0", refusal_line(direct, lists, number, tree, second))
-            words = lists.program([main[1]], gates, quantum=[3])
-            ending = refusal_line(words, lists, number, tree, second)
-            told(words, 2, head([3]), "4 0", from_line(words, 0, 0), ending)
-    heading("A cut call's parameter that is refused with one value and not with another, on one qubit twice")
-    entries = (9, 0, (DIVIDE, ONE, X)), (11, 0, (PLUS, whole(LARGEST), (MINUS, ONE, X))), (13, 0, (SQRT, (MINUS, TWO, X)))
-    for number, second, tree in entries:
-        lists = Lists()
-        inner = lists.call(0, formals(1, 0), tree)
-        gates = [(1, 2, [NOTHING]), (1, 2, [inner])]
-        main = [lists.call(1, qubits(0, 1), ONE), lists.call(1, qubits(2, 2), ZERO)]
-        fine = kind_3(0, [{9: "1 1 0 1", 11: f"{LARGEST} 1 0 1", 13: "1 1 0 1"}[number]], 1, 0)
-        words = lists.program(main, gates, quantum=[3])
-        told(words, 2, head([3]), fine, from_line(words, 0, 1), refusal_line(words, lists, number, tree, second))
-        main[1] = lists.call(1, qubits(2, 2), ONE)
-        words = lists.program(main, gates, quantum=[3])
-        trace = from_line(words, 0, 1), from_line(words, 2, 3)
-        told(words, 2, head([3]), fine, *trace, overlap_line(words, inner[3], 1, 0))
-
-
-def cut_overlaps_and_lengths():
-    heading("12 of a cut gate and the output's length: 14 until the records before it fit, then 12 with no word to spare")
-    for where, depth in ("main", 1), ("body", 2), ("if", 1):
-        lists = Lists()
-        inner = lists.call(0, formals(0, 1), PI_TREE)
-        gates = [(1, 2, [NOTHING]), (0, 2, [inner])]
-        arguments = [(0, 0), (0, 3)]
-        outer = lists.call(1, arguments) if where == "body" else lists.call(0, arguments, PI_TREE)
-        main = [(IF, 0, 1, 1)] if where == "if" else [outer]
-        words = lists.program(main, gates, [outer] * (where == "if"), quantum=[4], classical=[1])
-        top = 3 + 2 * 5
-        start = top + 4 * (where == "if")
-        trace = {"main": [0, place(words, MAIN, 0)], "if": [0, place(words, MAIN, 1)],
-                 "body": [0, place(words, MAIN, 0), 2, place(words, MAIN, 2)]}[where]
-        for lent in range(start + 2 * 10 + 2):  # two records of 4 + 4 + 2 words come before it
-            fits = min((lent - start) // 10, 2) if lent >= start else 0
-            records = 0 if lent < top else 1 if lent < start or where != "if" else 2
-            number = 12 if fits == 2 else 14
-            held = trace if lent >= start else []
-            expect_outcome(vector(words, depth, lent), words, number=number, records=records + fits, trace=held)
-
-
-def cut_in_ifs():
-    heading("Cut gates in an if: angles, and 12 with the inner statement's place; through a body too")
-    for depth, number, scope in (1, 0, None), (2, 1, 2):
-        for arguments, pairs in ([(0, 0), (1, 0)], [(0, 2), (1, 2)]), ([(0, 0), (0, 2)], [(0, 1)]), ([(0, 1), (0, 1)], []):
-            lists = Lists()
-            nested = lists.call(0, formals(0, 1), X)
-            gates = [(1, 2, [NOTHING]), (1, 2, [nested])]
-            called = lists.call(number, arguments, pi_times(-1, 4))
-            words = lists.program([NOTHING, (IF, 1, 6, 2)], gates, [called], quantum=[2, 1], classical=[1, 3])
-            held = [kind_3(0, ["0 1 -1 4"], *pair) for pair in pairs]
-            # Statements 0 and 1 are main's, 2 is the if's, 3 and 4 are the bodies'.
-            trace = [from_line(words, 0, 2)] + [from_line(words, 2, 4)] * number
-            named = nested if number else called
-            fine = arguments[1] == (1, 0)
-            ending = ["8", "done 6"] if fine else [*trace, overlap_line(words, named[3], 1, 0)]
-            told(words, depth, head([2, 1], [1, 3]), "4 0", "7 1 3 6", *held, *ending)
-        every_length(words, depth)
-
-
-def one_qubit_down():
-    heading("One qubit twice goes down through opened gates, until a cut gate, an opaque one or a CX meets it")
-    for bottom in U, CX, CALL:
-        for count in 1, 2, 4:
-            lists = Lists()
-            if bottom == U:
-                last = lists.u(1, ONE, ONE, ONE)
-            else:
-                last = lists.cx(1, 0) if bottom == CX else lists.call(0, formals(0, 1), TWO)
-            # Gate 0 is opaque; gate 1 has the last statement, each one above it calls the one below.
-            gates = [(1, 2), (1, 2, [last])]
-            gates += [(1, 2, [lists.call(number, formals(1, 0), X)]) for number in range(1, count)]
-            main = lists.call(count, qubits(1, 1), ONE)
-            words = lists.program([main], gates, quantum=[2])
-            # Gate k's statement has the number k.
-            pairs = [from_line(words, 0, 0)] + [from_line(words, k + 1, k) for k in range(count, 1, -1)]
-            calls = [main] + [gates[k][2][0] for k in range(count, 1, -1)]
-            for depth in range(1, count + 1):
-                told(words, depth, head([2]), *pairs[:depth], overlap_line(words, calls[depth - 1][3], 1, 0))
-            for depth in count + 1, WORD_MAX:
-                u = ["1" + " 1 1 0 1" * 3 + " 1", "done 2"]
-                places = {U: (), CX: last[1:3], CALL: (last[-1] + 1, last[-1])}[last[0]]
-                refused = [*pairs, joined(("refused 12", *(place(words, ARGUMENTS, at) for at in places)))]
-                told(words, depth, head([2]), *(refused if places else u))
-
-
-def large_cut_gates():
-    heading("4,096 qubits: a cut gate with an angle, one that overlaps in the last round, and 16 angles on two registers")
-    lists = Lists()
-    main = [lists.call(0, [(0, 0)], pi_times(-1, 2))]
-    words = lists.program(main, [(1, 1, [])], **ALL)
-    few(words, 1, number=0, records=4097, written=ALL_HEAD + 9 * 4096)
-    for arguments in [(0, 4096), (0, 0)], [(0, 0), (0, 4096)]:
-        lists = Lists()
-        main = [lists.call(0, arguments, pi_times(-1, 2))]
-        words = lists.program(main, [(1, 2, [])], **ALL)
-        few(words, 1, number=12, records=4096, written=ALL_HEAD + 10 * 4095, frames=1)
-    lists = Lists()
-    main = [lists.call(0, [(1, 0), (0, 0)], *(tree for _, tree in SIXTEEN))]
-    few(lists.program(main, [(16, 2, [])], quantum=[900, 900]), 1, number=0, records=901, written=3 + 3600 + 70 * 900)
-
-
-def repeated_cut_gates():
-    heading("Bodies that hold a cut gate, called again: the same and other angles, on the same, other and swapped qubits")
-    # Angles, counts and gates have the same numbers as the qubits.
-    for one, other in (
-        (("1 1 0 1", ONE), ("2 1 0 1", TWO)), (HALF, BOTH), (("0 1 1 1", PI_TREE), ("0 1 -1 1", (NEGATE, PI_TREE))),
-    ):
-        lists = Lists()
-        # Gate 1 has a U on its third qubit and gate 0 on its second and first; gate 2 calls it with these exchanged.
-        body = [lists.u(2, X, ZERO, ZERO), lists.call(0, formals(1, 0), TWO, X)]
-        gates = [(2, 2, [lists.cx(0, 1)]), (1, 3, body), (1, 3, [lists.call(1, formals(1, 0, 2), X)])]
-
-        def lines(number, text, a, b, c):
-            a, b = (a, b) if number == 1 else (b, a)
-            return [f"1 {text} {ZERO_TEXT} {ZERO_TEXT} {c}", kind_3(0, ["2 1 0 1", text], b, a)]
-
-        # In some the third qubit is one of the others, which the cut gate does not have twice.
-        calls = (
-            (one, 0, 1, 2), (one, 0, 1, 2), (one, 1, 0, 2), (other, 0, 1, 2), (other, 3, 2, 1), (one, 2, 3, 0),
-            (one, 2, 1, 2), (one, 1, 3, 3), (other, 3, 1, 3), (one, 0, 2, 1),
-        )
-        for number in 1, 2:
-            main = [lists.call(number, qubits(*row), tree) for (_, tree), *row in calls]
-            texts = [line for (text, _), *row in calls for line in lines(number, text, *row)]
-            words = lists.program(main, gates, quantum=[4])
-            told(words, 1 + number, head([4]), *texts, f"done {1 + len(texts)}")
-    every_length(words, 3)
-    heading("12 of a cut gate in a body that was fine on other qubits: called directly, nested, and in a later round")
-    for number, times in ((number, times) for number in (1, 2) for times in (1, 2, 3)):
-        for alone in False, True:
-            lists = Lists()
-            inner = lists.call(0, formals(1, 0), TWO)
-            lead = [] if alone else [lists.u(2, ONE, ONE, ONE)]
-            # Gate 0 is cut in gate 1 at depth 2, and where gate 2 calls gate 1 at depth 3.
-            gates = [(1, 2, []), (0, 3, [*lead, inner]), (0, 3, [lists.call(1, formals(1, 0, 2))])]
-            rows = [(0, 1, 2), (2, 1, 0), (3, 3, 0), (0, 1, 2)][3 - times :]
-            main = [lists.call(number, qubits(*row)) for row in rows]
-            words = lists.program(main, gates, quantum=[4])
-
-            def lines(a, b, c):
-                a, b = (a, b) if number == 1 else (b, a)
-                return ["1" + " 1 1 0 1" * 3 + f" {c}"] * (not alone) + [kind_3(0, ["2 1 0 1"], b, a)]
-
-            done = [line for row in rows[: times - 1] for line in lines(*row)] + lines(*rows[times - 1])[:-1]
-            at = len(main) + len(lead)  # gate 1's call of gate 0, before gate 2's call of gate 1
-            trace = from_line(words, 0, times - 1), *[from_line(words, 3, at + 1)] * (number - 1), from_line(words, 2, at)
-            told(words, 1 + number, head([4]), *done, *trace, overlap_line(words, inner[3], 1, 0))
-    for before in False, True:
-        lists = Lists()
-        inner = lists.call(0, formals(1, 0), X)
-        gates = [(1, 2, [NOTHING]), (1, 3, [inner, lists.u(2, X, X, X)])]
-        # Registers from 0 and 4: q0[k], q0[2] and q1[k]; before it q1[0], q0[k] and q1[1].
-        main = [lists.call(1, [(1, 1), (0, 0), (1, 2)], ONE)] * before + [lists.call(1, [(0, 0), (0, 3), (1, 0)], ONE)]
-        words = lists.program(main, gates, quantum=[4, 4])
-        rows = [(4, k, 5) for k in range(4 * before)] + [(0, 2, 4), (1, 2, 5)]
-        done = [line for a, b, c in rows for line in (kind_3(0, ["1 1 0 1"], b, a), "1" + " 1 1 0 1" * 3 + f" {c}")]
-        # Gate 0's barrier stands behind main's statements.
-        trace = from_line(words, 0, int(before)), from_line(words, 2, len(main) + 1)
-        told(words, 2, head([4, 4]), *done, *trace, overlap_line(words, inner[3], 1, 0))
-    heading("A gate that is opened in one place and cut in another, with the same angle on the same qubits, in turn")
-    for order in (0, 1, 0, 1), (1, 0, 1, 0), (2, 1, 0, 2), (1, 2, 0, 1):
-        lists = Lists()
-        gates = [(1, 2, pair_body(lists)), (1, 2, [lists.call(0, formals(0, 1), X)]), (1, 2, [lists.call(1, formals(0, 1), X)])]
-        text, tree = BOTH
-        words = lists.program([lists.call(number, qubits(1, 0), tree) for number in order], gates, quantum=[2])
-        for depth in 1, 2, 3, 4:
-            texts = []
-            for number in order:
-                cut = number - (depth - 1)  # the gate that is cut, if any
-                texts += [kind_3(cut, [text], 1, 0)] if cut >= 0 else pair_texts(text, 1, 0)
-            told(words, depth, head([2]), *texts, f"done {1 + len(texts)}")
-    heading("A body that calls a cut gate without arguments alone: silent with one angle, refused with another")
-    for number, second, tree in (9, 0, (DIVIDE, ONE, X)), (13, 0, (SQRT, (MINUS, TWO, X))):
-        lists = Lists()
-        gates = [(1, 0, [NOTHING]), (1, 1, [lists.call(0, [], tree)])]
-        main = [lists.call(1, qubits(k), x) for k, x in enumerate((ONE, ONE, ZERO, ONE))]
-        words = lists.program(main, gates, quantum=[4])
-        for depth in 2, 3:
-            told(words, depth, head([4]), from_line(words, 0, 2), refusal_line(words, lists, number, tree, second))
-
-
 # ---------------------------------------------------------------- random
 
 SEED = 20170713
@@ -2242,9 +1785,6 @@ SECTIONS = (
     repeated_at_levels, repeated_broadcasts, repeated_doubling, repeated_barriers, repeated_opaque_gates,
     repeated_output_ends, repeated_refusals, repeated_in_ifs, repeated_among_many, repeated_chains,
     repeated_shared_bodies, silent_calls,
-    cut_angles, cut_values, cut_without_arguments, cut_empty_bodies, cut_overlaps, cut_overlaps_of_sixteen,
-    cut_overlaps_in_rounds, cut_overlaps_and_parameters, cut_overlaps_and_lengths, cut_in_ifs, one_qubit_down,
-    large_cut_gates, repeated_cut_gates,
 )
 
 

@@ -498,68 +498,20 @@ def opaque_gates():
             many = 6 if arguments else 0
             given(words, (1,), calls=3, words=head(3) + 3 * 5)
             given(words, (2, WORD_MAX), entries=3, calls=many, words=head(3) + many * length)
-    heading("A gate with a body that is not opened has its angles too: 4 words, 4 a parameter, 1 an argument")
+    heading("A gate with a body that is not opened is written without angles: 4 words and the arguments")
     for arguments in 1, 16:
         lists = dict(parameters=[0] * 16, arguments=[(0, 0)] * 16, quantum=[2])
-        length = 4 + 4 * 16 + arguments
         words = program([call(0)], [(16, arguments, [U_ONE])], **lists)
-        given(words, SHUT, calls=2, words=head(2) + 2 * length)
+        given(words, SHUT, calls=2, words=head(2) + 2 * (4 + arguments))
         given(words, (2, WORD_MAX), entries=2, u=2, words=head(2) + 28)
         # In a body; it is not opened at depth 2.
         words = program([call(1)], [(16, arguments, [U_ONE]), (0, 1, [call(0)])], **lists)
-        given(words, (2,), entries=2, calls=2, words=head(2) + 2 * length)
+        given(words, (2,), entries=2, calls=2, words=head(2) + 2 * (4 + arguments))
         given(words, (3,), entries=4, u=2, words=head(2) + 28)
         # Empty: written or entered, not both.
         words = program([call(0)], [(16, arguments, [])], **lists)
-        given(words, SHUT, calls=2, words=head(2) + 2 * length)
+        given(words, SHUT, calls=2, words=head(2) + 2 * (4 + arguments))
         given(words, (2,), entries=2, words=head(2))
-
-
-def cut_gates():
-    heading("Cut gates: 4 words, 4 a parameter, 1 an argument, in main, in bodies and in an if")
-    for parameters, arguments in (0, 1), (0, 16), (1, 1), (1, 16), (2, 2), (15, 1), (16, 1), (16, 16):
-        length = 4 + 4 * parameters + arguments
-        lists = dict(parameters=[0] * 16, arguments=[(0, 0)] * 16, quantum=[3])
-        gates = [(parameters, arguments, [U_ONE]), (0, 1, [call(0)] * 2), (2, 1, [call(1)])]
-        words = program([call(0)], gates, **lists)
-        given(words, SHUT, calls=3, words=head(3) + 3 * length)
-        given(words, (2,), entries=3, u=3, words=head(3) + 3 * 14)
-        words = program([call(1)], gates, **lists)
-        given(words, (1,), calls=3, words=head(3) + 3 * 5)
-        given(words, (2,), entries=3, calls=6, words=head(3) + 6 * length)
-        given(words, (3,), entries=9, u=6, words=head(3) + 6 * 14)
-        # Gate 2 is cut with two angles of its own: 4 + 8 + 1 words.
-        words = program([call(2)], gates, **lists)
-        given(words, (1,), calls=3, words=head(3) + 3 * 13)
-        given(words, (2,), entries=3, calls=3, words=head(3) + 3 * 5)
-        given(words, (3,), entries=6, calls=6, words=head(3) + 6 * length)
-        given(words, (4, WORD_MAX), entries=12, u=6, words=head(3) + 6 * 14)
-        words = program([(IF, 0, 7, 1)], gates, [call(0)], classical=[1], **lists)
-        given(words, (1,), ifs=1, calls=3, words=head(3, 1) + 5 + 3 * length)
-    heading("Cut gates with three angles over registers of 1, 3 and 4,092 and over indices; without arguments none is written")
-    lists = {**SIZED, "arguments": [(0, 0), (1, 0), (0, 1), (1, 0), (1, 1), (2, 0), (2, 7), (0, 0)], "parameters": [0] * 3}
-    for first, arguments, size in (0, 1, 1), (0, 2, 3), (1, 4, 3), (4, 4, 4092), (6, 2, 1), (0, 0, 0):
-        for body in [], [U_ONE]:
-            words = program([call(0, 0, first)], [(3, arguments, body if arguments else [NOTHING])], **lists)
-            given(words, (1,), calls=size, words=SIZED_HEAD + size * (4 + 4 * 3 + arguments))
-    heading("Words at the limit: cut gates of 16 parameters and 16 arguments, 84 words each")
-    gates = [(16, 16, [NOTHING]), (0, 1, [call(0)] * 124)]
-    many = 100 * 4095 * 124
-    room = LIMIT - head(4096)
-    for more, judged in (0, given), (1, passed):
-        rest = barriers(room - many * (4 + 4 * 16 + 16) + more)
-        words = program([call(1)] * 100 + rest, gates, parameters=[0] * 16, **FILLED)
-        judged(words, (2,), entries=100 * 4095, calls=many, barriers=len(rest), words=LIMIT + more)
-        # Opened, each has a barrier of 2 words in their place.
-        figures = dict(entries=100 * 4095 + many, barriers=many + len(rest), words=LIMIT + more - 82 * many)
-        given(words, (3,), **figures)
-    heading("2^28 and 2^29 cut gates of a parameter, 9 words each: the angles alone take the words past the limit")
-    for levels, judged in (28, given), (29, passed):
-        # Each gate calls the one below twice, and the lowest is cut: it has no level left at this depth.
-        tall = [(1, 1, []), *((0, 1, [call(number)] * 2) for number in range(levels))]
-        words = program([call(levels)], tall, parameters=[0])
-        judged(words, (levels + 1,), entries=2**levels - 1, calls=2**levels, words=head(1) + 9 * 2**levels)
-        given(words, (levels + 2,), entries=2 ** (levels + 1) - 1, words=head(1))
 
 
 def calls_of_many_arguments():
@@ -625,9 +577,9 @@ def shared_bodies():
     gates = [gate(1, 1, 2, 2), gate(3, 2, 2, 2), gate(1, 16, 3, 1)]
     lists = dict(quantum=[3], arguments=[(0, 0)] * 16, parameters=[0] * 3, expressions=[PI_ENTRY, variable(0)])
     for main, depths, figures in (
-        ([call(0), call(1)], (0, 1), dict(calls=6, words=3 * (4 + 4 + 1) + 3 * (4 + 12 + 2))),
+        ([call(0), call(1)], (0, 1), dict(calls=6, words=15 + 18)),
         ([call(0), call(1)], (2, WORD_MAX), dict(entries=6, u=6, barriers=6, words=6 * 17)),
-        ([call(2), call(0)], (0, 1), dict(calls=6, words=3 * (4 + 4 + 16) + 3 * (4 + 4 + 1))),
+        ([call(2), call(0)], (0, 1), dict(calls=6, words=60 + 15)),
         ([call(2), call(0)], (2, WORD_MAX), dict(entries=6, u=3, barriers=6, words=3 * 3 + 3 * 17)),
         ([call(1), call(2)], (2,), dict(entries=6, u=3, barriers=6, words=3 * 3 + 3 * 17)),
     ):
@@ -644,15 +596,15 @@ def everything():
     heading("K1, and one image of all kinds")
     # A gate with one U on each of two qubits, then a CX.
     given(K1, (2, 8, WORD_MAX), u=2, cx=1, entries=2, words=head(2) + 28 + 3)
-    given(K1, SHUT, calls=2, cx=1, words=head(2) + 2 * 9 + 3)
+    given(K1, SHUT, calls=2, cx=1, words=head(2) + 10 + 3)
     gates = [(2, 3), (1, 2, [U_ONE, call(0), (BARRIER, 0, 2), call(0)])]
     main = [U_ONE, CX_ONE, call(0), call(1), (BARRIER, 0, 3), (MEASURE, 0, 0), (RESET, 0), (IF, 0, 1, 8)]
     lists = dict(quantum=[7], classical=[7], arguments=[(0, 0)] * 3, parameters=[0, 0])
     words = program(main, gates, [call(1)], **lists)
-    # A call of gate 0 has 4 + 8 + 3 = 15 words, of gate 1 not opened 4 + 4 + 2 = 10; its body has 14 + 15 + 4 + 15 = 48.
+    # A call of gate 0 has 4 + 8 + 3 = 15 words, of gate 1 not opened 4 + 2 = 6; its body has 14 + 15 + 4 + 15 = 48.
     plain = dict(measures=7, resets=7, ifs=1)
     length = head(7, 7) + 7 * 14 + 7 * 3 + 7 * 15 + (2 + 21) + 7 * 3 + 7 * 2 + 5
-    given(words, SHUT, u=7, cx=7, calls=7 + 14, barriers=1, words=length + 14 * 10, **plain)
+    given(words, SHUT, u=7, cx=7, calls=7 + 14, barriers=1, words=length + 14 * 6, **plain)
     given(words, (2, 3, WORD_MAX), u=21, cx=7, calls=7 + 28, barriers=15, entries=14, words=length + 14 * 48, **plain)
 
 
@@ -738,7 +690,6 @@ def main():
     rounds()
     barrier_sizes()
     opaque_gates()
-    cut_gates()
     calls_of_many_arguments()
     conditionals()
     without_arguments()

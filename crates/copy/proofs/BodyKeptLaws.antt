@@ -13,7 +13,7 @@ use borrow.Author.Tests.{eqb-true, eqb-false, eq-eqb, ne_eqb}
 use Rattle.value.specs.declared.Value.{Value}
 use Rattle.model.specs.Image.{gates, gate_arguments}
 use Rattle.model.specs.Records.{Record, encode}
-use Rattle.model.specs.Steps.{Step}
+use Rattle.model.specs.Steps.{Step, open_gate, opening}
 use Rattle.model.specs.Run.{done, play, output}
 use Rattle.model.specs.Playing.{OutputState, room, Plays}
 use Rattle.model.specs.Claims.{differ}
@@ -23,11 +23,11 @@ use Rattle.model.specs.Accepted.{Accepted}
 use Rattle.model.proofs.ReadBack.{words_enough}
 use Rattle.model.proofs.PlayLaws.{output_fits}
 use Rattle.copy.specs.Renaming.{renaming, renamed_record, copied_words}
-use Rattle.copy.specs.BodyKept.{body_steps, BodyKept}
+use Rattle.copy.specs.BodyKept.{body_frame, body_steps, BodyKept}
 use Rattle.copy.proofs.Silent as silent
 use Rattle.copy.proofs.Renamed as renamed
-use Rattle.copy.proofs.Silent.{Silent, after_enter, no_write, no_refusal, silent_plays, plays_silent, body_silent}
-use Rattle.copy.proofs.Renamed.{Renamed, Formals, Levels, body_renamed, renamed_plays, shorter}
+use Rattle.copy.proofs.Silent.{Silent, after_enter, no_write, no_refusal, silent_plays, plays_silent, openings_hushed}
+use Rattle.copy.proofs.Renamed.{Renamed, Formals, Levels, gate_renamed, renamed_plays, shorter}
 
 -- ---- the renaming of some qubits to others, by their places: what the code looks up
 
@@ -96,7 +96,7 @@ part_new at ws l h =
 
 -- the records that stand there
 abbrev pub kept_records : {image out : List ℕ} {at g n : ℕ} {vs : List Value} {qs : List ℕ} {from words records : ℕ} → BodyKept image out at g n vs qs from words records → List Record
-kept_records {image} {g = g} {n = n} {vs = vs} {qs = qs} k = (play k.ahead (body_steps image n k.trace g vs qs)).written
+kept_records {image} {g = g} {n = n} {vs = vs} {qs = qs} k = (play k.ahead (open_gate (opening image n) (body_frame k.trace g vs qs) g)).written
 
 module _ {image out : List ℕ} {at g n : ℕ} {vs : List Value} {qs : List ℕ} {from words records : ℕ} (k : BodyKept image out at g n vs qs from words records) where
   -- what is written later leaves it
@@ -113,11 +113,11 @@ module _ {image out : List ℕ} {at g n : ℕ} {vs : List Value} {qs : List ℕ}
       }
 
 -- a body that has just been played to its end
-pub kept_new : (image : List ℕ) (g n : ℕ) (t : List ℕ) (vs : List Value) (qs : List ℕ) {p q : OutputState} → Plays (body_steps image n t g vs qs) p q done
+pub kept_new : (image : List ℕ) (g n : ℕ) (t : List ℕ) (vs : List Value) (qs : List ℕ) {p q : OutputState} → Plays (open_gate (opening image n) (body_frame t g vs qs) g) p q done
     → p.words ≤ length p.out → BodyKept image q.out q.words g n vs qs p.words (q.words - p.words) (q.records - p.records)
 kept_new image g n t vs qs {p} {q} h f =
-    let fits = output_fits (room p) (body_steps image n t g vs qs) in
-    let long : q.words - p.words ≡ length (output (play (room p) (body_steps image n t g vs qs))) = omega (arith, h.position) in
+    let fits = output_fits (room p) (open_gate (opening image n) (body_frame t g vs qs) g) in
+    let long : q.words - p.words ≡ length (output (play (room p) (open_gate (opening image n) (body_frame t g vs qs) g))) = omega (arith, h.position) in
     record {
       ahead = room p;
       trace = t;
@@ -160,9 +160,9 @@ copied_plays r ahead {ss} {ss'} h d p f =
 -- The law that the code's copy rests on: the table's entry, the same values, levels as before or enough in both, the formals renamed, and room for the words.
 pub kept_copies : {image : List ℕ} → Accepted image → (r : ℕ → ℕ) (p : OutputState) (g n n' : ℕ) (vs : List Value) (qs qs' t' : List ℕ) {from words records : ℕ} (k : BodyKept image p.out p.words g n vs qs from words records)
     → g < gates image → Levels r g n n' → Formals r (gate_arguments image g) qs qs' → p.words + words ≤ length p.out
-    → Plays (body_steps image n' t' g vs qs') p (copied_place r (kept_records k) p) done
+    → Plays (open_gate (opening image n') (body_frame t' g vs qs') g) p (copied_place r (kept_records k) p) done
 kept_copies {image} acc r p g n n' vs qs qs' t' k h l f fits =
-    copied_plays r k.ahead (body_renamed r image acc n n' k.trace t' g vs qs qs' h l f) k.finished p (omega (arith, k.long))
+    copied_plays r k.ahead (gate_renamed r image acc n n' k.trace t' g vs qs qs' h l f) k.finished p (omega (arith, k.long))
 
 -- ---- words
 
@@ -197,9 +197,9 @@ silent_stays {ss} h p f =
     }
 
 -- The law of a table of silent bodies: with the same values, as many levels or more, and any qubits, nothing is to be done.
-pub hushed_plays : (image : List ℕ) (g n n' : ℕ) (vs : List Value) (t t' qs qs' : List ℕ) → Silent (body_steps image n t g vs qs) → n ≤ n'
-    → (p : OutputState) → p.words ≤ length p.out → Plays (body_steps image n' t' g vs qs') p p done
-hushed_plays image g n n' vs t t' qs qs' h l p f = silent_stays (body_silent image n n' t t' g vs qs qs' l h) p f
+pub hushed_plays : (image : List ℕ) (g n n' : ℕ) (vs : List Value) (t t' qs qs' : List ℕ) → Silent (open_gate (opening image n) (body_frame t g vs qs) g) → n ≤ n'
+    → (p : OutputState) → p.words ≤ length p.out → Plays (open_gate (opening image n') (body_frame t' g vs qs') g) p p done
+hushed_plays image g n n' vs t t' qs qs' h l p f = silent_stays ((openings_hushed image n n' l).hushed t t' g vs qs qs' h) p f
 
 -- a body that was played to its end and wrote no word
 kept_quiet : {image out : List ℕ} {at g n : ℕ} {vs : List Value} {qs : List ℕ} {from words records : ℕ} (k : BodyKept image out at g n vs qs from words records) → words ≡ 0 → Silent (body_steps image n k.trace g vs qs)
@@ -224,7 +224,7 @@ pub kept_silent : {image : List ℕ} → Accepted image → (p : OutputState) (g
 kept_silent {image} acc p g n n' vs qs qs' t' k e h l (inl m) f = hushed_plays image g n n' vs k.trace t' qs qs' (kept_quiet k e) m p f
 kept_silent {image} acc p g n n' vs qs qs' t' k e h l (inr m) f =
     let same : Formals (λ x. x) (gate_arguments image g) qs qs = record { many = l; each = sym (map_same qs); apart = λ i j _ _. refl } in
-    hushed_plays image g n' n' vs t' t' qs qs' (renamed_quiet (body_renamed (λ x. x) image acc n n' k.trace t' g vs qs qs h (inr m) same) (kept_quiet k e)) (le_refl n') p f
+    hushed_plays image g n' n' vs t' t' qs qs' (renamed_quiet (gate_renamed (λ x. x) image acc n n' k.trace t' g vs qs qs h (inr m) same) (kept_quiet k e)) (le_refl n') p f
   where
     map_same : (l : List ℕ) → map (λ x. x) l ≡ l
     map_same [] = refl

@@ -16,7 +16,7 @@ use Rattle.model.proofs.All.{All-members}
 use Rattle.model.specs.All.{All, nil, cons}
 use Rattle.model.specs.Accepted.{Accepted, Facts}
 use Rattle.model.proofs.Facts.{facts}
-use Rattle.copy.specs.BodyKept.{body_frame, body_steps}
+use Rattle.copy.specs.BodyKept.{body_frame}
 use Rattle.copy.specs.BodyRecord.{BodyRecord, body-U, body-CX, body_opaque, body_barrier}
 
 pub data Bodily : List Step → Type 0 where
@@ -67,17 +67,17 @@ bodily_plays room (writes {t} {x} {ss} p h) = go (leb (length (encode x)) room) 
 
 module _ (image : List ℕ) (acc : Accepted image) where
   pub record Opens (op : Opening) : Type 0 where
-    pub opens : (t : List ℕ) (h : ℕ) (vs : List Value) (qs : List ℕ) (cut : List Step) → h < gates image → Bodily cut → Bodily (open_gate op (body_frame t h vs qs) h cut)
+    pub opens : (t : List ℕ) (h : ℕ) (vs : List Value) (qs : List ℕ) → h < gates image → Bodily (open_gate op (body_frame t h vs qs) h)
 
   module _ (t : List ℕ) (g : ℕ) (vs : List Value) (qs : List ℕ) where
     abbrev fr : Frame
     fr = body_frame t g vs qs
 
-    opaque_bodily : (u : List ℕ) (h : ℕ) (al : List ℕ) (xs : List Value) (i : ℕ) → Bodily (write_opaque image u fr h al xs i)
+    opaque_bodily : (h : ℕ) (al : List ℕ) (xs : List Value) (i : ℕ) → Bodily (write_opaque image fr h al xs i)
     unfolding write_opaque distinctly
-    opaque_bodily u h al xs i = go (overlap (qubit_in image fr i) [] al)
+    opaque_bodily h al xs i = go (overlap (qubit_in image fr i) [] al)
       where
-        go : (o : Option (ℕ × ℕ)) → Bodily (distinctly image u o (Record.Opaque h xs (map (qubit_in image fr i) al)))
+        go : (o : Option (ℕ × ℕ)) → Bodily (distinctly image t o (Record.Opaque h xs (map (qubit_in image fr i) al)))
         go none = writes body_opaque nothing
         go (some ab) = refuses nothing
 
@@ -90,8 +90,7 @@ module _ (image : List ℕ) (acc : Accepted image) where
     plain_bodily f s (Statement.U theta phi lambda q) m = bodily_given t _ _ λ xs. bodily_rounds _ _ λ i. writes body-U nothing
     plain_bodily f s (Statement.CX a b) m = bodily_rounds _ _ (cx_bodily a b)
     plain_bodily f s (Gate h p a) m =
-        bodily_given t _ _ λ xs. bodily_rounds _ _ λ i. bodily_cond (eqb (gate_body image h) 0) (opaque_bodily t h (range a (gate_arguments image h)) xs i)
-        (f.opens _ h xs _ _ m.0 (opaque_bodily _ h (range a (gate_arguments image h)) xs i))
+        bodily_given t _ _ λ xs. bodily_rounds _ _ λ i. bodily_cond (eqb (gate_body image h) 0) (opaque_bodily h (range a (gate_arguments image h)) xs i) (f.opens _ h xs _ m.0)
     plain_bodily f s (Statement.Barrier a n) m = writes body_barrier nothing
     plain_bodily f s (Statement.Measure q c) m = absurd (omega (arith, m.0))
     plain_bodily f s (Statement.Reset q) m = absurd (omega (arith, m.0))
@@ -104,11 +103,8 @@ module _ (image : List ℕ) (acc : Accepted image) where
         bodily_flat (visit_statement image op fr) (λ s m. plain_bodily f s (statement image s) m)
         (All-members {P = λ s. Facts image (suc g) (statement image s)} (scope_statements image (suc g)) (λ s m. facts image acc (suc g) s (omega arith) m))
 
-  openings_bodily : (n : ℕ) → Opens (opening image n)
+  -- the law: nothing else is written by an opened gate
+  pub openings_bodily : (n : ℕ) → Opens (opening image n)
   unfolding opening open_gate
-  openings_bodily zero = record { opens = λ t h vs qs cut k c. c }
-  openings_bodily (suc n) = record { opens = λ t h vs qs cut k c. enters (body_bodily t h vs qs k (openings_bodily n)) }
-
-  -- the law: nothing else is written by a body
-  pub body_records : (n : ℕ) (t : List ℕ) (g : ℕ) (vs : List Value) (qs : List ℕ) → g < gates image → Bodily (body_steps image n t g vs qs)
-  body_records n t g vs qs k = enters (body_bodily t g vs qs k (openings_bodily (n - 1)))
+  openings_bodily zero = record { opens = λ t h vs qs k. writes body_opaque nothing }
+  openings_bodily (suc n) = record { opens = λ t h vs qs k. enters (body_bodily t h vs qs k (openings_bodily n)) }

@@ -327,7 +327,7 @@ pub fn evaluate_anew(
 // ---- the parameters of a call
 
 // The angle 0, which the parameters that a call lacks have.
-fn zero() -> Value
+pub fn zero() -> Value
     ensures { (result ≡ zero_value) × Sound result }
 {
     Value {

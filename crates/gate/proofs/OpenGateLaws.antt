@@ -3,10 +3,8 @@ use Prim.Native.Nat.{ℕ, zero, suc, ◌+◌, ◌-◌, ◌<◌}
 use native.Mathlib.Nat.{add_zero}
 use native.Mathlib.Omega.{arith}
 use mathlib.Core.Path.{◌≡◌, refl, sym, ap, subst, fun_ext, ◌∙◌}
-use mathlib.Core.Bool.{false}
 use mathlib.Core.List.{List, [], ◌∷◌, ◌++◌, map, flat_map, map_append}
 use borrow.Author.Tests.{ne_eqb, eq-eqb}
-use lib.Dec.{eqb}
 use lib.ListN.{take, length-take}
 use Rattle.value.specs.declared.Value.{Value}
 use Rattle.model.specs.Lists.{range}
@@ -17,13 +15,12 @@ use Rattle.model.proofs.Accepted as accepted
 use Rattle.model.specs.Accepted.{Accepted, PlainFacts, Facts, Declared}
 use Rattle.model.proofs.Facts.{run_facts}
 use Rattle.model.proofs.StepsSound.{all_below}
-use Rattle.model.proofs.TraceLaws.{under, opening_under, opaque_under}
+use Rattle.model.proofs.TraceLaws.{under, opening_under}
 use Rattle.image.specs.declared.Layout.{Layout}
 use Rattle.statement.specs.declared.Call.{Call}
-use Rattle.statement.specs.Statements.{call_rounds, opaque_steps}
+use Rattle.statement.specs.Statements.{call_rounds, opaque_steps, cut_round, cut_steps}
 use Rattle.expression.specs.Angles.{angles_in, AngleWords}
 use Rattle.argument.specs.Frames.{scope_frame, scope_qubits, ScopeContext, RoundQubits}
-use Rattle.copy.specs.BodyKept.{body_steps}
 use Rattle.gate.specs.RanSteps.{plain_steps, opened_steps}
 use Rattle.gate.specs.CallStatement.{CallStatement, call_steps, opened_round}
 
@@ -41,12 +38,6 @@ range_under u h (i ∷ is) = map_under u (h i) (flat_map h is) ∙ ap (λ (l : L
 rounds_under : (u : List ℕ) (h : ℕ → List Step) (n : ℕ) → map (under u) (in_rounds n h) ≡ in_rounds n (λ i. map (under u) (h i))
 unfolding in_rounds
 rounds_under u h n = range_under u h (range 0 n)
-
--- where a level is left a body is opened, and its statements have a level less
-with_level : (image : List ℕ) (n : ℕ) → ¬ (n ≡ 0) → (new : Frame) (g : ℕ) (cut : List Step) → open_gate (opening image n) new g cut ≡ enter new.trace g ∷ visit_body image (opening image (n - 1)) new
-unfolding open_gate opening
-with_level image zero h new g cut = absurd (h refl)
-with_level image (suc n) h new g cut = let e : n ≡ suc n - 1 = omega arith in ap (λ (k : ℕ). enter new.trace g ∷ visit_body image (opening image k) new) e
 
 module _ {image : List ℕ} {l : Layout} {call : Call} (c : CallStatement image l call) where
   -- what it says of its gate
@@ -93,25 +84,19 @@ module _ {image : List ℕ} {l : Layout} {call : Call} (c : CallStatement image 
     abbrev caller : Frame
     caller = scope_frame image call.site.scope angles qubits
 
-    has_body : ¬ (call.body ≡ 0) → eqb (gate_body image call.gate) 0 ≡ false
-    has_body h = ne_eqb (gate_body image call.gate) 0 (λ e. h (body_is ∙ e))
-
-    pub opened_rounds : ¬ (call.body ≡ 0) → ¬ (call.site.levels_left ≡ 0) → map (under pair) (in_rounds (call_rounds image call) (opened_round image qubits call xs)) ≡ call_steps image caller call xs
-    unfolding visit_gate push_frame opened_round qubit_in open_gate opening
-    opened_rounds h n =
+    pub opened_rounds : ¬ (call.body ≡ 0) → map (under pair) (in_rounds (call_rounds image call) (opened_round image qubits call xs)) ≡ call_steps image caller call xs
+    unfolding visit_gate push_frame opened_round qubit_in
+    opened_rounds h =
         rounds_under pair (opened_round image qubits call xs) (call_rounds image call)
         ∙ ap (in_rounds (call_rounds image call)) (fun_ext λ i.
-        let inner = map (qubit_in image (scope_frame image call.site.scope [] qubits) i) (range call.argument call.arguments) in
-        sym (opening_under pair image (suc (call.site.levels_left - 1)) (record { scope = suc call.gate; trace = []; values = xs; qubits = inner }) call.gate [])
-        ∙ sym (with_level image call.site.levels_left n (record { scope = suc call.gate; trace = pair; values = xs; qubits = inner }) call.gate (write_opaque image pair caller call.gate (range call.argument call.arguments) xs i))
-        ∙ rw (has_body h) refl)
+        sym (opening_under pair image call.site.levels_left (record { scope = suc call.gate; trace = []; values = xs; qubits = map (qubit_in image (scope_frame image call.site.scope [] qubits) i) (range call.argument call.arguments) }) call.gate)
+        ∙ rw (ne_eqb (gate_body image call.gate) 0 (λ e. h (body_is ∙ e))) refl)
 
-    -- no level is left: the gate is written as an opaque one, under the call's pair
-    pub cut_rounds : ¬ (call.body ≡ 0) → call.site.levels_left ≡ 0 → map (under pair) (opaque_steps image qubits call xs) ≡ call_steps image caller call xs
-    unfolding visit_gate push_frame write_opaque qubit_in open_gate opening
+    -- no level is left: the gate itself in each round
+    pub cut_rounds : ¬ (call.body ≡ 0) → call.site.levels_left ≡ 0 → map (under pair) (cut_steps image qubits call) ≡ call_steps image caller call xs
+    unfolding cut_round opened_round open_gate opening
     cut_rounds h e =
-        rounds_under pair _ (call_rounds image call)
-        ∙ ap (in_rounds (call_rounds image call)) (fun_ext λ i. sym (opaque_under pair image [] (scope_frame image call.site.scope [] qubits) call.gate (range call.argument call.arguments) xs i) ∙ rw (has_body h, e) refl)
+        ap (λ (round : ℕ → List Step). map (under pair) (in_rounds (call_rounds image call) round)) (fun_ext λ i. rw e refl) ∙ opened_rounds h
 
     -- an opaque gate's rounds
     pub opaque_rounds : call.body ≡ 0 → opaque_steps image qubits call xs ≡ call_steps image caller call xs
@@ -170,15 +155,17 @@ module _ (image : List ℕ) (g levels-left : ℕ) (angles : List Value) (q : Lis
   abbrev pub body_statement : ℕ → ℕ → List Step
   body_statement first i = visit_statement image (opening image (levels-left - 1)) opened (first + i)
 
-  pub open_steps : (first n : ℕ) → scope_statements image (suc g) ≡ range first n → enter [] g ∷ in_rounds n (body_statement first) ≡ body_steps image levels-left [] g opened.values opened.qubits
-  unfolding visit_body
-  open_steps first n run =
-      ap (λ (l : List Step). enter [] g ∷ l) (sym (from_first (visit_statement image (opening image (levels-left - 1)) opened) first n) ∙ rw (← run) refl)
+  pub open_steps : (first n : ℕ) → ¬ (levels-left ≡ 0) → scope_statements image (suc g) ≡ range first n → enter [] g ∷ in_rounds n (body_statement first) ≡ open_gate (opening image levels-left) opened g
+  unfolding open_gate opening visit_body
+  open_steps first n h run =
+      let e : suc (levels-left - 1) ≡ levels-left = omega arith in
+      ap (λ (l : List Step). enter [] g ∷ l) (sym (from_first (visit_statement image (opening image (levels-left - 1)) opened) first n))
+      ∙ rw (← run) refl ∙ ap (λ (k : ℕ). open_gate (opening image k) opened g) e
 
 -- a frame's angles in words are its angles, as far as its gate has parameters
-pub same_opened : (image : List ℕ) (call : Call) {angles : List Value} {words : List ℕ} → call.parameters ≡ gate_parameters image call.gate → AngleWords angles call.parameters words → (qubits : List ℕ)
-    → opened_steps image call (angles_in words) qubits ≡ opened_steps image call angles qubits
+pub same_frame : (image : List ℕ) (call : Call) {angles : List Value} {words : List ℕ} → call.parameters ≡ gate_parameters image call.gate → AngleWords angles call.parameters words → (qubits : List ℕ)
+    → scope_frame image (suc call.gate) (angles_in words) qubits ≡ scope_frame image (suc call.gate) angles qubits
 unfolding variables
-same_opened image call {angles} {words} e w qubits =
-    ap (λ (values : List Value). body_steps image call.site.levels_left [] call.gate values (take (scope_qubits image (suc call.gate)) qubits))
+same_frame image call {angles} {words} e w qubits =
+    ap (λ (values : List Value). record { scope = suc call.gate; trace = []; values = values; qubits = take (scope_qubits image (suc call.gate)) qubits })
     (ap (λ (n : ℕ). take n (angles_in words)) (sym e) ∙ w.front ∙ ap (λ (n : ℕ). take n angles) e)

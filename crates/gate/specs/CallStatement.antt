@@ -1,17 +1,16 @@
 -- Calls: what one says of itself and of its gate, what the check accepted of it, and its steps.
-use Rattle.std.specs.Prelude.{ℕ, ◌+◌, ◌≤◌, ◌<◌, ◌≡◌, List, [], map}
+use Rattle.std.specs.Prelude.{ℕ, suc, ◌+◌, ◌≤◌, ◌<◌, ◌≡◌, List, [], map}
 use Rattle.value.specs.declared.Value.{Value}
 use Rattle.model.specs.Lists.{range}
 use Rattle.model.specs.Image.{word, statement_at, parameter_at, gate_parameters, gate_arguments, gate_body}
 use Rattle.model.specs.Steps as Steps
-use Rattle.model.specs.Steps.{Step, in_rounds, qubit_in, visit_gate, opening}
+use Rattle.model.specs.Steps.{Step, in_rounds, qubit_in, open_gate, visit_gate, opening}
 use Rattle.image.specs.declared.Layout.{Layout}
 use Rattle.model.specs.Limits.{most_parameters}
 use Rattle.statement.specs.declared.Site.{Site}
 use Rattle.statement.specs.declared.Call.{Call}
 use Rattle.statement.specs.Statements.{call_rounds}
 use Rattle.argument.specs.Frames.{scope_frame, CallArguments}
-use Rattle.copy.specs.BodyKept.{body_steps}
 use Rattle.gate.specs.RunContext.{nested}
 
 -- the statement of a site as a call
@@ -53,4 +52,11 @@ call_steps image frame call angles =
 -- a round of a call whose body is opened, inside the call
 unfoldable pub opened_round : List ℕ → List ℕ → Call → List Value → ℕ → List Step
 opened_round image qubits call angles i =
-    body_steps image call.site.levels_left [] call.gate angles (map (qubit_in image (scope_frame image call.site.scope [] qubits) i) (range call.argument call.arguments))
+    open_gate (opening image call.site.levels_left)
+    (record {
+      scope = suc call.gate;
+      trace = [];
+      values = angles;
+      qubits = map (qubit_in image (scope_frame image call.site.scope [] qubits) i) (range call.argument call.arguments);
+    })
+    call.gate

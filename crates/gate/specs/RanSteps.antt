@@ -3,7 +3,7 @@ use Rattle.std.specs.Prelude.{ℕ, suc, ◌+◌, ◌≡◌, List, [], ◌∷◌,
 use Rattle.std.proofs.lemmas.List.Edits.{sets}
 use Rattle.model.specs.Image.{statement, statement_at}
 use Rattle.model.specs.Steps as Steps
-use Rattle.model.specs.Steps.{Step, visit_plain, opening}
+use Rattle.model.specs.Steps.{Step, visit_plain, open_gate, opening}
 use Rattle.model.specs.Run.{trace_of}
 use Rattle.model.specs.Playing.{Plays}
 use Rattle.record_writer.specs.declared.Position.{Position}
@@ -12,7 +12,6 @@ use Rattle.record_writer.specs.declared.Linearized.TheVariants as linearized
 use Rattle.record_writer.specs.Promise.{state_at, position_of, run_answer_of}
 use Rattle.expression.specs.Angles.{angles_in}
 use Rattle.argument.specs.Frames.{scope_frame}
-use Rattle.copy.specs.BodyKept.{body_steps}
 use Rattle.statement.specs.declared.Site.{Site}
 use Rattle.statement.specs.declared.Call.{Call}
 use Rattle.value.specs.declared.Value.{Value}
@@ -32,11 +31,9 @@ plain_steps image levels-left frame s = visit_plain image (λ r v t. []) (openin
 abbrev pub statement_steps : List ℕ → List ℕ → List ℕ → Site → List Step
 statement_steps image angles qubits site = plain_steps image site.levels_left (scope_frame image site.scope (angles_in angles) qubits) site.statement
 
--- the steps of a called gate whose body is opened, from its frame
+-- the steps of a called gate that has a body, from its frame: those of the body, or the gate itself where no level is left
 abbrev pub opened_steps : List ℕ → Call → List Value → List ℕ → List Step
-opened_steps image call angles qubits =
-    let frame = scope_frame image (suc call.gate) angles qubits in
-    body_steps image call.site.levels_left [] call.gate frame.values frame.qubits
+opened_steps image call angles qubits = open_gate (opening image call.site.levels_left) (scope_frame image (suc call.gate) angles qubits) call.gate
 
 -- a call comes back from the position inside it: where it is done, the trace is as before it; where it is refused, its pair of words is put in front
 abbrev pub Popped : List ℕ → Call → Position → Linearized → List ℕ → Linearized → List ℕ → Type 0

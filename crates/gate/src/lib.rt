@@ -262,7 +262,7 @@ fn visit_call(
     }
 }
 
-// The gate of a call, with its angles. An opaque gate is written. So is one for whose body no level is left, with this call in the trace of its refusal. Any other one's body is opened.
+// The gate of a call, with its angles: it is opaque, or no level is left for its body, or its body is opened.
 #[cycle(open_gate_visit_body_visit_call_visit_gate_visit_rounds_visit_statement)]
 fn visit_gate(
     image: &[u64],
@@ -291,16 +291,7 @@ fn visit_gate(
     }
     let inside = with_trace_words(at, at.trace + 2);
     if call.site.levels_left == 0 {
-        let answer = statement::visit_opaque(
-            image,
-            l,
-            register_starts,
-            qubits,
-            call,
-            angles,
-            out,
-            inside,
-        );
+        let answer = statement::visit_cut(image, l, register_starts, qubits, call, out, inside);
         return pop_call(l, call, trace, at, answer);
     }
     let answer = visit_rounds(

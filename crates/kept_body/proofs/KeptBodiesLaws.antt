@@ -27,7 +27,7 @@ use Rattle.statement.specs.declared.Call.{Call}
 use Rattle.model.proofs.ReadBack.{words_enough}
 use Rattle.model.specs.All.{All}
 use Rattle.copy.specs.BodyRecord.{BodyRecord}
-use Rattle.copy.proofs.BodyRecords.{body_records, bodily_plays}
+use Rattle.copy.proofs.BodyRecords.{openings_bodily, bodily_plays}
 use Rattle.copy.proofs.BodyKeptLaws.{kept_records, kept_later, kept_new}
 use Rattle.kept_body.specs.Slot.{slot_width, slot_of, WideEnough, slot_levels, slot_qubits, slot_angles, same_angles, may_be_copied, SlotStands, SlotFilled}
 use Rattle.kept_body.specs.KeptBodies.{SlotKept, BodiesKept, BodyPut, BodyRun}
@@ -171,7 +171,7 @@ pub kept_each : {image : List ℕ} (slot : List ℕ) {out : List ℕ} {at g : �
 kept_each {image} slot {g = g} acc h s =
     let k = s.body in
     let n = gate_parameters image g in
-    bodily_plays k.ahead (body_records image acc (slot_levels slot) k.trace g (slot_angles slot n) (slot_qubits slot n (gate_arguments image g)) h)
+    bodily_plays k.ahead ((openings_bodily image acc (slot_levels slot)).opens k.trace g (slot_angles slot n) (slot_qubits slot n (gate_arguments image g)) h)
 
 pub slot_stands : {image : List ℕ} (slot : List ℕ) {out : List ℕ} {at g : ℕ} → Accepted image → g < gates image → SlotKept image slot out at g → SlotStands slot out at
 unfolding output

@@ -22,7 +22,7 @@ use Rattle.model.proofs.Lengths.{length_range}
 use Rattle.model.specs.All.{nil}
 use Rattle.model.specs.Steps.{overlap}
 use Rattle.model.proofs.All.{and_t, all-All, All-all, All-range, range-All}
-use Rattle.model.proofs.OverlapLaws.{no_overlap, differ_apart}
+use Rattle.model.proofs.StepsSound.{no_overlap, differ_apart}
 use Rattle.statement.specs.declared.Overlap.{Overlap}
 use Rattle.statement.specs.declared.Overlap.TheVariants as overlapping
 use Rattle.statement.specs.Statements.{Overlaps, overlap_at}

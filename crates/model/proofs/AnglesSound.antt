@@ -19,7 +19,7 @@ use Rattle.model.specs.Steps.{Step, write, enter, refuse, Frame, Values, have, l
 use Rattle.model.specs.Claims.{angles_of, StepClaims}
 use Rattle.model.proofs.All.{All-weaken, members-All}
 use Rattle.model.specs.All.{All, nil, cons}
-use Rattle.model.proofs.Origins.{Writes, writes-U, writes-CX, writes_opaque, writes_barrier, writes_measure, writes_reset, writes_start, writes_end, Reached, main, called, Origin, head, writes, cuts, cut_refuses, enters, refuses, origins}
+use Rattle.model.proofs.Origins.{Writes, writes-U, writes-CX, writes_opaque, writes_barrier, writes_measure, writes_reset, writes_start, writes_end, Reached, main, called, Origin, head, writes, cuts, enters, refuses, origins}
 use Rattle.model.proofs.Depth.{depth_rule}
 
 -- ---- expressions
@@ -120,8 +120,7 @@ module _ (image : List ℕ) (depth : ℕ) where
   unfolding angles_of head_record
   step_sound s head = nil
   step_sound s (writes r w) = written_sound (frame_sound r) w
-  step_sound s (cuts {frame} r c e d) = parameters_sound image frame.values (frame_sound r) _ c.evaluated
-  step_sound s (cut_refuses r c) = tt
+  step_sound s (cuts r c e) = nil
   step_sound s (enters r c) = tt
   step_sound s (refuses r) = tt
 

@@ -132,14 +132,14 @@ module _ (f : ℕ → ℕ → ℕ) (e : ℕ) where
     unfolding kind encode fields
     kind3_tallied t g xs qs p q e d = write_tallied t (Record.Opaque g xs qs) (4 + 4 * p + q) (simp length-append (omega (arith, length_words xs)))
 
-    opaque_tallied : (t : List ℕ) (fr : Frame) (g : ℕ) (al : List ℕ) (xs : List Value) (p q : ℕ) → length xs ≡ p → length al ≡ q
-        → (i : ℕ) → Tallied (write_opaque w t fr g al xs i) (f 3 (4 + 4 * p + q))
+    opaque_tallied : (fr : Frame) (g : ℕ) (al : List ℕ) (xs : List Value) (p q : ℕ) → length xs ≡ p → length al ≡ q
+        → (i : ℕ) → Tallied (write_opaque w fr g al xs i) (f 3 (4 + 4 * p + q))
     unfolding write_opaque distinctly
-    opaque_tallied t fr g al xs p q e d i = go (overlap (qubit_in w fr i) [] al)
+    opaque_tallied fr g al xs p q e d i = go (overlap (qubit_in w fr i) [] al)
       where
-        go : (o : Option (ℕ × ℕ)) → Tallied (distinctly w t o (Record.Opaque g xs (map (qubit_in w fr i) al))) (f 3 (4 + 4 * p + q))
+        go : (o : Option (ℕ × ℕ)) → Tallied (distinctly w fr.trace o (Record.Opaque g xs (map (qubit_in w fr i) al))) (f 3 (4 + 4 * p + q))
         go (some ab) = refuse_tallied _ _ _
-        go none = kind3_tallied t g xs (map (qubit_in w fr i) al) p q e (length-map al (qubit_in w fr i) ∙ d)
+        go none = kind3_tallied fr.trace g xs (map (qubit_in w fr i) al) p q e (length-map al (qubit_in w fr i) ∙ d)
 
     -- ways of opening a body, of the run and of the tally, that agree
     data Agree : Opening → Option (ℕ → ℕ) → Type 0 where
@@ -150,9 +150,10 @@ module _ (f : ℕ → ℕ → ℕ) (e : ℕ) where
         → length xs ≡ gate_parameters w g → length al ≡ gate_arguments w g → (i : ℕ) → Tallied (visit_gate w op fr s g al xs i) (gate_tally w f e ot g)
     unfolding visit_gate gate_tally push_frame open_gate open_gate_tally
     call_tallied shut fr s g al xs e d i =
-        both_tallied (eqb (gate_body w g) 0) (opaque_tallied _ fr g al xs _ _ e d i) (opaque_tallied _ fr g al xs _ _ e d i)
+        both_tallied (eqb (gate_body w g) 0) (opaque_tallied fr g al xs _ _ e d i)
+        (kind3_tallied _ g [] (map (qubit_in w fr i) al) 0 (gate_arguments w g) refl (length-map al (qubit_in w fr i) ∙ d))
     call_tallied (opened h) fr s g al xs d₁ d₂ i =
-        both_tallied (eqb (gate_body w g) 0) (opaque_tallied _ fr g al xs _ _ d₁ d₂ i)
+        both_tallied (eqb (gate_body w g) 0) (opaque_tallied fr g al xs _ _ d₁ d₂ i)
         (append_tallied (enter _ g ∷ []) _ e _ (enter_tallied _ g) (h (push_frame w fr s g al xs i)))
 
     plain_tallied : {op : Opening} {ot : Option (ℕ → ℕ)} → Agree op ot → (fr : Frame) (c : ℕ → ℕ → ℕ → List Step) (ct : ℕ → ℕ)

@@ -17,11 +17,11 @@ unfolding pairs_of pair flat_map
 pairs_back [] = refl
 pairs_back (x ∷ l) = ap (λ (m : List (ℕ × ℕ)). x ∷ m) (pairs_back l)
 
--- the qubits stand behind a kind 3's angles
-behind_angles : (g n : ℕ) (xs : List Value) (qs : List ℕ) → opaque_qubits (3 ∷ g ∷ length xs ∷ n ∷ (flat_map angle_words xs ++ qs)) ≡ qs
-behind_angles g n xs qs = drop_at (3 ∷ g ∷ length xs ∷ n ∷ flat_map angle_words xs) qs (4 + 4 * length xs) (omega (arith, length_words xs))
-
 module _ (image : List ℕ) where
+  -- the qubits stand behind a kind 3's angles
+  behind_angles : (g n : ℕ) (xs : List Value) (qs : List ℕ) → opaque_qubits (3 ∷ g ∷ length xs ∷ n ∷ (flat_map angle_words xs ++ qs)) ≡ qs
+  behind_angles g n xs qs = drop_at (3 ∷ g ∷ length xs ∷ n ∷ flat_map angle_words xs) qs (4 + 4 * length xs) (omega (arith, length_words xs))
+
   pub declared_encode : (r : Record) → declared image (encode r) ≡ declared_record image r
   unfolding declared declared_record encode kind fields angle_words
   declared_encode (Record.Head qs bs) =
@@ -40,23 +40,23 @@ module _ (image : List ℕ) where
   declared_encode (Record.ConditionalStart b n v) = refl
   declared_encode Record.ConditionalEnd = refl
 
+  pub distinct_encode : (r : Record) → distinct image (encode r) ≡ distinct_record image r
+  unfolding distinct distinct_record encode kind fields angle_words
+  distinct_encode (Record.Head qs bs) = refl
+  distinct_encode (Record.U theta phi lambda q) = refl
+  distinct_encode (Record.CX a b) = refl
+  distinct_encode (Record.Opaque g xs qs) = rw (behind_angles g (length qs) xs qs)
+  distinct_encode (Record.Barrier qs) = refl
+  distinct_encode (Record.Measure q b) = refl
+  distinct_encode (Record.Reset q) = refl
+  distinct_encode (Record.ConditionalStart b n v) = refl
+  distinct_encode Record.ConditionalEnd = refl
+
   pub declared_words : (r : Record) → T (declared_record image r) → T (declared image (encode r))
   declared_words r t = rw declared_encode t
 
-pub distinct_encode : (r : Record) → distinct (encode r) ≡ distinct_record r
-unfolding distinct distinct_record encode kind fields angle_words
-distinct_encode (Record.Head qs bs) = refl
-distinct_encode (Record.U theta phi lambda q) = refl
-distinct_encode (Record.CX a b) = refl
-distinct_encode (Record.Opaque g xs qs) = rw (behind_angles g (length qs) xs qs)
-distinct_encode (Record.Barrier qs) = refl
-distinct_encode (Record.Measure q b) = refl
-distinct_encode (Record.Reset q) = refl
-distinct_encode (Record.ConditionalStart b n v) = refl
-distinct_encode Record.ConditionalEnd = refl
-
-pub distinct_words : (r : Record) → T (distinct_record r) → T (distinct (encode r))
-distinct_words r t = rw distinct_encode t
+  pub distinct_words : (r : Record) → T (distinct_record image r) → T (distinct image (encode r))
+  distinct_words r t = rw distinct_encode t
 
 pub rises_words : (r : Record) → T (rises_record r) → get_or (encode r) 0 0 ≡ 4 → T (rises (drop 2 (encode r)))
 unfolding rises_record encode kind fields

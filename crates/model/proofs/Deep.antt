@@ -53,7 +53,7 @@ module _ (image : List ℕ) where
   abbrev Alike : ℕ → Opening → Opening → Type 0
   Alike n o o' =
       (g : ℕ) → g < n → (t : List ℕ) (values : List Value) (qubits : List ℕ) → let new : Frame = record { scope = suc g; trace = t; values = values; qubits = qubits } in
-      (cut : List Step) → open_gate o new g cut ≡ open_gate o' new g cut
+      open_gate o new g ≡ open_gate o' new g
 
   module _ (n : ℕ) (o o' : Opening) (alike : Alike n o o') (frame : Frame) (below : calls_below image frame.scope ≤ n) where
     gate_same : (s g : ℕ) (al : List ℕ) (xs : List Value) (i : ℕ) → g < n → visit_gate image o frame s g al xs i ≡ visit_gate image o' frame s g al xs i
@@ -92,7 +92,7 @@ module _ (image : List ℕ) where
     alike (suc n) zero b h p q = absurd (not-suc-le-zero p)
     alike (suc n) (suc a) zero h p q = absurd (not-suc-le-zero q)
     alike (suc n) (suc a) (suc b) h p q =
-        λ g k t values qubits cut.
+        λ g k t values qubits.
         ap (λ l. enter t g ∷ l) (body_same n _ _ (alike n a b (omega arith) (omega arith) (omega arith)) _ (omega arith) (accepted.flawless (suc g) (omega arith)))
 
     pub deep_steps : (d e : ℕ) → gates image < d → gates image < e → steps image d ≡ steps image e

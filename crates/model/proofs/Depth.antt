@@ -1,19 +1,19 @@
 -- The rule of the depth: with fewer frames than the depth a body is entered and its statements run, with no fewer it is cut. It holds of every image.
-use Prim.Native.Nat.{ℕ, suc, ◌+◌, ◌-◌, ◌*◌, ◌≤◌, max}
+use Prim.Native.Nat.{ℕ, suc, ◌+◌, ◌-◌, ◌*◌, ◌≤◌}
 use native.Mathlib.Omega.{arith}
 use mathlib.Core.Path.{◌≡◌, refl, ◌∙◌}
 use mathlib.Core.Bool.{Bool, true, false, ◌||◌}
 use mathlib.Core.List.{List, Memᴰ}
-use borrow.Author.Tests.{eq-eqb, eqb-false}
+use borrow.Author.Tests.{eqb-false}
 use lib.Dec.{T, ltb, eqb, le→leb, lt→ltb}
 use lib.ListN.{length, length-append}
 use Rattle.value.specs.declared.Value.{Value}
 use Rattle.model.specs.Lists.{every}
 use Rattle.model.specs.Records.{Record, kind, fields, encode}
 use Rattle.model.specs.Steps.{Step, Frame, push_frame, head_record, steps}
-use Rattle.model.specs.Claims.{frames, within, is_cut, is_cut_overlap, at_depth}
+use Rattle.model.specs.Claims.{frames, within, is_cut, at_depth}
 use Rattle.model.proofs.All.{members-All, All-weaken}
-use Rattle.model.proofs.Origins.{Call, called_frame, Writes, writes-U, writes-CX, writes_opaque, writes_barrier, writes_measure, writes_reset, writes_start, writes_end, Reached, main, called, Origin, head, writes, cuts, cut_refuses, enters, refuses, origins}
+use Rattle.model.proofs.Origins.{Call, called_frame, Writes, writes-U, writes-CX, writes_opaque, writes_barrier, writes_measure, writes_reset, writes_start, writes_end, Reached, main, called, Origin, head, writes, cuts, enters, refuses, origins}
 
 within_of : (depth : ℕ) (t : List ℕ) → frames t ≤ depth - 1 → T (within depth t)
 unfolding within
@@ -22,14 +22,6 @@ within_of depth t h = go (eqb (frames t) 0) refl
     go : (b : Bool) → eqb (frames t) 0 ≡ b → T (b || ltb (frames t) depth)
     go true e = tt
     go false e = let n : ¬ (frames t ≡ 0) = eqb-false (frames t) 0 e in lt→ltb (frames t) depth (omega arith)
-
-or_left : (a b : Bool) → T a → T (a || b)
-or_left true b h = tt
-or_left false b h = absurd h
-
-or_right : (a b : Bool) → T b → T (a || b)
-or_right true b h = tt
-or_right false b h = h
 
 module _ (image : List ℕ) (depth : ℕ) where
   -- a call's trace is two words longer
@@ -55,13 +47,12 @@ module _ (image : List ℕ) (depth : ℕ) where
   uncut writes_end = refl
 
   at_depth_lem : (s : Step) → Origin image depth s → T (at_depth image depth s)
-  unfolding at_depth is_cut is_cut_overlap every within kind head_record fields encode
+  unfolding at_depth is_cut every within kind head_record fields encode
   at_depth_lem s head = tt
   at_depth_lem s (writes {frame} r w) = let l = levels r in rw (uncut w) (within_of depth frame.trace (omega arith))
-  at_depth_lem s (cuts r c e d) = let l = levels r in rw e (le→leb depth _ (omega (arith, pushed_length c)))
-  at_depth_lem s (cut_refuses {frame} {s = o} {g} {a} {xs} {i} r c) = let l = levels r in or_right (within depth (called_frame image frame o g a xs i).trace) (eqb (frames (called_frame image frame o g a xs i).trace) (max depth 1)) (rw (eq-eqb (frames (called_frame image frame o g a xs i).trace) (max depth 1) (omega (arith, pushed_length c))) tt)
+  at_depth_lem s (cuts r c e) = let l = levels r in rw e (le→leb depth _ (omega (arith, pushed_length c)))
   at_depth_lem s (enters r c) = let l = levels r in lt→ltb _ depth (omega (arith, pushed_length c))
-  at_depth_lem s (refuses {frame} {x} r) = let l = levels r in or_left (within depth frame.trace) (is_cut_overlap depth frame.trace x) (within_of depth frame.trace (omega arith))
+  at_depth_lem s (refuses {frame} r) = let l = levels r in within_of depth frame.trace (omega arith)
 
   pub depth_rule : (s : Step) → Memᴰ s (steps image depth) → T (at_depth image depth s)
   depth_rule = members-All (All-weaken at_depth_lem (origins image depth))

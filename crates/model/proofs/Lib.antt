@@ -6,7 +6,6 @@ pub mod ListLaws
 pub mod Lengths
 pub mod Ranges
 pub mod BarrierLaws
-pub mod OverlapLaws
 pub mod Counts
 pub mod TallySums
 pub mod TypedRecords

@@ -22,12 +22,6 @@ get_d_take (suc n) i [] d h = refl
 get_d_take (suc n) zero (x ∷ l) d h = refl
 get_d_take (suc n) (suc i) (x ∷ l) d h = get_d_take n i l d (omega arith)
 
--- an entry of a list that a function is put on
-pub get_d_of_map : (f : ℕ → ℕ) (l : List ℕ) (i : ℕ) → i < length l → get_or (map f l) i 0 ≡ f (get_or l i 0)
-get_d_of_map f [] i h = absurd (not-suc-le-zero h)
-get_d_of_map f (x ∷ l) zero h = refl
-get_d_of_map f (x ∷ l) (suc i) h = get_d_of_map f l i (omega arith)
-
 -- what is left of a front behind some entries is a front of what is left
 pub drop_take : (k m : ℕ) (l : List ℕ) → k ≤ m → drop k (take m l) ≡ take (m - k) (drop k l)
 drop_take zero m l h = let e : m ≡ m - 0 = omega arith in ap (λ (j : ℕ). take j l) e

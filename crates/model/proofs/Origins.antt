@@ -5,7 +5,7 @@ use mathlib.Core.Path.{◌≡◌, refl}
 use mathlib.Core.Bool.{Bool, true, false, cond}
 use mathlib.Core.List.{List, [], ◌∷◌, map, flat_map, Memᴰ}
 use mathlib.Core.Option.{Option, none, some}
-use lib.Dec.{T, eqb}
+use lib.Dec.{eqb}
 use lib.ListN.{get_or}
 use Rattle.value.specs.declared.Value.{Value}
 use Rattle.model.specs.Lists.{range, largest}
@@ -13,8 +13,6 @@ use Rattle.model.specs.Image.{Statement, Gate, Conditional, statement, argument_
 use Rattle.model.specs.Evaluate.{zero_value}
 use Rattle.model.specs.Records.{Record}
 use Rattle.model.specs.Steps.{Refusal, OverlappingRegs, Step, write, enter, refuse, Frame, main_frame, Values, have, lack, given, in_rounds, overlap, qubit_in, bit_in, barrier_holds, parameter_values, with_values, write_u, write_cx, distinctly, write_opaque, write_measure, write_reset, push_frame, open_gate, visit_gate, visit_plain, visit_conditional, visit_statement, visit_body, opening, head_record, steps}
-use Rattle.model.specs.Claims.{differ}
-use Rattle.model.proofs.OverlapLaws.{no_overlap}
 use Rattle.model.proofs.All.{All-append, All-flat, All-range, All-members}
 use Rattle.model.specs.All.{All, nil, cons}
 
@@ -42,7 +40,7 @@ module _ (image : List ℕ) where
     writes-CX : {s a b i : ℕ} → Runs frame.scope s (Statement.CX a b) → i < rounds image frame.scope (a ∷ b ∷ [])
         → eqb (qubit_in image frame i a) (qubit_in image frame i b) ≡ false → Writes frame (Record.CX (qubit_in image frame i a) (qubit_in image frame i b))
     writes_opaque : {s g p a : ℕ} {xs : List Value} {i : ℕ} → Call frame s g p a xs i → eqb (gate_body image g) 0 ≡ true
-        → T (differ (map (qubit_in image frame i) (range a (gate_arguments image g)))) → Writes frame (Record.Opaque g xs (map (qubit_in image frame i) (range a (gate_arguments image g))))
+        → overlap (qubit_in image frame i) [] (range a (gate_arguments image g)) ≡ none → Writes frame (Record.Opaque g xs (map (qubit_in image frame i) (range a (gate_arguments image g))))
     writes_barrier : {s a n : ℕ} → Runs frame.scope s (Statement.Barrier a n) → Writes frame (Record.Barrier (barrier_holds image frame a n))
     writes_measure : {s q c i : ℕ} → Runs frame.scope s (Statement.Measure q c) → i < largest (argument_size image frame.scope q ∷ classical_argument_size image c ∷ [])
         → Writes frame (Record.Measure (qubit_in image frame i q) (bit_in image i c))
@@ -64,11 +62,7 @@ module _ (image : List ℕ) (depth : ℕ) where
     writes : {n : ℕ} {frame : Frame} {r : Record} → Reached n frame → Writes image frame r → Origin (write frame.trace r)
     -- a body that is not opened, for no level is left
     cuts : {frame : Frame} {s g p a : ℕ} {xs : List Value} {i : ℕ} → Reached 0 frame → Call image frame s g p a xs i → eqb (gate_body image g) 0 ≡ false
-        → T (differ (map (qubit_in image frame i) (range a (gate_arguments image g))))
-        → Origin (write (called_frame image frame s g a xs i).trace (Record.Opaque g xs (map (qubit_in image frame i) (range a (gate_arguments image g)))))
-    -- one whose qubits overlap
-    cut_refuses : {frame : Frame} {s g p a : ℕ} {xs : List Value} {i place other : ℕ} → Reached 0 frame → Call image frame s g p a xs i
-        → Origin (refuse (called_frame image frame s g a xs i).trace (OverlappingRegs place other))
+        → Origin (write (called_frame image frame s g a xs i).trace (Record.Opaque g [] (called_frame image frame s g a xs i).qubits))
     enters : {n : ℕ} {frame : Frame} {s g p a : ℕ} {xs : List Value} {i : ℕ} → Reached (suc n) frame → Call image frame s g p a xs i
         → Origin (enter (called_frame image frame s g a xs i).trace g)
     refuses : {n : ℕ} {frame : Frame} {x : Refusal} → Reached n frame → Origin (refuse frame.trace x)
@@ -100,29 +94,26 @@ module _ (image : List ℕ) (depth : ℕ) where
         go true e = cons (refuses reached) nil
         go false e = cons (writes reached (writes-CX h k e)) nil
 
-    -- a gate that is not opened, with the trace that stands then
-    opaque_from : (t : List ℕ) (g a : ℕ) (xs : List Value) (i : ℕ)
-        → (T (differ (map (qubit_in image frame i) (range a (gate_arguments image g)))) → Origin (write t (Record.Opaque g xs (map (qubit_in image frame i) (range a (gate_arguments image g))))))
-        → ((place other : ℕ) → Origin (refuse t (OverlappingRegs place other))) → All Origin (write_opaque image t frame g (range a (gate_arguments image g)) xs i)
+    opaque_from : {s g p a : ℕ} {xs : List Value} {i : ℕ} → Call image frame s g p a xs i → eqb (gate_body image g) 0 ≡ true → All Origin (write_opaque image frame g (range a (gate_arguments image g)) xs i)
     unfolding write_opaque distinctly
-    opaque_from t g a xs i written refused = go (overlap (qubit_in image frame i) [] (range a (gate_arguments image g))) refl
+    opaque_from {g} {a} {xs} {i} call e = go (overlap (qubit_in image frame i) [] (range a (gate_arguments image g))) refl
       where
         go : (o : Option (ℕ × ℕ)) → overlap (qubit_in image frame i) [] (range a (gate_arguments image g)) ≡ o
-            → All Origin (distinctly image t o (Record.Opaque g xs (map (qubit_in image frame i) (range a (gate_arguments image g)))))
-        go (some ab) d = cons (refused _ _) nil
-        go none d = cons (written (no_overlap (qubit_in image frame i) [] _ d).0) nil
+            → All Origin (distinctly image frame.trace o (Record.Opaque g xs (map (qubit_in image frame i) (range a (gate_arguments image g)))))
+        go (some ab) d = cons (refuses reached) nil
+        go none d = cons (writes reached (writes_opaque call e d)) nil
 
     gate_from : {s g p a : ℕ} {xs : List Value} {i : ℕ} → Call image frame s g p a xs i → All Origin (visit_gate image (opening image n) frame s g (range a (gate_arguments image g)) xs i)
     unfolding visit_gate open_gate opening
     gate_from {s} {g} {a} {xs} {i} call = go (eqb (gate_body image g) 0) refl
       where
-        opened : (m : ℕ) → Deeper m → Reached m frame → eqb (gate_body image g) 0 ≡ false → All Origin (open_gate (opening image m) (called_frame image frame s g a xs i) g (write_opaque image (called_frame image frame s g a xs i).trace frame g (range a (gate_arguments image g)) xs i))
-        opened zero d r e = opaque_from (called_frame image frame s g a xs i).trace g a xs i (cuts r call e) (λ place other. cut_refuses r call)
+        opened : (m : ℕ) → Deeper m → Reached m frame → eqb (gate_body image g) 0 ≡ false → All Origin (open_gate (opening image m) (called_frame image frame s g a xs i) g)
+        opened zero d r e = cons (cuts r call e) nil
         opened (suc m) d r e = cons (enters r call) (d (called_frame image frame s g a xs i) (called r call))
 
         go : (b : Bool) → eqb (gate_body image g) 0 ≡ b
-            → All Origin (cond b (write_opaque image frame.trace frame g (range a (gate_arguments image g)) xs i) (open_gate (opening image n) (called_frame image frame s g a xs i) g (write_opaque image (called_frame image frame s g a xs i).trace frame g (range a (gate_arguments image g)) xs i)))
-        go true e = opaque_from frame.trace g a xs i (λ d. writes reached (writes_opaque call e d)) (λ place other. refuses reached)
+            → All Origin (cond b (write_opaque image frame g (range a (gate_arguments image g)) xs i) (open_gate (opening image n) (called_frame image frame s g a xs i) g))
+        go true e = opaque_from call e
         go false e = opened n deeper reached e
 
     plain_from : (ifDoes : ℕ → ℕ → ℕ → List Step) (s : ℕ) (x : Statement) → Runs image frame.scope s x → ((r v t : ℕ) → x ≡ Conditional r v t → All Origin (ifDoes r v t))

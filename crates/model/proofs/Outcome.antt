@@ -333,7 +333,7 @@ module _ (image : List ℕ) (depth : ℕ) (out trace : List ℕ) where
   found_all : (P : List ℕ → Type 0) → All (λ r. P (encode r)) played.written → (r : List ℕ) → Memᴰ r (records_found (linearize image depth out trace)) → P r
   found_all P h r m = members-All (subst (All P) (sym records_read) (All-of encode h)) r m
 
-  sound_step : (acc : Accepted image) (t : List ℕ) (r : Record) → Memᴰ (write t r) (steps image depth) → T (declared_record image r) × T (distinct_record r) × T (rises_record r)
+  sound_step : (acc : Accepted image) (t : List ℕ) (r : Record) → Memᴰ (write t r) (steps image depth) → T (declared_record image r) × T (distinct_record image r) × T (rises_record r)
   sound_step acc t r m = let g = members-All (steps_good image acc depth) (write t r) m in (g.0, g.1, g.2)
 
   words_written : T (all (λ x. ltb x (2 ^ 64)) image) → T (all (λ x. ltb x (2 ^ 64)) (output played))
@@ -360,7 +360,7 @@ module _ (image : List ℕ) (depth : ℕ) (out trace : List ℕ) where
         entries_most = entries_most image depth (length out) (length trace);
         entries = entries_done image depth (length out) (length trace);
         declares = found_all (λ r. T (declared image r)) (all_written image depth (length out) (length trace) (λ acc t r m. declared_words image r (sound_step acc t r m).0));
-        differs = found_all (λ r. T (distinct r)) (all_written image depth (length out) (length trace) (λ acc t r m. distinct_words r (sound_step acc t r m).1));
+        differs = found_all (λ r. T (distinct image r)) (all_written image depth (length out) (length trace) (λ acc t r m. distinct_words image r (sound_step acc t r m).1));
         barriers_rise = found_all (λ r. get_or r 0 0 ≡ 4 → T (rises (drop 2 r))) (all_written image depth (length out) (length trace) (λ acc t r m. rises_words r (sound_step acc t r m).2));
         flaws = flaw_number image depth (length out) (length trace);
         traces = (trace_fits image depth (length out) (length trace)).0;

@@ -3,8 +3,9 @@ use Prim.Native.Nat.{ℕ, zero, suc, ◌+◌, ◌-◌, ◌*◌, ◌≤◌, ◌<�
 use native.Mathlib.Nat.{not-suc-le-zero, suc-add, add-suc, add_zero, zero-add}
 use native.Mathlib.Omega.{arith}
 use mathlib.Core.Path.{◌≡◌, refl, sym, ap, ◌∙◌}
-use mathlib.Core.Bool.{Bool, true, false, ◌||◌, cond}
-use mathlib.Core.List.{List, [], ◌∷◌, map, Memᴰ}
+use mathlib.Core.Bool.{Bool, true, false, not, ◌||◌, cond}
+use mathlib.Core.List.{List, [], ◌∷◌, ◌++◌, map, Memᴰ}
+use mathlib.Core.Option.{Option, none, some}
 use borrow.Author.Tests.{eqb-true, eqb-false}
 use lib.Dec.{T, eqb, leb→le, ltb→lt, lt→ltb, le→leb, eqb→eq}
 use lib.ListN.{length, get_or, length-append, length-map}
@@ -13,17 +14,67 @@ use Rattle.model.specs.Lists.{range, sum, largest, all}
 use Rattle.model.specs.Image.{Statement, statement, argument_register, argument_index, gate_arguments, gates, quantum_registers, classical_registers, first_qubit, first_bit, quantum_size, classical_size, qubits, bits, argument_size, classical_argument_size, rounds, scope_statements}
 use Rattle.model.specs.Check.{matching, argument_ok, classical_argument_ok, downward, plain_flaw, conditional_ok, conditional_flaw, flaw}
 use Rattle.model.specs.Records.{Record}
-use Rattle.model.specs.Steps.{Step, write, enter, refuse, Frame, offsets_of, offsets, resolve_qreg, qubit_in, bit_in, argument_qubits, push_frame, head_record, steps}
-use Rattle.model.specs.Claims.{in_register, is_qubit}
-use Rattle.model.proofs.All.{head-All, tail-All, test, All-every, all-All, All-all, All-weaken, All-getD, All-members, members-All, All-flat, All-of, of-All, All-range}
+use Rattle.model.specs.Steps.{Step, write, enter, refuse, Frame, holder, clash, overlap, offsets_of, offsets, resolve_qreg, qubit_in, bit_in, argument_qubits, push_frame, head_record, steps}
+use Rattle.model.specs.Claims.{in_register, differ, is_qubit}
+use Rattle.model.proofs.All.{head-All, tail-All, test, All-every, all-All, All-all, All-weaken, All-append, All-front, All-back, All-getD, All-members, members-All, All-flat, All-of, of-All, All-range}
 use Rattle.model.specs.All.{All, nil, cons}
 use Rattle.model.proofs.Lengths.{length_range}
 use Rattle.model.proofs.BarrierLaws.{rising_all, barrier_claims}
-use Rattle.model.proofs.OverlapLaws.{unequal}
 use Rattle.model.proofs.Accepted.{passes}
 use Rattle.model.specs.Accepted.{Accepted, Declared, FrameOk}
 use Rattle.model.proofs.TypedRecords.{declared_record, distinct_record, rises_record}
-use Rattle.model.proofs.Origins.{Runs, itself, held, Call, called_frame, Writes, writes-U, writes-CX, writes_opaque, writes_barrier, writes_measure, writes_reset, writes_start, writes_end, Reached, main, called, Origin, head, writes, cuts, cut_refuses, enters, refuses, origins}
+use Rattle.model.proofs.Origins.{Runs, itself, held, Call, called_frame, Writes, writes-U, writes-CX, writes_opaque, writes_barrier, writes_measure, writes_reset, writes_start, writes_end, Reached, main, called, Origin, head, writes, cuts, enters, refuses, origins}
+
+-- ---- without an overlap the arguments' qubits differ
+
+unequal : (b : Bool) → b ≡ false → T (not b)
+unequal b e = rw e tt
+
+refuted : (b : Bool) → T (not b) → b ≡ false
+refuted true t = absurd t
+refuted false t = refl
+
+no_holder : (q : ℕ → ℕ) (x : ℕ) (l : List ℕ) → holder q x l ≡ none → All (λ b. T (not (eqb x (q b)))) l
+unfolding holder
+no_holder q x [] e = nil
+no_holder q x (b ∷ l) e = go (eqb x (q b)) refl e (λ d. no_holder q x l d)
+  where
+    go : (t : Bool) → eqb x (q b) ≡ t → cond t (some b) (holder q x l) ≡ none → (holder q x l ≡ none → All (λ b. T (not (eqb x (q b)))) l)
+        → All (λ b. T (not (eqb x (q b)))) (b ∷ l)
+    go true p r later = absurd (let z : ◌≡◌ {A = ℕ} 0 1 = cc in omega arith)
+    go false p r later = cons (unequal _ p) (later r)
+
+-- each of l differs from the qubit of b
+abbrev Apart : (ℕ → ℕ) → List ℕ → ℕ → Type 0
+Apart q l b = All (λ a. T (not (eqb (q a) (q b)))) l
+
+pub no_overlap : (q : ℕ → ℕ) (before l : List ℕ) → overlap q before l ≡ none → T (differ (map q l)) × All (Apart q l) before
+unfolding overlap clash differ
+no_overlap q before [] e = (tt, All-members before (λ b m. nil))
+no_overlap q before (a ∷ l) e = go (holder q (q a) before) refl e (λ d. no_overlap q (before ++ a ∷ []) l d)
+  where
+    go : (o : Option ℕ) → holder q (q a) before ≡ o → clash a o (overlap q (before ++ a ∷ []) l) ≡ none
+        → (overlap q (before ++ a ∷ []) l ≡ none → T (differ (map q l)) × All (Apart q l) (before ++ a ∷ []))
+        → T (differ (map q (a ∷ l))) × All (Apart q (a ∷ l)) before
+    go (some b) h r later = absurd (let z : ◌≡◌ {A = ℕ} 0 1 = cc in omega arith)
+    go none h r later =
+        let x = later r in (
+          All-every (cons (All-all _ (All-of q (head-All (All-back before (a ∷ []) x.1)))) (cons x.0 nil)),
+          All-members before λ b m. cons (members-All (no_holder q (q a) before h) b m) (members-All (All-front before (a ∷ []) x.1) b m),
+        )
+
+-- where the arguments' qubits differ there is no overlap
+apart_holder : (q : ℕ → ℕ) (x : ℕ) (l : List ℕ) → All (λ b. T (not (eqb x (q b)))) l → holder q x l ≡ none
+unfolding holder
+apart_holder q x [] h = refl
+apart_holder q x (b ∷ l) h = rw (refuted (eqb x (q b)) (head-All h)) (apart_holder q x l (tail-All h))
+
+pub differ_apart : (q : ℕ → ℕ) (before l : List ℕ) → T (differ (map q l)) → All (Apart q l) before → overlap q before l ≡ none
+unfolding overlap clash differ
+differ_apart q before [] d h = refl
+differ_apart q before (a ∷ l) d h =
+    rw (apart_holder q (q a) before (All-weaken (λ b k. head-All k) h))
+    (differ_apart q (before ++ a ∷ []) l (test 1 _ d) (All-append (All-weaken (λ b k. tail-All k) h) (cons (of-All q l (all-All _ (map q l) (test 0 _ d))) nil)))
 
 -- ---- registers
 
@@ -160,7 +211,7 @@ module _ (w : List ℕ) (acc : Accepted w) where
         let p = all-All _ _ m in
         All-every (cons (qubit_below q i h (matched _ _ i (head-All p) k)) (cons (lt→ltb _ _ (bit_below c i j (matched _ _ i (head-All (tail-All p)) k))) nil))
 
-    written_good : {r : Record} → Writes w frame r → T (declared_record w r) × T (distinct_record r) × T (rises_record r)
+    written_good : {r : Record} → Writes w frame r → T (declared_record w r) × T (distinct_record w r) × T (rises_record r)
     unfolding declared_record distinct_record rises_record plain_flaw conditional_flaw conditional_ok
     written_good (writes-U {q} {i} h e l) = (one_below q i (passes 2 _ (sound h).1 tt) l, tt, tt)
     written_good (writes-CX {a} {b} {i} h l d) =
@@ -169,7 +220,7 @@ module _ (w : List ℕ) (acc : Accepted w) where
         (All-every (cons (head-All p) (cons (head-All (tail-All p)) nil)), unequal _ d, tt)
     written_good (writes_opaque {g} {xs} {i} c b d) =
         let k = call_below c in
-        (opaque_declared g xs _ k.0 k.2, d, tt)
+        (opaque_declared g xs _ k.0 k.2, rw b (no_overlap (qubit_in w frame i) [] _ d).0, tt)
     written_good (writes_barrier {a} {n} h) =
         (All-all (is_qubit w) (rising_all (All-flat (argument_qubits w frame) (All-weaken whole_below (all-All _ (range a n) (passes 1 _ (sound h).1 tt))))), tt, (barrier_claims w frame a n).rise)
     written_good (writes_measure {q} {c} {i} h l) =
@@ -193,7 +244,7 @@ module _ (w : List ℕ) (acc : Accepted w) where
   -- ---- steps
 
   abbrev pub Good : Step → Type 0
-  Good (write t r) = T (declared_record w r) × T (distinct_record r) × T (rises_record r) × (length t ≤ 256)
+  Good (write t r) = T (declared_record w r) × T (distinct_record w r) × T (rises_record r) × (length t ≤ 256)
   Good (enter t g) = length t ≤ 256
   Good (refuse t x) = length t ≤ 256
 
@@ -209,10 +260,9 @@ module _ (w : List ℕ) (acc : Accepted w) where
   unfolding distinct_record rises_record push_frame
   step_good s head = head_good
   step_good s (writes {frame} r h) = let g = written_good frame (reached_ready r) h in (g.0, g.1, g.2, (bounds frame (reached_ready r)).1)
-  step_good s (cuts {frame} {s = o} {g} {a} {xs} {i} r c e d) =
+  step_good s (cuts {frame} {s = o} {g} {a} {xs} {i} r c e) =
       let k = call_below frame (reached_ready r) c in
-      (opaque_declared g xs _ k.0 k.2, d, tt, (bounds (called_frame w frame o g a xs i) (called_ready frame (reached_ready r) c)).1)
-  step_good s (cut_refuses {frame} {s = o} {g} {a} {xs} {i} r c) = (bounds (called_frame w frame o g a xs i) (called_ready frame (reached_ready r) c)).1
+      (opaque_declared g [] _ k.0 k.2, rw e tt, tt, (bounds (called_frame w frame o g a xs i) (called_ready frame (reached_ready r) c)).1)
   step_good s (enters {frame} {s = o} {g} {a} {xs} {i} r c) = (bounds (called_frame w frame o g a xs i) (called_ready frame (reached_ready r) c)).1
   step_good s (refuses {frame} r) = (bounds frame (reached_ready r)).1
 

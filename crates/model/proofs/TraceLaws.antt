@@ -9,7 +9,7 @@ use lib.ListN.{length}
 use Rattle.value.specs.declared.Value.{Value}
 use Rattle.model.specs.Image.{Statement, Gate, Conditional, statement, statement_at, gate_body, scope_statements}
 use Rattle.model.specs.Records.{Record, encode}
-use Rattle.model.specs.Steps.{Step, write, enter, refuse, Frame, Opening, Values, have, lack, given, in_rounds, overlap, qubit_in, argument_qubits, parameter_values, with_values, write_u, write_cx, distinctly, write_opaque, write_measure, write_reset, push_frame, open_gate, visit_gate, visit_plain, visit_conditional, visit_statement, visit_body, opening}
+use Rattle.model.specs.Steps.{Step, write, enter, refuse, Frame, Opening, Values, have, lack, given, in_rounds, qubit_in, argument_qubits, parameter_values, with_values, write_u, write_cx, distinctly, write_opaque, write_measure, write_reset, push_frame, open_gate, visit_gate, visit_plain, visit_conditional, visit_statement, visit_body, opening}
 use Rattle.model.specs.Run.{Answer, done, refused, full, flawed, short_trace, Played, stop, after, play, output}
 use Rattle.model.specs.Playing.{OutputState, room, Plays}
 
@@ -78,16 +78,7 @@ module _ (u : List ℕ) where
 
   module _ (image : List ℕ) where
     abbrev Moves : Opening → Type 0
-    Moves o = (new : Frame) (g : ℕ) (cut : List Step) → open_gate o (deeper new) g (map under cut) ≡ map under (open_gate o new g cut)
-
-    distinctly_under : (t : List ℕ) (ab : Option (ℕ × ℕ)) (r : Record) → distinctly image (u ++ t) ab r ≡ map under (distinctly image t ab r)
-    unfolding distinctly under
-    distinctly_under t none r = refl
-    distinctly_under t (some ab) r = refl
-
-    pub opaque_under : (t : List ℕ) (f : Frame) (g : ℕ) (al : List ℕ) (xs : List Value) (i : ℕ) → write_opaque image (u ++ t) f g al xs i ≡ map under (write_opaque image t f g al xs i)
-    unfolding write_opaque
-    opaque_under t f g al xs i = distinctly_under t (overlap (qubit_in image f i) [] al) (Record.Opaque g xs (map (qubit_in image f i) al))
+    Moves o = (new : Frame) (g : ℕ) → open_gate o (deeper new) g ≡ map under (open_gate o new g)
 
     module _ (o : Opening) (moves : Moves o) (f : Frame) where
       values-under : (es : List ℕ) (next next' : List Value → List Step) → ((xs : List Value) → next xs ≡ map under (next' xs))
@@ -103,12 +94,17 @@ module _ (u : List ℕ) where
       unfolding write_cx qubit_in under
       cx-under a b i = map_cond under (eqb (qubit_in image f i a) (qubit_in image f i b)) (refuse f.trace _ ∷ []) (write f.trace _ ∷ []) refl refl
 
+      opaque-under : (t : List ℕ) (ab : Option (ℕ × ℕ)) (r : Record) → distinctly image (u ++ t) ab r ≡ map under (distinctly image t ab r)
+      unfolding distinctly under
+      opaque-under t none r = refl
+      opaque-under t (some ab) r = refl
+
       gate-under : (s g : ℕ) (al : List ℕ) (xs : List Value) (i : ℕ) → visit_gate image o (deeper f) s g al xs i ≡ map under (visit_gate image o f s g al xs i)
       unfolding visit_gate write_opaque push_frame qubit_in
       gate-under s g al xs i =
-          map_cond under (eqb (gate_body image g) 0) (write_opaque image f.trace f g al xs i) (open_gate o (push_frame image f s g al xs i) g (write_opaque image (push_frame image f s g al xs i).trace f g al xs i))
-          (opaque_under f.trace f g al xs i)
-          (rw (append_assoc u f.trace (f.scope ∷ statement_at image s ∷ []), opaque_under (f.trace ++ f.scope ∷ statement_at image s ∷ []) f g al xs i) (moves _ g _))
+          map_cond under (eqb (gate_body image g) 0) (write_opaque image f g al xs i) (open_gate o (push_frame image f s g al xs i) g)
+          (opaque-under f.trace _ _)
+          (rw (append_assoc u f.trace (f.scope ∷ statement_at image s ∷ [])) (moves _ g))
 
       plain-under : (c c' : ℕ → ℕ → ℕ → List Step) → ((r v t : ℕ) → c r v t ≡ map under (c' r v t)) → (s : ℕ) (x : Statement)
           → visit_plain image c o (deeper f) s x ≡ map under (visit_plain image c' o f s x)
@@ -133,5 +129,5 @@ module _ (u : List ℕ) where
 
     pub opening_under : (n : ℕ) → Moves (opening image n)
     unfolding opening open_gate under
-    opening_under zero new g cut = refl
-    opening_under (suc n) new g cut = ap (λ l. enter (u ++ new.trace) g ∷ l) (body-under (opening image n) (opening_under n) new)
+    opening_under zero new g = refl
+    opening_under (suc n) new g = ap (λ l. enter (u ++ new.trace) g ∷ l) (body-under (opening image n) (opening_under n) new)

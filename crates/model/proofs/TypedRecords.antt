@@ -1,10 +1,10 @@
 -- The tests `declared` and `distinct` of specs/Claims.antt, and that a barrier's qubits rise, of a record before it is written as words.
 use Prim.Native.Nat.{ℕ, ◌+◌}
-use mathlib.Core.Bool.{Bool, true, not}
+use mathlib.Core.Bool.{Bool, true, not, cond}
 use mathlib.Core.List.{List, [], ◌∷◌}
 use lib.Dec.{leb, ltb, eqb}
 use Rattle.model.specs.Lists.{every, all}
-use Rattle.model.specs.Image.{gates, quantum_registers, classical_registers, quantum_size, classical_size, bits}
+use Rattle.model.specs.Image.{gates, quantum_registers, classical_registers, quantum_size, classical_size, bits, gate_body}
 use Rattle.model.specs.Records.{Record, Head, U, CX, Opaque, Barrier, Measure, Reset, ConditionalStart, ConditionalEnd}
 use Rattle.model.specs.Claims.{in_register, differ, rises, is_qubit}
 
@@ -21,16 +21,16 @@ module _ (image : List ℕ) where
   declared_record (ConditionalStart b n v) = leb (b + n) (bits image)
   declared_record ConditionalEnd = true
 
-unfoldable pub distinct_record : Record → Bool
-distinct_record (Head qs bs) = true
-distinct_record (U theta phi lambda q) = true
-distinct_record (CX a b) = not (eqb a b)
-distinct_record (Opaque g xs qs) = differ qs
-distinct_record (Barrier qs) = true
-distinct_record (Measure q b) = true
-distinct_record (Reset q) = true
-distinct_record (ConditionalStart b n v) = true
-distinct_record ConditionalEnd = true
+  unfoldable pub distinct_record : Record → Bool
+  distinct_record (Head qs bs) = true
+  distinct_record (U theta phi lambda q) = true
+  distinct_record (CX a b) = not (eqb a b)
+  distinct_record (Opaque g xs qs) = cond (eqb (gate_body image g) 0) (differ qs) true
+  distinct_record (Barrier qs) = true
+  distinct_record (Measure q b) = true
+  distinct_record (Reset q) = true
+  distinct_record (ConditionalStart b n v) = true
+  distinct_record ConditionalEnd = true
 
 unfoldable pub rises_record : Record → Bool
 rises_record (Head qs bs) = true

@@ -172,7 +172,7 @@ module _ (image : List ℕ) (acc : Accepted image) (words : T (all (λ x. ltb x 
   call_counted : {o : Opening} → Ways o → (frame : Frame) (s g : ℕ) (al : List ℕ) (xs : List Value) → length xs ≡ gate_parameters image g → length al ≡ gate_arguments image g
       → (i : ℕ) → All Counted (visit_gate image o frame s g al xs i)
   unfolding visit_gate write_opaque distinctly open_gate push_frame counted_record
-  call_counted {o} ways frame s g al xs e d i = either_counted (eqb (gate_body image g) 0) (opaque frame.trace (overlap (qubit_in image frame i) [] al)) (body ways)
+  call_counted {o} ways frame s g al xs e d i = either_counted (eqb (gate_body image g) 0) (opaque (overlap (qubit_in image frame i) [] al)) (body ways)
     where
       qs : List ℕ
       qs = map (qubit_in image frame i) al
@@ -180,12 +180,12 @@ module _ (image : List ℕ) (acc : Accepted image) (words : T (all (λ x. ltb x 
       many : Word (length qs)
       many = subst Word (sym (length-map al (qubit_in image frame i) ∙ d)) (word_word (gate_at image g + 1))
 
-      opaque : (t : List ℕ) (x : Option (ℕ × ℕ)) → All Counted (distinctly image t x (Record.Opaque g xs qs))
-      opaque t (some ab) = cons tt nil
-      opaque t none = cons (All-every (cons (subst Word (sym e) (word_word (gate_at image g))) (cons many nil))) nil
+      opaque : (x : Option (ℕ × ℕ)) → All Counted (distinctly image frame.trace x (Record.Opaque g xs qs))
+      opaque (some ab) = cons tt nil
+      opaque none = cons (All-every (cons (subst Word (sym e) (word_word (gate_at image g))) (cons many nil))) nil
 
-      body : {p : Opening} → Ways p → All Counted (open_gate p (push_frame image frame s g al xs i) g (write_opaque image (push_frame image frame s g al xs i).trace frame g al xs i))
-      body shut = opaque (push_frame image frame s g al xs i).trace (overlap (qubit_in image frame i) [] al)
+      body : {p : Opening} → Ways p → All Counted (open_gate p (push_frame image frame s g al xs i) g)
+      body shut = cons (All-every (cons tt (cons many nil))) nil
       body (opened h) = cons tt (h (push_frame image frame s g al xs i))
 
   plain_counted : {o : Opening} → Ways o → (frame : Frame) (c : ℕ → ℕ → ℕ → List Step) → ((r v t : ℕ) → Word v → All Counted (c r v t))

@@ -1,4 +1,4 @@
--- Cases K1 to K10 of document 01, K2 with the lines that document 02 gives it, and one for each of its four misreadings: an image, a depth, and the listing to the byte.
+-- Cases K1 to K10 of document 01, and one for each of its four misreadings: an image, a depth, and the listing to the byte.
 use Rattle.std.specs.Prelude.{ℕ, zero, suc, ◌+◌, ◌-◌, ◌*◌, ◌/◌, ◌%◌}
 use Prim.Native.String.{String}
 use mathlib.Core.List.{List, [], ◌∷◌, flat_map}
@@ -36,8 +36,8 @@ unfoldable pub cases : List Case
 cases =
     -- K1
     case 8 k1 "0 2 0 0 0 0 1\n1 0 1 1 2 0 1 0 1 0 1 1 1 0\n1 0 1 1 2 0 1 0 1 0 1 1 1 1\n2 0 1\ndone 4\n"
-    -- K2; document 02, Two: "Case K2's lines become `3 0 1 1 0 1 1 2 0` and `3 0 1 1 0 1 1 2 1`."
-    ∷ case 1 k1 "0 2 0 0 0 0 1\n3 0 1 1 0 1 1 2 0\n3 0 1 1 0 1 1 2 1\n2 0 1\ndone 4\n"
+    -- K2
+    ∷ case 1 k1 "0 2 0 0 0 0 1\n3 0 0 1 0\n3 0 0 1 1\n2 0 1\ndone 4\n"
     -- K3: CX q[1],q of size 3
     ∷ case 8 (19 ∷ 1 ∷ 0 ∷ 0 ∷ 1 ∷ 0 ∷ 2 ∷ 0 ∷ 0 ∷ 3 ∷ 2 ∷ 0 ∷ 1 ∷ 0 ∷ 0 ∷ 0 ∷ 2 ∷ 0 ∷ 0 ∷ []) "0 3 0 0 0 0 1 0 2\n2 1 0\nrefused 12 15 17\n"
     -- K4: 8^(2/3) = 4
@@ -75,8 +75,8 @@ misreadings =
     ∷ case 3 nested "0 1 0 0 0\n4 1 0\ndone 2\n"
     -- "Testing distinctness once before a broadcast": an opaque gate on q[1],q of size 2
     ∷ case 8 (24 ∷ 1 ∷ 0 ∷ 1 ∷ 1 ∷ 0 ∷ 2 ∷ 0 ∷ 0 ∷ 2 ∷ 0 ∷ 2 ∷ 0 ∷ 0 ∷ 0 ∷ 3 ∷ 0 ∷ 0 ∷ 0 ∷ 0 ∷ 0 ∷ 2 ∷ 0 ∷ 0 ∷ []) "0 2 0 0 0 0 1\n3 0 0 2 1 0\nrefused 12 22 20\n"
-    -- "Sending a cut gate's angles." was a misreading of document 01. By document 02, Two, it is one not to send them
-    ∷ case 0 k1 "0 2 0 0 0 0 1\n3 0 1 1 0 1 1 2 0\n3 0 1 1 0 1 1 2 1\n2 0 1\ndone 4\n"
+    -- "Sending a cut gate's angles."
+    ∷ case 0 k1 "0 2 0 0 0 0 1\n3 0 0 1 0\n3 0 0 1 1\n2 0 1\ndone 4\n"
     -- "Skipping the parameters of a call without arguments."
     ∷ case 8 (without 0) "0 0 0\nrefused 9 26 0\n"
     ∷ case 8 (without 2) "0 0 0\ndone 1\n"

@@ -1,15 +1,14 @@
--- What is claimed of every run, and proved in proofs/: demand 3, and that a barrier's qubits rise, over the words that stand in the output when it ends (Outcome), the depth rule and the angles (Depth, AnglesSound), what a barrier holds (BarrierLaws), what a call does whose gate is not opened (OverlapLaws), and what document 01 says of a result that it leaves open (FlawLaws).
-use Rattle.std.specs.Prelude.{ℕ, ◌+◌, ◌*◌, ◌/◌, ◌^◌, ◌≤◌, ◌<◌, max, ◌≡◌, Bool, true, false, not, ◌||◌, cond, ◌⊎◌, T, leb, ltb, eqb, length, get_or, take, drop}
+-- What is claimed of every run, and proved in proofs/: demand 3, and that a barrier's qubits rise, over the words that stand in the output when it ends (Outcome), the depth rule and the angles (Depth, AnglesSound), what a barrier holds (BarrierLaws), and what document 01 says of a result that it leaves open (FlawLaws).
+use Rattle.std.specs.Prelude.{ℕ, ◌+◌, ◌*◌, ◌/◌, ◌^◌, ◌≤◌, ◌≡◌, Bool, true, false, not, ◌||◌, cond, ◌⊎◌, T, leb, ltb, eqb, length, get_or, take, drop}
 use mathlib.Core.List.{List, [], ◌∷◌, ◌++◌, map, flat_map, Memᴰ}
-use Rattle.std.proofs.Math.Option.{none}
 use Rattle.value.specs.declared.Value.{Value}
 use Rattle.value.specs.Value.{Sound}
 use Rattle.model.specs.Refusals as refusal
 use Rattle.model.specs.Lists.{range, sum, every, all}
-use Rattle.model.specs.Image.{Statement, parameter, argument_at, gate_parameters, gate_arguments, main_statements, quantum_registers, classical_registers, gates, quantum_size, classical_size, qubits, bits, gate_body, quantum_register_at, classical_register_at, gate_at, statement_at}
+use Rattle.model.specs.Image.{Statement, main_statements, quantum_registers, classical_registers, gates, quantum_size, classical_size, qubits, bits, gate_body, quantum_register_at, classical_register_at, gate_at, statement_at}
 use Rattle.model.specs.Check.{fine, contents_ok, register_flaw, registers, gate_flaw, gate_entries, flaw, every_statement}
 use Rattle.model.specs.Records.{Record, kind, encode}
-use Rattle.model.specs.Steps.{Refusal, DivideByZero, ApproximateFail, NumericalOverflow, OverlappingRegs, FunctionOfFloats, Step, write, enter, refuse, Frame, Opening, qubit_in, argument_qubits, barrier_holds, with_values, visit_gate, visit_plain, steps}
+use Rattle.model.specs.Steps.{Step, write, enter, refuse, Frame, Opening, argument_qubits, barrier_holds, visit_plain, steps}
 use Rattle.model.specs.Run.{Outcome, done, full, flawed, runs}
 use Rattle.model.specs.Tally.{record_figure, entry_figure, word_bound}
 use Rattle.model.specs.RecordReader.{records_in}
@@ -45,21 +44,6 @@ rises (x ∷ xs) = every (all (ltb x) xs ∷ rises xs ∷ [])
 abbrev pub opaque_qubits : List ℕ → List ℕ
 opaque_qubits r = drop (4 + 4 * get_or r 2 0) r
 
--- where an operation may not have a qubit twice, by the record's kind
-unfoldable pub distinct : List ℕ → Bool
-distinct r =
-    get_or
-    -- kind 0, a head
-    (true
-    -- kind 1, a U
-    ∷ true
-    -- kind 2: a CX has two different qubits
-    ∷ not (eqb (get_or r 1 0) (get_or r 2 0))
-    -- kind 3: an opaque gate has no qubit twice; document 02, Two: "for the distinct-qubit property a cut gate counts as an opaque one"
-    ∷ differ (opaque_qubits r) ∷ [])
-    -- kinds 4 to 8
-    (get_or r 0 0) true
-
 module _ (image : List ℕ) where
   abbrev pub is_qubit : ℕ → Bool
   is_qubit q = ltb q (qubits image)
@@ -90,6 +74,21 @@ module _ (image : List ℕ) where
       ∷ true ∷ [])
       (get_or r 0 0) false
 
+  -- where an operation may not have a qubit twice, by the record's kind
+  unfoldable pub distinct : List ℕ → Bool
+  distinct r =
+      get_or
+      -- kind 0, a head
+      (true
+      -- kind 1, a U
+      ∷ true
+      -- kind 2: a CX has two different qubits
+      ∷ not (eqb (get_or r 1 0) (get_or r 2 0))
+      -- kind 3: a declared opaque gate has no qubit twice
+      ∷ cond (eqb (gate_body image (get_or r 1 0)) 0) (differ (opaque_qubits r)) true ∷ [])
+      -- kinds 4 to 8
+      (get_or r 0 0) true
+
 -- ---- the depth
 
 -- two words a frame
@@ -104,17 +103,9 @@ within depth t = eqb (frames t) 0 || ltb (frames t) depth
 unfoldable pub is_cut : List ℕ → Record → Bool
 is_cut image r = every (eqb (kind r) 3 ∷ not (eqb (gate_body image (get_or (encode r) 1 0)) 0) ∷ [])
 
--- a 12 with as many frames as there are where a gate is cut, its own among them: as many as the depth, and one at depth 0
-unfoldable pub is_cut_overlap : ℕ → List ℕ → Refusal → Bool
-is_cut_overlap depth t (OverlappingRegs place other) = eqb (frames t) (max depth 1)
-is_cut_overlap depth t (DivideByZero place) = false
-is_cut_overlap depth t (ApproximateFail place f32) = false
-is_cut_overlap depth t (NumericalOverflow place) = false
-is_cut_overlap depth t (FunctionOfFloats place) = false
-
 unfoldable pub at_depth : List ℕ → ℕ → Step → Bool
 at_depth image depth (enter t g) = ltb (frames t) depth
-at_depth image depth (refuse t r) = within depth t || is_cut_overlap depth t r
+at_depth image depth (refuse t r) = within depth t
 at_depth image depth (write t r) = cond (is_cut image r) (leb depth (frames t)) (within depth t)
 
 -- ---- demand 3, and what tickets of document 02 add to it
@@ -147,9 +138,9 @@ pub record Claims (image : List ℕ) (depth : ℕ) (out trace : List ℕ) (o : O
   -- the record reader finds as many records as the answer says, and they fill the words written
   pub read : length (records_found o) ≡ o.records
   pub filled : flat_map (λ r. r) (records_found o) ≡ written o
-  -- every index written is a declared one; a CX has two different qubits, an opaque or cut gate no qubit twice
+  -- every index written is a declared one; a CX has two different qubits, a declared opaque gate no qubit twice
   pub declares : (r : List ℕ) → Memᴰ r (records_found o) → T (declared image r)
-  pub differs : (r : List ℕ) → Memᴰ r (records_found o) → T (distinct r)
+  pub differs : (r : List ℕ) → Memᴰ r (records_found o) → T (distinct image r)
   -- document 02, One: "A barrier's qubits are written in increasing number." They are the words of a kind 4 behind its count; each is below those after it, so that none stands twice
   pub barriers_rise : (r : List ℕ) → Memᴰ r (records_found o) → get_or r 0 0 ≡ 4 → T (rises (drop 2 r))
   -- a refusal of check's has one of the numbers 1 to 8
@@ -191,34 +182,6 @@ pub record BarrierClaims (image : List ℕ) (frame : Frame) (a n : ℕ) : Type 0
   -- no order is left open: any list that rises and has the same qubits is the barrier's own
   pub fixed : (qs : List ℕ) → T (rises qs) → ((q : ℕ) → Memᴰ q qs → Memᴰ q (barrier_holds image frame a n))
       → ((q : ℕ) → Memᴰ q (barrier_holds image frame a n) → Memᴰ q qs) → qs ≡ barrier_holds image frame a n
-
--- ---- a gate that is not opened
-
--- the first qubit of a list that has stood in it before: it stands at i and, before that, at j. Those before i differ, so that there is no other j
-pub record FirstOverlap (qs : List ℕ) (i j : ℕ) : Type 0 where
-  pub listed : i < length qs
-  pub below : j < i
-  pub same : get_or qs i 0 ≡ get_or qs j 0
-  pub apart_before : T (differ (take i qs))
-
--- of what round i of a call does whose gate g is not opened, with the arguments al, the parameter values xs and the trace that stands then
-pub record UnopenedClaims (image : List ℕ) (trace : List ℕ) (frame : Frame) (g : ℕ) (al : List ℕ) (xs : List Value) (i : ℕ) (does : List Step) : Type 0 where
-  -- where its qubits differ, it is written with its parameter values
-  pub written : T (differ (map (qubit_in image frame i) al)) → does ≡ write trace (Record.Opaque g xs (map (qubit_in image frame i) al)) ∷ []
-  -- where they do not, it is refused: "12 overlap: the two arguments' places", "i then j"
-  pub refused : ¬ T (differ (map (qubit_in image frame i) al))
-      → (x : ℕ) × (y : ℕ) × FirstOverlap (map (qubit_in image frame i) al) x y × (does ≡ refuse trace (OverlappingRegs (argument_at image (get_or al x 0)) (argument_at image (get_or al y 0))) ∷ [])
-
--- of a call of gate g in a frame, at statement s
-pub record CallClaims (image : List ℕ) (frame : Frame) (s g : ℕ) : Type 0 where
-  -- an opaque gate is not opened, whatever the depth, and the trace is the caller's
-  pub opaque : gate_body image g ≡ 0 → (opened : Opening) (al : List ℕ) (xs : List Value) (i : ℕ) → UnopenedClaims image frame.trace frame g al xs i (visit_gate image opened frame s g al xs i)
-  -- document 02, Two: "A body that is not opened is now written with its parameter values, and its qubits are tested for distinctness like those of an opaque gate, with refusal 12 and the trace that includes the cut call."
-  pub cut : ¬ (gate_body image g ≡ 0) → (al : List ℕ) (xs : List Value) (i : ℕ)
-      → UnopenedClaims image (frame.trace ++ frame.scope ∷ statement_at image s ∷ []) frame g al xs i (visit_gate image none frame s g al xs i)
-  -- "Without arguments nothing is written, opaque or not.": its parameters are evaluated, and that is all
-  pub nothing : gate_arguments image g ≡ 0 → (ifDoes : ℕ → ℕ → ℕ → List Step) (opened : Opening) (p a : ℕ)
-      → visit_plain image ifDoes opened frame s (Statement.Gate g p a) ≡ with_values image frame (map (parameter image) (range p (gate_parameters image g))) λ xs. []
 
 -- ---- a result that document 01 leaves open
 

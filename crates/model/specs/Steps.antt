@@ -84,10 +84,10 @@ offsets_of sizes r = map (λ o. (r, o)) (range 0 (sizes r))
 unfoldable pub offsets : (ℕ → ℕ) → ℕ → List (ℕ × ℕ)
 offsets sizes n = flat_map (offsets_of sizes) (range 0 n)
 
--- a gate with a body: opened in its frame, or cut, which does what is handed in
-unfoldable pub open_gate : Opening → Frame → ℕ → List Step → List Step
-open_gate none new g cut = cut
-open_gate (some body) new g cut = enter new.trace g ∷ body new
+-- a gate with a body: opened, or "A body not opened is written as kind 3 with p = 0 and no distinctness test."
+unfoldable pub open_gate : Opening → Frame → ℕ → List Step
+open_gate none new g = write new.trace (Record.Opaque g [] new.qubits) ∷ []
+open_gate (some body) new g = enter new.trace g ∷ body new
 
 module _ (image : List ℕ) where
   -- ---- arguments
@@ -139,9 +139,8 @@ module _ (image : List ℕ) where
   distinctly trace none r = write trace r ∷ []
   distinctly trace (some ab) r = refuse trace (OverlappingRegs (argument_at image ab.0) (argument_at image ab.1)) ∷ []
 
-  -- a gate that is not opened, opaque or cut, with the trace that stands then
-  unfoldable pub write_opaque : List ℕ → Frame → ℕ → List ℕ → List Value → ℕ → List Step
-  write_opaque trace frame g al xs i = distinctly trace (overlap (qubit_in frame i) [] al) (Record.Opaque g xs (map (qubit_in frame i) al))
+  unfoldable pub write_opaque : Frame → ℕ → List ℕ → List Value → ℕ → List Step
+  write_opaque frame g al xs i = distinctly frame.trace (overlap (qubit_in frame i) [] al) (Record.Opaque g xs (map (qubit_in frame i) al))
 
   unfoldable pub write_measure : Frame → ℕ → ℕ → ℕ → List Step
   write_measure frame q c i = write frame.trace (Record.Measure (qubit_in frame i q) (bit_in i c)) ∷ []
@@ -154,11 +153,8 @@ module _ (image : List ℕ) where
   push_frame frame s g al xs i =
       record { scope = suc g; trace = frame.trace ++ frame.scope ∷ statement_at image s ∷ []; values = xs; qubits = map (qubit_in frame i) al }
 
-  -- A round of a call. An opaque gate has the trace of the caller. Document 02, Two: "A body that is not opened is now written with its parameter values, and its qubits are tested for distinctness like those of an opaque gate, with refusal 12 and the trace that includes the cut call."
   unfoldable pub visit_gate : Opening → Frame → ℕ → ℕ → List ℕ → List Value → ℕ → List Step
-  visit_gate opened frame s g al xs i =
-      let new = push_frame frame s g al xs i in
-      cond (eqb (gate_body image g) 0) (write_opaque frame.trace frame g al xs i) (open_gate opened new g (write_opaque new.trace frame g al xs i))
+  visit_gate opened frame s g al xs i = cond (eqb (gate_body image g) 0) (write_opaque frame g al xs i) (open_gate opened (push_frame frame s g al xs i) g)
 
   -- ---- statements
 

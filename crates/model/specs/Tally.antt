@@ -8,18 +8,14 @@ use Rattle.model.specs.Check.{Flaw, fine, bad, check}
 
 -- Each figure adds something up: `weight kind words` for a record, and `entry` for a body entry. `opened` says what a scope's statements come to where a body is opened.
 module _ (image : List ℕ) (weight : ℕ → ℕ → ℕ) (entry : ℕ) where
-  -- a gate that is not opened: "a kind 3 of 4+4p+q words (p its parameters, 0 with a body; q its arguments)"; document 02, Two: "The tally's word bound counts these angles." So p is its parameters with a body too
-  abbrev pub opaque_tally : ℕ → ℕ
-  opaque_tally g = weight 3 (4 + 4 * gate_parameters image g + gate_arguments image g)
-
-  -- a gate with a body: "with a body and a depth above 1, one body entry and the body's statements at a depth less by 1. Otherwise a kind 3"
+  -- a gate with a body: "with a body and a depth above 1, one body entry and the body's statements at a depth less by 1. Otherwise a kind 3 of 4+4p+q words (p its parameters, 0 with a body; q its arguments)"
   unfoldable pub open_gate_tally : Option (ℕ → ℕ) → ℕ → ℕ
-  open_gate_tally none g = opaque_tally g
+  open_gate_tally none g = weight 3 (4 + gate_arguments image g)
   open_gate_tally (some body) g = entry + body (suc g)
 
   -- "Call, each round"
   unfoldable pub gate_tally : Option (ℕ → ℕ) → ℕ → ℕ
-  gate_tally opened g = cond (eqb (gate_body image g) 0) (opaque_tally g) (open_gate_tally opened g)
+  gate_tally opened g = cond (eqb (gate_body image g) 0) (weight 3 (4 + 4 * gate_parameters image g + gate_arguments image g)) (open_gate_tally opened g)
 
   -- "U, CX, measure, reset: a record a round, of 14, 3, 3, 2 words. Barrier: one record, of 2 words plus its argument sizes added up." What an if comes to is handed in.
   unfoldable pub plain_tally : (ℕ → ℕ) → Option (ℕ → ℕ) → ℕ → Statement → ℕ

@@ -1,6 +1,6 @@
 -- What the statements that open no body are accepted with, and the steps that they promise, in the model's words.
 use Rattle.std.specs.Prelude.{ℕ, ◌+◌, ◌≤◌, ◌<◌, ◌≡◌, Bool, true, false, cond, T, eqb, get_or, take}
-use mathlib.Core.List.{List, [], ◌∷◌, ◌++◌, flat_map, Memᴰ}
+use mathlib.Core.List.{List, [], ◌∷◌, ◌++◌, map, flat_map, Memᴰ}
 use Rattle.std.proofs.Math.Option.{Option, none, some}
 use Rattle.value.specs.declared.Value.{Value}
 use Rattle.model.specs.Limits.{most_elements}
@@ -8,7 +8,7 @@ use Rattle.model.specs.Lists.{range, largest}
 use Rattle.model.specs.Records.{Record}
 use Rattle.model.specs.Image.{word, argument_at, argument_size, classical_argument_size, rounds, variables}
 use Rattle.model.specs.Check.{matching}
-use Rattle.model.specs.Steps.{Step, write, refuse, Refusal, overlap, distinctly, in_rounds, write_reset, write_measure, write_cx, write_opaque, write_u, with_values, argument_qubits, barrier_holds}
+use Rattle.model.specs.Steps.{Step, write, refuse, Refusal, overlap, distinctly, in_rounds, qubit_in, write_reset, write_measure, write_cx, write_opaque, write_u, with_values, argument_qubits, barrier_holds}
 use Rattle.model.specs.All.{All}
 use Rattle.record_writer.specs.declared.Position.{Position}
 use Rattle.record_writer.specs.declared.LinearizeErrorKind.TheVariants as kind
@@ -72,10 +72,19 @@ cx_steps image scope qubits control target = in_rounds (rounds image scope (cont
 abbrev pub call_rounds : List ℕ → Call → ℕ
 call_rounds image call = rounds image call.site.scope (range call.argument call.arguments)
 
--- a gate that is not opened, in each round of a call, with these angles
+-- an opaque gate in each round of a call, with these angles
 abbrev pub opaque_steps : List ℕ → List ℕ → Call → List Value → List Step
 opaque_steps image qubits call angles =
-    in_rounds (call_rounds image call) (write_opaque image [] (scope_frame image call.site.scope [] qubits) call.gate (range call.argument call.arguments) angles)
+    in_rounds (call_rounds image call) (write_opaque image (scope_frame image call.site.scope [] qubits) call.gate (range call.argument call.arguments) angles)
+
+-- a gate whose body is not opened, in a round of a call
+unfoldable pub cut_round : List ℕ → List ℕ → Call → ℕ → List Step
+cut_round image qubits call i =
+    write [] (Record.Opaque call.gate [] (map (qubit_in image (scope_frame image call.site.scope [] qubits) i) (range call.argument call.arguments))) ∷ []
+
+-- the gate in each round of the call
+abbrev pub cut_steps : List ℕ → List ℕ → Call → List Step
+cut_steps image qubits call = in_rounds (call_rounds image call) (cut_round image qubits call)
 
 -- the qubits of n arguments from a on
 abbrev pub qubits_of_all : List ℕ → ℕ → List ℕ → ℕ → ℕ → List ℕ
@@ -150,8 +159,8 @@ pub record MarksCover (marks : List Bool) (l : List ℕ) (marks' : List Bool) (e
   pub below : All (λ q. q < end) l
   pub few : end ≤ most_elements
 
--- ---- gates that are not opened, opaque or cut
+-- ---- opaque gates
 
--- a round of a gate with these qubits, whichever the arguments are that have them
+-- a round of an opaque gate with these qubits, whichever the arguments are that have them
 pub record WroteDistinct (image : List ℕ) (gate : ℕ) (angles : List Value) (q : List ℕ) (a n : ℕ) (out : List ℕ) (at : Position) (r : Linearized) (out' : List ℕ) : Type 0 where
   pub wrote : (f : ℕ → ℕ) → ((j : ℕ) → j < n → f (a + j) ≡ get_or q j 0) → WroteSteps (distinctly image [] (overlap f [] (range a n)) (Record.Opaque gate angles (take n q))) out at r out'

@@ -19,10 +19,10 @@ module _ (image : List ℕ) (j g at k : ℕ) (at-is : at ≡ gate_at image g) wh
   unfolding gate_tally
   gate_opaque n p q b r ep eq eb z er = rw (← at-is, ← ep, ← eq, ← eb, eq-eqb b 0 z) er
 
-  pub gate_cut : (n p q b r : ℕ) → p ≡ word image at → q ≡ word image (at + 1) → b ≡ word image (at + 2) → ¬ (b ≡ 0) → n ≡ 0 → r ≡ capped (k * weight_of j 3 (4 + 4 * p + q))
+  pub gate_cut : (n q b r : ℕ) → q ≡ word image (at + 1) → b ≡ word image (at + 2) → ¬ (b ≡ 0) → n ≡ 0 → r ≡ capped (k * weight_of j 3 (4 + q))
       → r ≡ capped (k * gate_tally image (weight_of j) (entry_of j) (opening_for image j n) g)
   unfolding gate_tally open_gate_tally opening_tally
-  gate_cut n p q b r ep eq eb z e er = rw (e, ← at-is, ← ep, ← eq, ← eb, ne_eqb b 0 z) er
+  gate_cut n q b r eq eb z e er = rw (e, ← at-is, ← eq, ← eb, ne_eqb b 0 z) er
 
   pub gate_opened : (n : ℕ) (table : List ℕ) (b e t r : ℕ) → FigureTable image n (suc g) table → j < 9 → b ≡ word image (at + 2) → ¬ (b ≡ 0) → ¬ (n ≡ 0)
       → e ≡ capped (k * entry_of j) → t ≡ capped (k * get_or table (9 * g + j) 0) → r ≡ capped (e + t) → r ≡ capped (k * gate_tally image (weight_of j) (entry_of j) (opening_for image j n) g)

@@ -44,8 +44,8 @@ const FIGURES: u64 = 9;
 // The table has a row for each gate that an image may have.
 const TABLE_WORDS: usize = (FIGURES * image::MOST_GATES) as usize;
 
-// The words of each kind of record: those of a barrier and of a gate that is not opened are these and one for each qubit, those of a
-// gate that is not opened also four for each angle, those of the head also two for each qubit and each bit.
+// The words of each kind of record: those of a barrier and of an opaque gate's call are these and one for each qubit, those of an
+// opaque gate's call also four for each angle, those of the head also two for each qubit and each bit.
 const HEAD_WORDS: u64 = 3;
 
 const U_WORDS: u64 = 14;
@@ -195,13 +195,16 @@ fn gate_figure(
     let at = l.gate_at(g);
     let parameters = image::word(image, at);
     let arguments = image::word(image, at + 1);
-    if image::word(image, at + 2) == 0 || n == 0 {
+    if image::word(image, at + 2) == 0 {
         return record_figure(
             rounds,
             j,
             3,
             OPAQUE_WORDS + ANGLE_WORDS * parameters + arguments,
         );
+    }
+    if n == 0 {
+        return record_figure(rounds, j, 3, OPAQUE_WORDS + arguments);
     }
     let i = (FIGURES * g + j) as usize;
     let entries = capped_product(rounds, entry_weight(j));

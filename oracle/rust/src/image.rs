@@ -55,11 +55,6 @@ impl<'a> Image<'a> {
         &self.words[self.starts[sort]..self.starts[sort + 1]]
     }
 
-    /// Whether there is such a gate and it has a body.
-    pub fn has_body(&self, gate: u64) -> bool {
-        gate < self.count(GATES) as u64 && self.entry(GATES, gate)[2] == 1
-    }
-
     pub fn has_conditional(&self) -> bool {
         (0..self.count(MAIN) as u64).any(|number| self.statement(number)[0] == 7)
     }

@@ -18,14 +18,6 @@ pub struct Outcome {
     pub trace: Vec<u64>,
 }
 
-impl Outcome {
-    /// Whether a run at this depth was refused for the qubits of a cut gate. Its trace has the cut call, and so as many
-    /// frames as the depth or more; while an opened body is run they are fewer.
-    pub fn refuses_cut_gate(&self, depth: u64) -> bool {
-        self.number == 12 && !self.trace.is_empty() && self.trace.len() as u64 / 2 >= depth
-    }
-}
-
 /// The words of a record that starts some words, by document 01's record reader; 0 if none does.
 pub fn record_length(words: &[u64]) -> usize {
     let word = |at: usize| words.get(at).copied().unwrap_or(0) as u128;

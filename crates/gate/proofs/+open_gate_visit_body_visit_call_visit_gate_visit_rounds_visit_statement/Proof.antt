@@ -9,6 +9,7 @@ use Rattle.gate.specs.RanSteps.{opened_steps}
 use borrow.Author.Rules.{rules}
 use lib.ListN.{length, take}
 use Rattle.model.specs.Image.{word}
+use Rattle.model.specs.Steps.{Frame, open_gate, opening}
 use Rattle.record_writer.specs.declared.Position.{Position}
 use Rattle.record_writer.proofs.WroteStepsLaws.{refuses}
 use Rattle.expression.specs.Angles.{angles_in}
@@ -21,7 +22,7 @@ use Rattle.gate.specs.RunContext.{nested}
 use Rattle.gate.specs.CallStatement.{opened_round}
 use Rattle.gate.proofs.RanStepsLaws.{wrote_ran, ran_next, ran_stop, ran_done, ran_popped, ran_enter, ran_lengths, ran_steps, ran_from, ran_still}
 use Rattle.gate.proofs.CallStatementLaws.{known_gate, calls, named-listed, gate-given, gate-refused}
-use Rattle.gate.proofs.OpenGateLaws.{opened_round_lem, opened_rounds, cut_rounds, opaque_rounds, parameters_are, body_statement, open_steps, same_opened}
+use Rattle.gate.proofs.OpenGateLaws.{opened_round_lem, opened_rounds, cut_rounds, opaque_rounds, parameters_are, body_statement, open_steps, same_frame}
 use Rattle.gate.proofs.BodiesKeptLaws.{called_gate, slot_given, copy_given, body_run, copied_ran, context_same, ran_same_output, bodies_ran, bodies_at, bodies_popped}
 use Rattle.gate.proofs.RunContextLaws.{kind_read, holds_body, with_angles, call_context, context_kept, inside_output, context_on, context_opened, context_in_body, statement_in_body, step_in_body}
 use Rattle.kept_body.specs.KeptBodies.{BodiesKept}
@@ -60,6 +61,7 @@ use Rattle.kept_body.proofs.copy_body.Reads as copy-body-reads
 use Rattle.kept_body.proofs.keep_body.Reads as keep-body-reads
 use Rattle.statement.proofs.call_qubits.Reads as call-qubits-reads
 use Rattle.statement.proofs.call_rounds.Reads as call-rounds-reads
+use Rattle.statement.proofs.visit_cut.Reads as visit-cut-reads
 use Rattle.statement.proofs.visit_opaque.Reads as visit-opaque-reads
 use Rattle.gate.proofs.+open_gate_visit_body_visit_call_visit_gate_visit_rounds_visit_statement.{
   statement,
@@ -155,7 +157,7 @@ abbrev visit-call-callees : ℕ → visit-call-lts.Claims
 visit-call-callees t = (call-at-reads.Asked, call-at-reads.Learnt, parameter-values-reads.Asked, parameter-values-reads.Learnt, visit-gate-below t, visit-gate.Post)
 
 abbrev visit-gate-callees : ℕ → visit-gate-lts.Claims
-visit-gate-callees t = (visit-opaque-reads.Asked, visit-opaque-reads.Learnt, with-trace-words-reads.Asked, with-trace-words-reads.Learnt, pop-call-reads.Asked, pop-call-reads.Learnt, visit-rounds-below t, visit-rounds.Post)
+visit-gate-callees t = (visit-opaque-reads.Asked, visit-opaque-reads.Learnt, with-trace-words-reads.Asked, with-trace-words-reads.Learnt, visit-cut-reads.Asked, visit-cut-reads.Learnt, pop-call-reads.Asked, pop-call-reads.Learnt, visit-rounds-below t, visit-rounds.Post)
 
 abbrev visit-rounds-callees : ℕ → visit-rounds-lts.Claims
 visit-rounds-callees t = (call-rounds-reads.Asked, call-rounds-reads.Learnt, call-qubits-reads.Asked, call-qubits-reads.Learnt, open-gate-below t, open-gate.Post)
@@ -190,7 +192,7 @@ open-gate-returns t c =
     let s = c.before.before.before.before.before.before.before.before.before.before.before.before.before.before.before.before.before.before.before.before in
     let pre = s.requires.1 in
     let w = copied_ran _ _ pre.3.is_call ((c.before.before.before.before.before.copy_body.ensures.1 _ (called_gate pre.0 pre.3.is_call) pre.0.bodies).wrote _ c.before.next.given.1) in
-    let opened = ran_steps (same_opened _ s.args.call (parameters_are pre.3.is_call) c.before.before.before.before.before.before.before.before.before.before.put-frame-angles.ensures _) w in
+    let opened = ran_steps (ap (λ (x : Frame). open_gate (opening s.args.image.now s.args.call.site.levels_left) x s.args.call.gate) (same_frame _ s.args.call (parameters_are pre.3.is_call) c.before.before.before.before.before.before.before.before.before.before.put-frame-angles.ensures _)) w in
     (opened, pre.0.context.constants, bodies_ran opened pre.0.bodies)
 
 open-gate-same-length : (t : ℕ) → open-gate-lts.Need-same-length (open-gate-callees t) (open-gate-at t) open-gate.Post
@@ -212,7 +214,7 @@ open-gate-returns-2 t c =
     let copied = c.before.before.before.before.before.before.before.before.before.before.before.before.before.before.before.before.before.before.before.copy_body.ensures.1 _ (called_gate pre.0 pre.3.is_call) pre.0.bodies in
     let same = copied.untouched c.before.before.before.before.before.before.before.before.before.before.before.before.before.before.before.enum_told.given.1 in
     let v = c.before.before.before.before.before.before.before.before.visit-body.ensures in
-    (ran_steps (same_opened _ s.args.call (parameters_are pre.3.is_call) c.before.before.before.before.before.before.before.before.before.before.before.before.before.before.before.before.before.before.before.before.before.before.before.before.put-frame-angles.ensures _) (ran_same_output same v.0), v.1, v.2)
+    (ran_steps (ap (λ (x : Frame). open_gate (opening s.args.image.now s.args.call.site.levels_left) x s.args.call.gate) (same_frame _ s.args.call (parameters_are pre.3.is_call) c.before.before.before.before.before.before.before.before.before.before.before.before.before.before.before.before.before.before.before.before.before.before.before.before.put-frame-angles.ensures _)) (ran_same_output same v.0), v.1, v.2)
 
 open-gate-same-length-5 : (t : ℕ) → open-gate-lts.Need-same-length-5 (open-gate-callees t) (open-gate-at t) open-gate.Post
 open-gate-same-length-5 t c = (ran_lengths (open-gate-returns-2 t c).0).0
@@ -287,7 +289,7 @@ visit-body-returns t c =
     let f = statement_in_body pre.0 pre.3.is_call.gate_listed body test 0 in
     let v = rw c.before.before.before.before.before.before.before.before.before.before.before.before.before.before.before.before.body-site.ensures at c.before.before.before.before.before.before.before.before.before.before.before.visit-statement.ensures in
     let w = ran_from loop.1 (ran_stop _ _ loop.0 test (step_in_body _ _ _ _ _ _ _ f.facts) v.0 c.before.e.given.1 refl) in
-    (ran_steps (open_steps _ _ _ _ _ _ _ (holds_body _ _ body)) (ran_enter [] _ w), v.1, bodies_at c.before.e.given.1 v.2)
+    (ran_steps (open_steps _ _ _ _ _ _ _ pre.3.has_level (holds_body _ _ body)) (ran_enter [] _ w), v.1, bodies_at c.before.e.given.1 v.2)
 
 visit-body-same-length-3 : (t : ℕ) → visit-body-lts.Need-same-length-3 (visit-body-callees t) (visit-body-at t) visit-body.Post visit-body-Inv-loop visit-body-μ-loop
 visit-body-same-length-3 t c = (ran_lengths (visit-body-returns t c).0).0
@@ -339,7 +341,7 @@ visit-body-returns-2 t c =
     let s = c.before.before.before.before.before.before.before.before.before.before.before.before.before.before.before in
     let pre = s.requires.1 in
     let loop = c.before.before.before.before.before.before.loop.invariant in
-    let w = ran_steps (open_steps _ _ _ _ _ _ _ (holds_body _ _ c.before.before.before.before.before.before.before.statements-of.ensures)) (ran_enter [] _ (ran_still loop.1 (ran_done _ _ loop.0 c.before.before.before.before.if1.false refl))) in
+    let w = ran_steps (open_steps _ _ _ _ _ _ _ pre.3.has_level (holds_body _ _ c.before.before.before.before.before.before.before.statements-of.ensures)) (ran_enter [] _ (ran_still loop.1 (ran_done _ _ loop.0 c.before.before.before.before.if1.false refl))) in
     (w, loop.2, c.before.before.keep_body.ensures.1 _ _ _ (body_run pre.0 pre.3.is_call w) loop.4)
 
 visit-call-call-at-requires : (t : ℕ) → visit-call-lts.Need-call-at-requires (visit-call-callees t) (visit-call-at t) visit-call.Post
@@ -429,10 +431,10 @@ visit-gate-add-with-trace-words t c = record { fits = omega (arith, c.before.bef
 visit-gate-with-trace-words-requires : (t : ℕ) → visit-gate-lts.Need-with-trace-words-requires (visit-gate-callees t) (visit-gate-at t) visit-gate.Post
 visit-gate-with-trace-words-requires t c κs = search rules
 
-visit-gate-visit-opaque-requires-2 : (t : ℕ) → visit-gate-lts.Need-visit-opaque-requires-2 (visit-gate-callees t) (visit-gate-at t) visit-gate.Post
-visit-gate-visit-opaque-requires-2 t c κs =
+visit-gate-visit-cut-requires : (t : ℕ) → visit-gate-lts.Need-visit-cut-requires (visit-gate-callees t) (visit-gate-at t) visit-gate.Post
+visit-gate-visit-cut-requires t c κs =
     let pre = c.before.before.before.before.before.before.before.before.before.before.before.before.before.requires.1 in
-    (call_context pre.0 pre.3, pre.2, inside_output pre.0.context.in_output c.before.before.before.with-trace-words.ensures)
+    (call_context pre.0 pre.3, inside_output pre.0.context.in_output c.before.before.before.with-trace-words.ensures)
 
 visit-gate-pop-call-requires : (t : ℕ) → visit-gate-lts.Need-pop-call-requires (visit-gate-callees t) (visit-gate-at t) visit-gate.Post
 visit-gate-pop-call-requires t c κs =
@@ -441,7 +443,7 @@ visit-gate-pop-call-requires t c κs =
     (omega (arith, pre.0.trace_length, pre.1, pre.3.downward), laid.limits, omega (arith, pre.3.listed, laid.statements_is, laid.whole, laid.short))
 
 visit-gate-same-length-2 : (t : ℕ) → visit-gate-lts.Need-same-length-2 (visit-gate-callees t) (visit-gate-at t) visit-gate.Post
-visit-gate-same-length-2 t c = c.before.before.before.before.before.before.visit-opaque2.ensures.plays.same
+visit-gate-same-length-2 t c = c.before.before.before.before.before.before.visit-cut.ensures.plays.same
 
 visit-gate-returns-2 : (t : ℕ) → visit-gate-lts.Need-returns-2 (visit-gate-callees t) (visit-gate-at t) visit-gate.Post
 visit-gate-returns-2 t c =
@@ -450,7 +452,7 @@ visit-gate-returns-2 t c =
     let image = s.args.image.now in
     let w =
     ran_steps (cut_rounds pre.3 s.args.qubits.now [] _ c.before.before.before.before.before.before.before.before.before.before.before.before.if1.false c.before.before.before.before.before.before.before.before.if2.true)
-    (ran_popped image s.args.call _ (wrote_ran _ c.before.before.before.before.before.before.visit-opaque2.ensures) c.before.before.before.before.before.before.before.before.before.before.with-trace-words.ensures (c.before.before.pop-call.ensures image pre.0.context.in_scope.laid)) in
+    (ran_popped image s.args.call _ (wrote_ran _ c.before.before.before.before.before.before.visit-cut.ensures) c.before.before.before.before.before.before.before.before.before.before.with-trace-words.ensures (c.before.before.pop-call.ensures image pre.0.context.in_scope.laid)) in
     (w, pre.0.context.constants, bodies_ran w pre.0.bodies)
 
 visit-gate-same-length-3 : (t : ℕ) → visit-gate-lts.Need-same-length-3 (visit-gate-callees t) (visit-gate-at t) visit-gate.Post
@@ -481,7 +483,7 @@ visit-gate-returns-3 t c =
     let pre = s.requires.1 in
     let image = s.args.image.now in
     let v = c.before.before.before.before.before.before.before.before.before.before.before.before.visit-rounds.ensures in (
-      ran_steps (opened_rounds pre.3 s.args.qubits.now [] _ c.before.before.before.before.before.before.before.before.before.before.before.before.before.before.before.before.before.before.before.before.before.if1.false c.before.before.before.before.before.before.before.before.before.before.before.before.before.before.before.before.before.if2.false)
+      ran_steps (opened_rounds pre.3 s.args.qubits.now [] _ c.before.before.before.before.before.before.before.before.before.before.before.before.before.before.before.before.before.before.before.before.before.if1.false)
           (ran_popped image s.args.call _ v.0 c.before.before.before.before.before.before.before.before.before.before.before.before.before.before.before.before.before.before.before.with-trace-words.ensures (c.before.before.pop-call2.ensures image pre.0.context.in_scope.laid)),
       v.1,
       bodies_popped s.args.call s.args.at c.before.before.before.before.before.before.before.before.before.before.before.before.visit-rounds.result c.before.before.before.before.before.before.before.before.before.before.before.before.visit-rounds.new.1.1.1.1.1.1.1.1.1.0 c.before.before.pop-call2.result c.before.before.pop-call2.new.1.1.0 (c.before.before.pop-call2.ensures image pre.0.context.in_scope.laid) v.2,
@@ -711,7 +713,7 @@ pub +open-gate-visit-body-visit-call-visit-gate-visit-rounds-visit-statement-spe
     (visit-gate-returns t)
     (visit-gate-add-with-trace-words t)
     (visit-gate-with-trace-words-requires t)
-    (visit-gate-visit-opaque-requires-2 t)
+    (visit-gate-visit-cut-requires t)
     (visit-gate-pop-call-requires t)
     (visit-gate-same-length-2 t)
     (visit-gate-same-length-3 t)

@@ -1,9 +1,7 @@
--- A call is a record of a gate that is not opened, opaque or cut, or its body's row.
+-- A call is an opaque record, a record of a gate that is not opened, or its body's row.
 use Prim.Native.Nat.{ℕ, ◌*◌, ◌<◌}
 use native.Mathlib.Omega.{arith}
 use mathlib.Core.Path.{ap, ◌∙◌}
-use mathlib.Core.Logic.{⊎_elim}
-use borrow.Author.Tests.{eqb-true, eqb-false}
 use borrow.Author.Rules.{rules}
 use Rattle.model.specs.Image.{gates}
 use Rattle.tally.specs.Weights.{capped}
@@ -70,11 +68,30 @@ returns c =
     let w = c.before.before in
     let g = w.before.before.before in
     let a = g.before.before.args in
-    let at-is = g.gate-at.ensures.in_image _ g.before.before.requires.ready.laid in
-    ⊎_elim
-    (λ t. gate_opaque a.image.now a.j a.g g.gate-at.result a.rounds at-is a.n _ _ _ _ w.before.before.word.ensures w.before.word2.ensures w.word3.ensures t.taken c.record-figure.ensures)
-    (λ t. gate_cut a.image.now a.j a.g g.gate-at.result a.rounds at-is a.n _ _ _ _ w.before.before.word.ensures w.before.word2.ensures w.word3.ensures t.0.left (eqb-true _ _ t.1.taken) c.record-figure.ensures)
-    c.before.if1.branch
+    gate_opaque a.image.now a.j a.g g.gate-at.result a.rounds (g.gate-at.ensures.in_image _ g.before.before.requires.ready.laid) a.n _
+    _ _ _ w.before.before.word.ensures w.before.word2.ensures w.word3.ensures c.before.if1.true c.record-figure.ensures
+
+add-record-figure-3 : tie.Need-overflow-add-record-figure-3
+add-record-figure-3 c =
+    let g = c.before.before.before.before.before in
+    let a = g.before.before.args in
+    let ready = g.before.before.requires.ready in
+    let laid = ready.laid in
+    let h : a.g < gates a.image.now = omega arith in
+    let p = few_parameters _ ready.accepted a.g g.gate-at.result h (g.gate-at.ensures.in_image _ g.before.before.requires.ready.laid) _ c.before.before.before.before.word.ensures in
+    let q = few_arguments _ ready.accepted a.g g.gate-at.result h (g.gate-at.ensures.in_image _ g.before.before.requires.ready.laid) _ c.before.before.before.word2.ensures in
+    omega arith
+
+record-figure-requires-2 : tie.Need-record-figure-requires-2
+record-figure-requires-2 c κs = search rules
+
+returns-2 : tie.Need-returns-2
+returns-2 c =
+    let w = c.before.before.before in
+    let g = w.before.before.before in
+    let a = g.before.before.args in
+    gate_cut a.image.now a.j a.g g.gate-at.result a.rounds (g.gate-at.ensures.in_image _ g.before.before.requires.ready.laid) a.n _ _
+    _ w.before.word2.ensures w.word3.ensures c.before.before.if1.false c.before.if2.true c.record-figure2.ensures
 
 mul-i : tie.Need-overflow-mul-i
 mul-i c = search rules
@@ -100,15 +117,15 @@ capped-product-requires-2 c κs = search rules
 capped-sum-requires : tie.Need-capped-sum-requires
 capped-sum-requires c κs = search rules
 
-returns-2 : tie.Need-returns-2
-returns-2 c =
+returns-3 : tie.Need-returns-3
+returns-3 c =
     let i = c.before.before.before.before.before in
     let w = i.before.before in
     let g = w.before.before.before in
     let a = g.before.before.args in
     let pre = g.before.before.requires in
     gate_opened a.image.now a.j a.g g.gate-at.result a.rounds (g.gate-at.ensures.in_image _ g.before.before.requires.ready.laid) a.n _
-    _ _ _ _ pre.rows pre.figure w.word3.ensures i.before.if1.false (eqb-false _ _ i.if2.false)
+    _ _ _ _ pre.rows pre.figure w.word3.ensures i.before.if1.false i.if2.false
     (c.before.before.before.capped-product.ensures ∙ ap (λ (k : ℕ). capped (a.rounds * k)) c.before.before.before.before.entry-weight.ensures) c.before.capped-product2.ensures c.capped-sum.ensures
 
 pub gate-figure-spec : {M : Type 1} → statement M
@@ -126,6 +143,9 @@ gate-figure-spec =
     add-record-figure-2
     record-figure-requires
     returns
+    add-record-figure-3
+    record-figure-requires-2
+    returns-2
     mul-i
     add-i
     entry-weight-requires
@@ -134,4 +154,4 @@ gate-figure-spec =
     element-copy-out-capped-product
     capped-product-requires-2
     capped-sum-requires
-    returns-2)
+    returns-3)

@@ -1,4 +1,4 @@
-//! The linearizer of openqasm 0.1.2: its four files as published, but for two passages that build.rs alters.
+//! The linearizer of openqasm 0.1.2, its four files unchanged.
 //!
 //! Without the standard library an f32 has no `sin`, `powf`, `exp`, `ln` and `sqrt` of its own, so that
 //! value.rs calls the ones of the stand-in `num`, which tell that they were called. Feature `plain` has the

@@ -1,10 +1,8 @@
 //! compare SEED COUNT [FIRST]: the sequence unit beside the published linearizer, on random images.
 //!
-//! Of ten items six are programs, two of these with calls that repeat and two for small depths, which cut their calls;
-//! three are single expressions and one is damaged.
+//! Of ten items six are programs, three of these with calls that repeat; three are single expressions and one is damaged.
 //! Against the published linearizer a barrier is held as a set: its qubits are put in rising order, in which ours must stand.
 //! Counts by outcome are printed, and every difference with its image; the exit status is 1 if there is any.
-use oracle::image::Image;
 use oracle::published::{self, Domain, Run};
 use oracle::random::Random;
 use oracle::{generate, record_length, records, unit, with_rising_barriers, Outcome};
@@ -28,11 +26,6 @@ struct Counts {
     expressions: u64,
     programs: u64,
     repeats: u64,
-    cuts: u64,
-    cut_records: u64,
-    cut_with_angles: u64,
-    cut_refused_in_main: u64,
-    cut_refused_in_bodies: u64,
     lowered: u64,
     large: u64,
     runs: u64,
@@ -74,7 +67,6 @@ impl Comparison {
         let ample = bound.min(MOST_ROOM) as usize;
         let Some(ours) = self.compared(image, depth, ample, true) else { return };
         self.tallied(image, depth, ample, &tally[2..], &ours);
-        self.count_cut(image, depth, &ours);
         self.read(image, depth, ample, &ours.output);
         *self.counts.depths.entry(shown_depth(depth)).or_default() += 1;
         let written = ours.output.len();
@@ -151,23 +143,6 @@ impl Comparison {
         }
     }
 
-    /// Counts the cut gates of a run: their records, and the refusals for their qubits.
-    fn count_cut(&mut self, image: &[u64], depth: u64, ours: &Outcome) {
-        let image = Image::new(image);
-        let counts = &mut self.counts;
-        for record in records(&ours.output).unwrap_or_default() {
-            if record[0] == 3 && image.has_body(record[1]) {
-                counts.cut_records += 1;
-                counts.cut_with_angles += (record[2] > 0) as u64;
-            }
-        }
-        if ours.refuses_cut_gate(depth) {
-            let in_main = ours.trace.len() == 2;
-            counts.cut_refused_in_main += in_main as u64;
-            counts.cut_refused_in_bodies += !in_main as u64;
-        }
-    }
-
     /// The record reader at each position of a run's output, the end and one past it.
     fn read(&mut self, image: &[u64], depth: u64, room: usize, output: &[u64]) {
         for at in 0..output.len() + 2 {
@@ -218,16 +193,11 @@ fn main() {
         comparison.random = Random::new(seed ^ 0xC, item);
         let depth = generate::depth(&mut comparison.random);
         match item % 10 {
-            0 | 2 => {
+            0..=2 => {
                 comparison.counts.programs += 1;
                 comparison.made(&generate::program(seed, item), depth)
             }
-            1 | 5 => {
-                comparison.counts.cuts += 1;
-                let depth = generate::small_depth(&mut comparison.random);
-                comparison.made(&generate::cut_calls(seed, item), depth)
-            }
-            3 | 4 => {
+            3..=5 => {
                 comparison.counts.repeats += 1;
                 let depth = generate::cutting_depth(&mut comparison.random);
                 comparison.made(&generate::repeated_calls(seed, item), depth)
@@ -258,10 +228,9 @@ fn shown_depth(depth: u64) -> &'static str {
 
 fn report(counts: &Counts, count: u64, seconds: f64) {
     println!(
-        "{} programs, {} with calls that repeat, {} for small depths, {} single expressions",
-        counts.programs + counts.repeats + counts.cuts,
+        "{} programs, {} with calls that repeat, {} single expressions",
+        counts.programs + counts.repeats,
         counts.repeats,
-        counts.cuts,
         counts.expressions
     );
     println!("damaged images by check's answer  {}", listed(&counts.damaged));
@@ -271,14 +240,7 @@ fn report(counts: &Counts, count: u64, seconds: f64) {
         let number = if *number == 0 { "finished".into() } else { format!("refused {number}") };
         println!("  {number}{domain}{}: {count}", if *conditional { ", with a conditional" } else { "" });
     }
-    println!(
-        "records by kind  {}; a barrier's qubits are held as a set, and the unit's must rise",
-        listed(&counts.kinds)
-    );
-    println!(
-        "cut gates  records: {}  with angles: {}  refused 12 in main: {}  in bodies: {}",
-        counts.cut_records, counts.cut_with_angles, counts.cut_refused_in_main, counts.cut_refused_in_bodies
-    );
+    println!("records by kind  {}; a barrier's qubits are held as a set, and the unit's must rise", listed(&counts.kinds));
     let inside = counts.ends.iter().filter(|((_, domain, conditional), _)| *domain == Domain::Inside && !conditional);
     println!(
         "{} of {} inside document 01's domain",

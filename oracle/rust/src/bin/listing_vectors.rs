@@ -1,5 +1,4 @@
-//! listing_vectors SEED COUNT: prints COUNT listings of the published linearizer, a line each, and among them, not
-//! counted, some that are refused for the qubits of a cut gate.
+//! listing_vectors SEED COUNT: prints COUNT listings of the published linearizer, a line each.
 //!
 //! A line: the number of the image's words, the depth, the length and the checksum of the listing, the image's words.
 //! Of 48 items 39 are short programs, eight are single expressions and one is a program of up to 1,000 words. Left out:
@@ -37,8 +36,7 @@ fn has_wrapping_literal(words: &[u64]) -> bool {
     })
 }
 
-/// The most runs that end with a number, of those with a trace, of those refused for the qubits of a cut gate, and of the
-/// others: half of all finish.
+/// The most runs that end with a number, of those with a trace and of the others: half of all finish.
 fn most(number: u64, count: u64) -> u64 {
     if number == 0 {
         count / 2
@@ -69,27 +67,22 @@ fn main() {
         std::process::exit(2)
     };
     let (mut seen, mut ends, mut frames) =
-        (HashSet::new(), BTreeMap::<(u64, bool, bool), u64>::new(), BTreeMap::<usize, u64>::new());
-    let mut counted = 0;
+        (HashSet::new(), BTreeMap::<(u64, bool), u64>::new(), BTreeMap::<usize, u64>::new());
     for item in 0.. {
-        if counted == count {
+        if seen.len() as u64 == count {
             break;
         }
         let Some(image) = made(seed, item) else { continue };
         let depth = generate::depth(&mut Random::new(seed ^ 0xC, item));
         let Some(outcome) = answer(&image, depth) else { continue };
-        let of_cut_gate = outcome.refuses_cut_gate(depth);
-        let ended = ends.entry((outcome.number, !outcome.trace.is_empty(), of_cut_gate)).or_default();
+        let ended = ends.entry((outcome.number, !outcome.trace.is_empty())).or_default();
         if *ended == most(outcome.number, count) || seen.contains(&image) {
             continue;
         }
         *ended += 1;
-        counted += !of_cut_gate as u64;
         *frames.entry(outcome.trace.len() / 2).or_default() += 1;
         println!("{}", line(&image, depth, &listing(&outcome)));
         seen.insert(image);
     }
-    eprintln!(
-        "by outcome, whether there is a trace and whether it is a 12 of a cut gate {ends:?}, by frames of the trace {frames:?}"
-    );
+    eprintln!("by outcome and whether there is a trace {ends:?}, by frames of the trace {frames:?}");
 }

@@ -1,12 +1,9 @@
-//! Random images by seed: programs, programs whose calls repeat, programs for small depths, single expressions, and
-//! damaged ones.
-mod cuts;
+//! Random images by seed: programs, programs whose calls repeat, single expressions, and damaged ones.
 mod expressions;
 mod repeats;
 mod statements;
 
 use crate::random::Random;
-use cuts::Cuts;
 use expressions::Known;
 use repeats::Repeats;
 
@@ -122,20 +119,6 @@ pub fn repeated_calls(seed: u64, item: u64) -> Vec<u64> {
     unreachable!()
 }
 
-/// An accepted program for small depths, which cut its calls; one time in six it may have conditionals.
-pub fn cut_calls(seed: u64, item: u64) -> Vec<u64> {
-    for attempt in 0.. {
-        let mut random = Random::new(seed ^ 0xA ^ attempt << 56, item);
-        let conditionals = random.percent(16);
-        let wild = random.of(&[0, 0, 0, 2]);
-        let words = Cuts::new(generator(random, wild)).words(conditionals);
-        if words.len() <= MOST_WORDS {
-            return words;
-        }
-    }
-    unreachable!()
-}
-
 /// One U on one qubit, whose first angle is any expression.
 pub fn expression(seed: u64, item: u64) -> Vec<u64> {
     let mut generator = generator(Random::new(seed ^ 0xE, item), 100);
@@ -147,7 +130,7 @@ pub fn expression(seed: u64, item: u64) -> Vec<u64> {
     generator.parts.words()
 }
 
-/// A program, half of the time one whose calls repeat, with some words changed.
+/// A program of either sort with some words changed.
 pub fn damaged(seed: u64, item: u64) -> Vec<u64> {
     let mut random = Random::new(seed ^ 0xD, item);
     let mut words = if random.percent(50) { program(seed, item) } else { repeated_calls(seed, item) };
@@ -197,15 +180,6 @@ pub fn depth(random: &mut Random) -> u64 {
 pub fn cutting_depth(random: &mut Random) -> u64 {
     if random.percent(50) {
         random.within(2, 6)
-    } else {
-        depth(random)
-    }
-}
-
-/// A small depth: mostly 0 to 3, which cut calls in main and in bodies.
-pub fn small_depth(random: &mut Random) -> u64 {
-    if random.percent(80) {
-        random.within(0, 3)
     } else {
         depth(random)
     }

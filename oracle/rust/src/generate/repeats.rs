@@ -6,8 +6,8 @@
 //! turned round, and the rest has two equal qubits or, in main, a whole register in a qubit's place. One in ten calls any
 //! gate that has as many parameters and arguments.
 //!
-//! Equal qubits end a run where a CX, an opaque gate or a cut gate has them. They are rare for gates in which a CX or an
-//! opaque gate stands, and frequent for all others. Of eight gates one is opaque and one has nothing to write; some share a body. One program in
+//! Equal qubits end a run where a CX or an opaque gate has them: so they are rare for gates in which one stands, and
+//! frequent for all others. Of eight gates one is opaque and one has nothing to write; some share a body. One program in
 //! twelve has 17 to 40 gates. In one of five each gate calls the two below it, so that it is called with more levels left
 //! in one place than in another.
 use super::expressions::{DIVIDE, MINUS, NEGATE, PLUS, TIMES};
@@ -295,7 +295,11 @@ impl Repeats {
         if !scope.takes(Known { entries: known.entries + 1, ..known }, rounds) {
             return None;
         }
-        let first = self.generator.placed_parameters(&call.parameters);
+        let mut first = self.generator.parts.parameters.len() as u64;
+        self.generator.parts.parameters.extend(&call.parameters);
+        if call.parameters.is_empty() {
+            first = self.generator.random.below(first + 1);
+        }
         let statement = [3, call.gate, first, self.generator.placed(&call.arguments), 0];
         scope.calls.push(call);
         Some(statement)

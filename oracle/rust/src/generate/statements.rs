@@ -102,16 +102,6 @@ impl Generator {
         count
     }
 
-    /// Puts a run of parameters down and gives its first; an empty run starts anywhere.
-    pub(super) fn placed_parameters(&mut self, expressions: &[u64]) -> u64 {
-        let count = self.parts.parameters.len() as u64;
-        if expressions.is_empty() {
-            return self.random.below(count + 1);
-        }
-        self.parts.parameters.extend(expressions);
-        count
-    }
-
     pub(super) fn chosen(&mut self, formals: Option<u64>, count: u64) -> Option<Vec<Argument>> {
         match formals {
             Some(formals) => self.formals(formals, count),
@@ -142,7 +132,11 @@ impl Generator {
         }
         let arguments = self.chosen(formals, arguments)?;
         let expressions: Vec<u64> = (0..parameters).map(|_| self.expression()).collect();
-        let first = self.placed_parameters(&expressions);
+        let mut first = self.parts.parameters.len() as u64;
+        if expressions.is_empty() {
+            first = self.random.below(first + 1);
+        }
+        self.parts.parameters.extend(expressions);
         Some([3, gate, first, self.placed(&arguments), 0])
     }
 
