@@ -1,7 +1,7 @@
 /*
- * The operations of the sequence unit, from the static library of crate unit_words.
+ * The operations of the sequence unit, from the static library of crate unit_words_c.
  *
- *     rt staticlib unit_words  proves them and writes target/staticlib/libunit_words.a (x86-64, Linux)
+ *     tools/build unit_words   proves them and writes target/staticlib/libunit_words.a (x86-64, Linux)
  *     cc -I include program.c target/staticlib/libunit_words.a
  *
  * A word is 64 bits. An image, an output and a trace are words one behind the other, lent by the caller: a pointer
@@ -16,7 +16,7 @@
  *   - The answer, the output and the trace are written. They must not overlap each other or the image, not even
  *     where lengths are such that nothing is written. The image is only read.
  *   - The answer has as many words as stated below, all of which are written.
- *   - A run has up to 1.3 MiB of stack: 0.35 MiB, and 7.7 KiB for each gate call that it is in, at most 128 of them. Check
+ *   - A run has up to 1.3 MiB of stack: 0.37 MiB, and 7.2 KiB for each gate call that it is in, at most 128 of them. Check
  *     and tally have less than 0.1 MiB. (Measured with the kit that README.md names. The main thread and a thread of
  *     2 MiB are large enough.)
  *   - A run may be long and is not refused for it: document 01 has no number for that. Its time grows with the words
@@ -25,7 +25,7 @@
  *     run than COWHIRAME_TALLY_ENTRIES says: a caller who runs images of others can ask the tally first.
  *
  * The contract with the customer, "document 01", is what the numbers and records are taken from. What each function
- * is proved to answer stands in crates/unit_words/src/lib.rt.
+ * is proved to answer stands in crates/unit_words_c/src/lib.rt.
  */
 #ifndef COWHIRAME_H
 #define COWHIRAME_H

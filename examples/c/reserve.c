@@ -3,7 +3,7 @@
  * IMAGE holds little-endian words of 8 bytes; `cowhirame pack` makes them from text.
  *
  * Build, at the top of the repository:
- *     rt staticlib unit_words
+ *     tools/build unit_words
  *     gcc -std=c99 -Wall -Wextra -pedantic -I include -o target/reserve-c examples/c/reserve.c target/staticlib/libunit_words.a
  * Run:
  *     ./cowhirame pack examples/bell.image > target/bell.words

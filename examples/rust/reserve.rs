@@ -2,7 +2,7 @@
 //! IMAGE holds little-endian words of 8 bytes; `cowhirame pack` makes them from text.
 //!
 //! Build, at the top of the repository:
-//!     rt staticlib unit_words
+//!     tools/build unit_words
 //!     rustc -O -L target/staticlib -o target/reserve-rust examples/rust/reserve.rs
 //! Run:
 //!     ./cowhirame pack examples/bell.image > target/bell.words

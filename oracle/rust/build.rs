@@ -1,4 +1,4 @@
-//! With feature `unit`: where the static library of crate `unit_words` lies.
+//! With feature `unit`: where the static library of crate `unit_words_c` lies.
 use std::{env, process};
 
 fn main() {

@@ -1,4 +1,6 @@
-// The operations of the sequence unit for callers in other languages, with answers as words.
+// The operations of the sequence unit with answers as words, as callers in other languages get them.
+#![tactic(auto)]
+
 ghost use Rattle.std.specs.Prelude.{◌≡◌};
 ghost use Rattle.model.specs.Check.{check};
 ghost use Rattle.model.specs.Tally.{tally};
@@ -12,8 +14,7 @@ use record_reader::NextRecord;
 use tally::Tallied;
 
 // The number and the place of what the check finds, 0 0 if the image is accepted.
-#[unsafe(no_mangle)]
-pub extern "C" fn cowhirame_check(image: &[u64], answer: &mut [u64; 2])
+pub fn cowhirame_check(image: &[u64], answer: &mut [u64; 2])
     ensures { answer.new ≡ check_words (check image.now) }
 {
     let checked = unit::check(image);
@@ -56,16 +57,14 @@ fn tally_words(t: Tallied) -> [u64; 11]
 }
 
 // The tally's number and place, and the nine figures.
-#[unsafe(no_mangle)]
-pub extern "C" fn cowhirame_tally(image: &[u64], depth: u64, answer: &mut [u64; 11])
+pub fn cowhirame_tally(image: &[u64], depth: u64, answer: &mut [u64; 11])
     ensures { answer.new ≡ tally_words (tally image.now depth) }
 {
     *answer = tally_words(unit::tally(image, depth));
 }
 
 // The run's number, place and second place, then how many records, output words and trace words are written.
-#[unsafe(no_mangle)]
-pub extern "C" fn cowhirame_run(
+pub fn cowhirame_run(
     image: &[u64],
     depth: u64,
     out: &mut [u64],
@@ -99,8 +98,7 @@ fn next_words(found: NextRecord) -> [u64; 2]
 }
 
 // What stands at a position of some words: a number, and the length of a record.
-#[unsafe(no_mangle)]
-pub extern "C" fn cowhirame_next(words: &[u64], at: usize, answer: &mut [u64; 2])
+pub fn cowhirame_next(words: &[u64], at: usize, answer: &mut [u64; 2])
     ensures { answer.new ≡ next_words (next_of (next_at words.now at)) }
 {
     *answer = next_words(unit::next_at(words, at));

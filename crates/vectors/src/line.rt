@@ -6,28 +6,28 @@ ghost use Rattle.vectors.specs.Room.{InRoom};
 pub const WORDS_ROOM: usize = 65600;
 
 // A number, and where its digits end.
-#[derive(Drop)]
+#[derive(Clone, Copy)]
 pub enum Decimal {
     Number(u64, usize),
     Malformed,
 }
 
 // Where the numbers before the words end.
-#[derive(Drop)]
+#[derive(Clone, Copy)]
 enum Leading {
     End(usize),
     Malformed,
 }
 
 // How many equal words, the word, and where the text of them ends.
-#[derive(Drop)]
+#[derive(Clone, Copy)]
 enum EqualWords {
     Words(u64, u64, usize),
     Malformed,
 }
 
 // How many words a line has.
-#[derive(Drop)]
+#[derive(Clone, Copy)]
 pub enum Words {
     Read(usize),
     Malformed,

@@ -7,7 +7,7 @@ use rational::Rational64;
 use value::Value;
 
 // An operation with its operands and its result. The angles are as written, in lowest terms or not.
-#[derive(Drop)]
+#[derive(Clone, Copy)]
 pub struct Vector {
     pub op: u64,
     pub x: Value,
@@ -16,14 +16,14 @@ pub struct Vector {
     pub result: Value,
 }
 
-#[derive(Drop)]
+#[derive(Clone, Copy)]
 pub enum Parsed {
     Vector(Vector),
     Malformed,
 }
 
 // Whether a number is negative, its magnitude, and where its digits end.
-#[derive(Drop)]
+#[derive(Clone, Copy)]
 enum Field {
     Number(bool, u64, usize),
     Malformed,

@@ -10,7 +10,7 @@ use rational::{Rational64, WholeRoot};
 use value::{Evaluation, Value};
 
 // A case with the four numbers of a result, or operands that the operation does not take.
-#[derive(Drop)]
+#[derive(Clone, Copy)]
 enum NumberResult {
     Result(u64, Value),
     Unfit,

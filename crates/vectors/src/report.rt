@@ -1,9 +1,9 @@
 // What a replay writes to standard output.
 use crate::sort::Sort;
-use libc::STDOUT_FILENO;
+use std::io;
 
 // How the replay of a line ended.
-#[derive(Drop)]
+#[derive(Clone, Copy)]
 pub enum Replayed {
     Agrees,
     Differs,
@@ -18,52 +18,47 @@ pub fn agreement(agrees: bool) -> Replayed {
     Replayed::Differs
 }
 
-// Writes some bytes.
-fn say(words: &[u8]) {
-    io::write_all(STDOUT_FILENO, words);
-}
-
 // Writes a line that ends in a number.
-fn say_number(words: &[u8], number: u64) {
-    say(words);
-    io::print_decimal(STDOUT_FILENO, number);
-    say(b"\n");
+fn say_number(rt: &impl Print, words: &[u8], number: u64) -> io::Result<()> {
+    rt.write_all(words)?;
+    rt.print(number)?;
+    rt.write_all(b"\n")
 }
 
-pub fn say_malformed(line_number: u64) {
-    say_number(b"malformed line ", line_number);
+pub fn say_malformed(rt: &impl Print, line_number: u64) -> io::Result<()> {
+    say_number(rt, b"malformed line ", line_number)
 }
 
-pub fn say_differs(line_number: u64) {
-    say_number(b"differs at line ", line_number);
+pub fn say_differs(rt: &impl Print, line_number: u64) -> io::Result<()> {
+    say_number(rt, b"differs at line ", line_number)
 }
 
-pub fn say_ends_within(line_number: u64) {
-    say_number(b"the file ends within line ", line_number);
+pub fn say_ends_within(rt: &impl Print, line_number: u64) -> io::Result<()> {
+    say_number(rt, b"the file ends within line ", line_number)
 }
 
 // Writes a line on a file.
-pub fn say_of_file(name: &[u8], what: &[u8]) {
-    say(name);
-    say(what);
+pub fn say_of_file(rt: &impl Print, name: &[u8], what: &[u8]) -> io::Result<()> {
+    rt.write_all(name)?;
+    rt.write_all(what)
 }
 
 // Writes what the vectors of a sort are called, with the spaces and the comma of the report.
-fn say_sort(sort: Sort) {
+fn say_sort(rt: &impl Print, sort: Sort) -> io::Result<()> {
     match sort {
-        Sort::Numbers => say(b" vectors, "),
-        Sort::Images => say(b" images, "),
-        Sort::Tallies => say(b" tallies, "),
-        Sort::Runs => say(b" runs, "),
-        Sort::Listings => say(b" listings, "),
-        Sort::Answers => say(b" answers, "),
+        Sort::Numbers => rt.write_all(b" vectors, "),
+        Sort::Images => rt.write_all(b" images, "),
+        Sort::Tallies => rt.write_all(b" tallies, "),
+        Sort::Runs => rt.write_all(b" runs, "),
+        Sort::Listings => rt.write_all(b" listings, "),
+        Sort::Answers => rt.write_all(b" answers, "),
     }
 }
 
 // Writes how many vectors of a sort there are, and how many agree.
-pub fn say_counts(sort: Sort, all: u64, agree: u64) {
-    io::print_decimal(STDOUT_FILENO, all);
-    say_sort(sort);
-    io::print_decimal(STDOUT_FILENO, agree);
-    say(b" agree\n");
+pub fn say_counts(rt: &impl Print, sort: Sort, all: u64, agree: u64) -> io::Result<()> {
+    rt.print(all)?;
+    say_sort(rt, sort)?;
+    rt.print(agree)?;
+    rt.write_all(b" agree\n")
 }

@@ -1,5 +1,5 @@
 // The sorts of vectors. A file is named after the sort of its vectors.
-#[derive(Drop)]
+#[derive(Clone, Copy)]
 pub enum Sort {
     Numbers,
     Images,
@@ -9,7 +9,7 @@ pub enum Sort {
     Answers,
 }
 
-#[derive(Drop)]
+#[derive(Clone, Copy)]
 pub enum Named {
     Sort(Sort),
     Unknown,

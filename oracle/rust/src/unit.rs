@@ -1,4 +1,4 @@
-//! The sequence unit's operations, from the static library of crate `unit_words`.
+//! The sequence unit's operations, from the static library of crate `unit_words_c`.
 use crate::random::Random;
 use crate::Outcome;
 

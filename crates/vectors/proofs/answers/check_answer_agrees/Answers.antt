@@ -1,0 +1,10 @@
+-- The part of the text that was answered is compared.
+use mathlib.Core.Path.{sym}
+use lib.Seq.{length-take-le}
+use Rattle.vectors.proofs.answers.check_answer_agrees.Goals as goal
+
+pub slice_bounds-text-end : goal.slice_bounds-text-end
+slice_bounds-text-end c = c.check_answer-n.ensures.inside
+
+pub slice_bounds-has_bytes-end : goal.slice_bounds-has_bytes-end
+slice_bounds-has_bytes-end c = sym (length-take-le _ _ c.check_answer-n.ensures.inside)
