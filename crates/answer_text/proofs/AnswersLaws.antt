@@ -17,7 +17,7 @@ use Rattle.text.specs.Put.{Put}
 use Rattle.text.proofs.PutLaws.{put_same}
 use Rattle.model.proofs.WordsOfLaws.{too_long, at_most_same, at_most_fits, read_front, parted}
 use Rattle.text.specs.NumberLine.{numbers_line}
-use Rattle.answer_text.specs.Answers.{checkLine, tallyLine, checkAnswer, tallyAnswer}
+use Rattle.answer_text.specs.Answers.{check_line, tally_line, check_answer, tally_answer}
 
 -- ---- how many words an answer has
 
@@ -41,19 +41,19 @@ tally_eleven image depth e = go (check image) (all (λ n. leb n 4294967295) (fig
 
 pub check_put : (input : List ℕ) {n end : ℕ} {image answer text text' : List ℕ} → n ≡ min (length input / 8) 8193
     → image ≡ sets (replicate 8193 0) 0 (words_of n (drop 0 input)) → answer ≡ check_words (check (take n image)) → Put (numbers_line answer) text 0 end text'
-    → Put (checkLine input) text 0 end text'
+    → Put (check_line input) text 0 end text'
 check_put input {n} e r a p =
     put_same
     (ap numbers_line (a ∙ ap (λ (l : List ℕ). check_words (check l)) (read_front (replicate 8193 0) (drop 0 input) (at_most_fits (length input / 8) 8193 e) r)
     ∙ ap check_words (at_most_same check (bad 1 0) too_long (length input / 8) n input e)))
     p
 
-pub check_within_word : (bytes : List ℕ) → ¬ (length bytes % 8 ≡ 0) → numbers_line (1 ∷ 0 ∷ []) ≡ checkAnswer bytes
-unfolding checkAnswer
+pub check_within_word : (bytes : List ℕ) → ¬ (length bytes % 8 ≡ 0) → numbers_line (1 ∷ 0 ∷ []) ≡ check_answer bytes
+unfolding check_answer
 check_within_word bytes h = rw (ne_eqb (length bytes % 8) 0 h) refl
 
-pub check_whole : (bytes : List ℕ) → length bytes % 8 ≡ 0 → checkLine bytes ≡ checkAnswer bytes
-unfolding checkAnswer
+pub check_whole : (bytes : List ℕ) → length bytes % 8 ≡ 0 → check_line bytes ≡ check_answer bytes
+unfolding check_answer
 check_whole bytes h = rw (eq-eqb (length bytes % 8) 0 h) refl
 
 -- ---- the tally
@@ -68,19 +68,19 @@ tallied_image input = words_of (length input / 8 - 1) (drop 8 input)
 pub tally_put : (input : List ℕ) {n depth end : ℕ} {image answer text text' : List ℕ} → n ≡ min (length input / 8 - 1) 8193
     → image ≡ sets (replicate 8193 0) 0 (words_of n (drop 8 input)) → depth ≡ little_endian (take 8 (drop 0 input))
     → answer ≡ tally_words (tally (take n image) depth) → Put (numbers_line answer) text 0 end text'
-    → Put (tallyLine input) text 0 end text'
+    → Put (tally_line input) text 0 end text'
 tally_put input {n} {depth} e r d a p =
     put_same
     (ap numbers_line (a ∙ ap (λ (l : List ℕ). tally_words (tally l depth)) (read_front (replicate 8193 0) (drop 8 input) (at_most_fits (length input / 8 - 1) 8193 e) r)
     ∙ ap tally_words (at_most_same (λ (l : List ℕ). tally l depth) (refused 1 0) (long_tally depth) (length input / 8 - 1) n (drop 8 input) e ∙ ap (tally (tallied_image input)) d)))
     p
 
-pub tally_within_word : (bytes : List ℕ) → ¬ (length bytes % 8 ≡ 0) → numbers_line (tally_words (refused 1 0)) ≡ tallyAnswer bytes
-unfolding tallyAnswer
+pub tally_within_word : (bytes : List ℕ) → ¬ (length bytes % 8 ≡ 0) → numbers_line (tally_words (refused 1 0)) ≡ tally_answer bytes
+unfolding tally_answer
 tally_within_word bytes h = rw (ne_eqb (length bytes % 8) 0 h) refl
 
-pub tally_empty : (bytes : List ℕ) → length bytes < 8 → numbers_line (tally_words (refused 1 0)) ≡ tallyAnswer bytes
-unfolding tallyAnswer
+pub tally_empty : (bytes : List ℕ) → length bytes < 8 → numbers_line (tally_words (refused 1 0)) ≡ tally_answer bytes
+unfolding tally_answer
 tally_empty bytes h = go (eqb (length bytes % 8) 0)
   where
     go : (b : Bool) → numbers_line (tally_words (refused 1 0))
@@ -88,7 +88,7 @@ tally_empty bytes h = go (eqb (length bytes % 8) 0)
     go true = rw (lt-leb 8 (length bytes) h) refl
     go false = refl
 
-pub tally_whole : (bytes : List ℕ) → length bytes % 8 ≡ 0 → 8 ≤ length bytes → tallyLine bytes ≡ tallyAnswer bytes
-unfolding tallyAnswer
+pub tally_whole : (bytes : List ℕ) → length bytes % 8 ≡ 0 → 8 ≤ length bytes → tally_line bytes ≡ tally_answer bytes
+unfolding tally_answer
 tally_whole bytes h k =
     rw (eq-eqb (length bytes % 8) 0 h, le-leb 8 (length bytes) k) (parted (λ (l : List ℕ) (n : ℕ). numbers_line (tally_words (tally l n))) bytes (omega arith))

@@ -1,11 +1,13 @@
 // Answers as a line of numbers: the check of an image, and its tally.
+#![tactic(auto)]
+
 ghost use Rattle.std.specs.Prelude.{◌≡◌, ◌≤◌, length};
 ghost use Rattle.model.specs.Refusals as number;
 ghost use Rattle.model.specs.Tally.{refused};
 ghost use Rattle.unit_words.specs.AnswerWords.{tally_words};
 ghost use Rattle.text.specs.Put.{Put, InFront};
 ghost use Rattle.text.specs.NumberLine.{numbers_line};
-ghost use Rattle.answer_text.specs.Answers.{checkLine, tallyLine, checkAnswer, tallyAnswer};
+ghost use Rattle.answer_text.specs.Answers.{check_line, tally_line, check_answer, tally_answer};
 
 use image::refusal;
 
@@ -21,7 +23,7 @@ pub fn line_room() -> [u8; 256]
 // Puts the line of the check for the image that the input is.
 fn put_check(text: &mut [u8], input: &[u8]) -> usize
     requires { 256 ≤ length text.old }
-    ensures { Put (checkLine input.now) text.old 0 result text.new }
+    ensures { Put (check_line input.now) text.old 0 result text.new }
 {
     let mut image = [0u64; text::WORDS_LOOKED_AT];
     let mut answer = [0u64; 2];
@@ -34,7 +36,7 @@ fn put_check(text: &mut [u8], input: &[u8]) -> usize
 // Puts the answer of the check to some input.
 fn put_check_answer(text: &mut [u8], input: &[u8]) -> usize
     requires { 256 ≤ length text.old }
-    ensures { Put (checkAnswer input.now) text.old 0 result text.new }
+    ensures { Put (check_answer input.now) text.old 0 result text.new }
 {
     if input.len() % text::WORD_BYTES != 0 {
         return text::put_number_line(text, &[refusal::CONTENTS, 0]);
@@ -44,7 +46,7 @@ fn put_check_answer(text: &mut [u8], input: &[u8]) -> usize
 
 // Puts the answer of the check to some input in front of a text, and answers its length.
 pub fn check_answer(input: &[u8], text: &mut [u8; 256]) -> usize
-    ensures { InFront (checkAnswer input.now) text.old result text.new }
+    ensures { InFront (check_answer input.now) text.old result text.new }
 {
     put_check_answer(text, input)
 }
@@ -54,7 +56,7 @@ pub fn check_answer(input: &[u8], text: &mut [u8; 256]) -> usize
 // Puts the line of the tally for the depth that the input begins with and the image behind it.
 fn put_tally(text: &mut [u8], input: &[u8]) -> usize
     requires { (256 ≤ length text.old) × (8 ≤ length input.now) }
-    ensures { Put (tallyLine input.now) text.old 0 result text.new }
+    ensures { Put (tally_line input.now) text.old 0 result text.new }
 {
     let mut image = [0u64; text::WORDS_LOOKED_AT];
     let mut answer = [0u64; 11];
@@ -76,7 +78,7 @@ fn put_malformed_tally(text: &mut [u8]) -> usize
 // Puts the answer of the tally to some input.
 fn put_tally_answer(text: &mut [u8], input: &[u8]) -> usize
     requires { 256 ≤ length text.old }
-    ensures { Put (tallyAnswer input.now) text.old 0 result text.new }
+    ensures { Put (tally_answer input.now) text.old 0 result text.new }
 {
     let n = input.len();
     if n % text::WORD_BYTES != 0 {
@@ -90,7 +92,7 @@ fn put_tally_answer(text: &mut [u8], input: &[u8]) -> usize
 
 // Puts the answer of the tally to some input in front of a text, and answers its length.
 pub fn tally_answer(input: &[u8], text: &mut [u8; 256]) -> usize
-    ensures { InFront (tallyAnswer input.now) text.old result text.new }
+    ensures { InFront (tally_answer input.now) text.old result text.new }
 {
     put_tally_answer(text, input)
 }

@@ -160,16 +160,16 @@ module _ {image : List ℕ} {l : Layout} {register-starts : List ℕ} {scope : �
     low = omega (arith, s.laid.arguments_is, s.laid.whole, s.laid.short)
 
     module _ (k : T (argument_ok image scope a)) where
-      pub frame-qubit : {r : ℕ} → r ≡ word image at → ¬ (scope ≡ 0) → (r < 16) × (◌≡◌ {A = Argument} (record { first = get_or qubits r 0; size = 1 }) (resolved a))
-      frame-qubit e h =
+      pub frame_qubit : {r : ℕ} → r ≡ word image at → ¬ (scope ≡ 0) → (r < 16) × (◌≡◌ {A = Argument} (record { first = get_or qubits r 0; size = 1 }) (resolved a))
+      frame_qubit e h =
           let read = e ∙ ap (word image) ea in (
             subst (λ (n : ℕ). n < 16) (sym read) (body_register image s.accepted qubits a scope _ s.frame h k),
             same_argument (ap (λ (n : ℕ). get_or qubits n 0) read ∙ body_first image s.accepted qubits a scope h k) (body_size image s.accepted qubits a scope h),
           )
 
-      pub quantum-argument-is : {c : ℕ} → c ≡ 9 → scope ≡ 0 → register_argument image c at ≡ resolved a
+      pub quantum_argument_is : {c : ℕ} → c ≡ 9 → scope ≡ 0 → register_argument image c at ≡ resolved a
       unfolding first_qubit
-      quantum-argument-is e h =
+      quantum_argument_is e h =
           ap₂ (register_argument image) e ea
           ∙ same_argument (main_first image s.accepted qubits a scope (take (scope_qubits image scope) qubits) h) (main_size image s.accepted qubits a scope h)
 
@@ -182,7 +182,7 @@ module _ {image : List ℕ} {l : Layout} {register-starts : List ℕ} {scope : �
             starts = subst (λ (n : ℕ). RegisterStarts (λ i. word image (n + i)) (quantum_registers image) register-starts) (sym e) s.starts;
             few = few_quantum s.accepted;
             listed = subst (λ (n : ℕ). word image n < quantum_registers image) (sym ea) m.0;
-            below = subst (λ (x : Argument). x.first < 4096) (sym (quantum-argument-is e h)) (first_below a k);
+            below = subst (λ (x : Argument). x.first < 4096) (sym (quantum_argument_is e h)) (first_below a k);
             near = (omega arith, low);
           }
 

@@ -4,7 +4,7 @@ use native.Mathlib.Numerals.{add-one}
 use native.Mathlib.Omega.{arith}
 use mathlib.Core.Path.{◌≡◌, refl, sym, ap, ap₂, subst, ◌∙◌}
 use mathlib.Core.Bool.{◌||◌}
-use mathlib.Core.List.{List, [], ◌∷◌, ◌++◌, map, map_append}
+use mathlib.Core.List.{List, [], ◌∷◌, ◌++◌, map, map-append}
 use lib.Dec.{T, eqb}
 use lib.ListN.{length, get_or, set, take, length-set}
 use lib.Seq.{take-suc-set}
@@ -20,7 +20,7 @@ use Rattle.argument.specs.Frames.{scope_frame, ScopeContext, CallArguments, Roun
 use Rattle.argument.proofs.ArgumentLaws.{few_rounds}
 
 map_snoc : (f : ℕ → ℕ) (a n : ℕ) → map f (range a (n + 1)) ≡ map f (range a n) ++ f (a + n) ∷ []
-map_snoc f a n = ap (map f) (range_snoc a n) ∙ map_append f (range a n) ((a + n) ∷ [])
+map_snoc f a n = ap (map f) (range_snoc a n) ∙ map-append f (range a n) ((a + n) ∷ [])
 
 module _ (image : List ℕ) (scope : ℕ) (qubits : List ℕ) (a i : ℕ) where
   pub qubits_none : {q : List ℕ} → length q ≡ 16 → RoundQubits image scope qubits a 0 i q

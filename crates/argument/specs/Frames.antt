@@ -4,7 +4,7 @@ use Rattle.value.specs.declared.Value.{Value}
 use Rattle.model.specs.Limits.{most_words, most_arguments, most_elements}
 use Rattle.model.specs.Lists.{range, sum, all}
 use Rattle.model.specs.Check.{argument_ok, classical_argument_ok, matching}
-use Rattle.model.specs.Image.{word, quantum_size, classical_size, quantum_registers, classical_registers, gate_arguments, variables, argument_size, classical_argument_size, argument_register, argument_index, first_bit}
+use Rattle.model.specs.Image.{word, quantum_size, quantum_registers, gate_arguments, variables, argument_size, classical_argument_size, argument_register, argument_index, first_bit}
 use Rattle.model.specs.Steps.{Frame, resolve_qreg, qubit_in}
 use Rattle.model.specs.Accepted.{Accepted, FrameOk}
 use Rattle.image.specs.declared.Layout.{Layout}

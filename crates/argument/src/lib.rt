@@ -1,4 +1,6 @@
 // Finds the qubits and bits of an argument: in main a part of a register or the whole, in a body a qubit of the frame.
+#![tactic(auto)]
+
 ghost use Rattle.std.specs.Prelude.{◌≡◌, ◌^◌, ◌<◌};
 ghost use Rattle.model.specs.Lists.{range};
 ghost use Rattle.model.specs.Image.{rounds};
@@ -7,7 +9,7 @@ ghost use Rattle.argument.specs.Frames.{ScopeContext, BitContext, AcceptedArgume
 use image::Layout;
 
 // An argument's first qubit or bit, and its size.
-#[derive(Drop)]
+#[derive(Clone, Copy)]
 pub struct Argument {
     pub first: u64,
     pub size: u64,

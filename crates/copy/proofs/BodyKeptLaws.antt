@@ -1,6 +1,6 @@
 -- What the words of a finished body, standing in the output, say of a later call of its gate.
 use Prim.Native.Nat.{ℕ, zero, suc, ◌+◌, ◌-◌, ◌≤◌, ◌<◌}
-use native.Mathlib.Nat.{add_zero, le_refl}
+use native.Mathlib.Nat.{add-zero, le_refl}
 use mathlib.Core.Logic.{◌⊎◌, inl, inr}
 use native.Mathlib.Omega.{arith}
 use mathlib.Core.Path.{◌≡◌, refl, sym, ap, ap₂, ◌∙◌}
@@ -188,8 +188,8 @@ silent_stays {ss} h p f =
     let s = silent_plays (room p) h in
     record {
       contents = ap (λ l. sets p.out p.words (flat_map encode l)) (sym s.0);
-      position = sym (add_zero p.words) ∙ ap (λ l. p.words + length (flat_map encode l)) (sym s.0);
-      counts = sym (add_zero p.records) ∙ ap (λ l. p.records + length l) (sym s.0);
+      position = sym (add-zero p.words) ∙ ap (λ l. p.words + length (flat_map encode l)) (sym s.0);
+      counts = sym (add-zero p.records) ∙ ap (λ l. p.records + length l) (sym s.0);
       answers = sym s.1;
       fits = f;
       same = refl;

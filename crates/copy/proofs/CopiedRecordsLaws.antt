@@ -1,6 +1,6 @@
 -- Records that are copied in turn: how many are, that the next one stands whole, and that the words say which copy it is.
 use Prim.Native.Nat.{ℕ, ◌+◌, ◌-◌, ◌≤◌, ◌<◌}
-use native.Mathlib.Nat.{add_zero}
+use native.Mathlib.Nat.{add-zero}
 use native.Mathlib.Omega.{arith}
 use mathlib.Core.Path.{◌≡◌, refl, sym, ap, ap₂, ◌∙◌}
 use mathlib.Core.List.{List, [], ◌∷◌, ◌++◌, map, flat_map, append_assoc, append-nil}
@@ -38,20 +38,20 @@ module _ (r : ℕ → ℕ) (out : List ℕ) (from : ℕ) where
     word_there i h = sym (get_or-drop from out i 0) ∙ sym (get_or-take (length (encode x)) (drop from out) i 0 h) ∙ ap (λ l. get_or l i 0) there
 
     first_there : 0 < length (encode x) → get_or out from 0 ≡ get_or (encode x) 0 0
-    first_there h = ap (λ k. get_or out k 0) (sym (add_zero from)) ∙ word_there 0 h
+    first_there h = ap (λ k. get_or out k 0) (sym (add-zero from)) ∙ word_there 0 h
 
     -- the words of a record are some words and others after them
     module _ (front back : List ℕ) (parts : encode x ≡ front ++ back) where
       long : length (encode x) ≡ length front + length back
       long = ap length parts ∙ length-append front back
 
-      front-there : take (length front) (drop from out) ≡ front
-      front-there =
+      front_there : take (length front) (drop from out) ≡ front
+      front_there =
           sym (take-take (length front) (length (encode x)) (drop from out) (omega (arith, long))) ∙ ap (take (length front)) (there ∙ parts)
           ∙ take_at front back (length front) refl
 
-      back-there : take (length back) (drop (from + length front) out) ≡ back
-      back-there =
+      back_there : take (length back) (drop (from + length front) out) ≡ back
+      back_there =
           ap (take (length back)) (sym (drop-drop (length front) from out)) ∙ sym (drop_take_add (length front) (length back) (drop from out))
           ∙ ap (λ n. drop (length front) (take n (drop from out))) (sym long) ∙ ap (drop (length front)) (there ∙ parts) ∙ drop_at front back (length front) refl
 
@@ -62,7 +62,7 @@ module _ (r : ℕ → ℕ) (out : List ℕ) (from : ℕ) where
             whole = length_gate out from k ∙ ap₂ ◌+◌ f c ∙ sym long;
             copied =
                 words_gate out from k r ∙ ap₂ (λ a b. take a (drop from out) ++ map r (take b (drop (from + a) out))) f c
-                ∙ ap₂ (λ a b. a ++ map r b) front-there back-there ∙ sym e;
+                ∙ ap₂ (λ a b. a ++ map r b) front_there back_there ∙ sym e;
           }
 
   body_read : (x : Record) → take (length (encode x)) (drop from out) ≡ encode x → BodyRecord x → Read r out from x
@@ -85,7 +85,7 @@ module _ (r : ℕ → ℕ) (out : List ℕ) (from : ℕ) where
   body_read x there (body_barrier {qs}) =
       let e = first_there x there (omega arith) in
       let n : barrier_count out from ≡ length qs = word_there x there 1 (omega arith) in
-      let qubits : barrier_qubits out from ≡ qs = ap (λ k. take k (drop (from + 2) out)) n ∙ back-there x there (4 ∷ length qs ∷ []) qs refl in
+      let qubits : barrier_qubits out from ≡ qs = ap (λ k. take k (drop (from + 2) out)) n ∙ back_there x there (4 ∷ length qs ∷ []) qs refl in
       record {
         whole = omega (arith, length_barrier out from e, n);
         copied = words_barrier out from e r ∙ ap (λ l. encode (Record.Barrier (rising (map r l)))) qubits;
@@ -125,7 +125,7 @@ module _ (r : ℕ → ℕ) where
           each_before = nil;
           each_rest = h.each;
           stands = h.stands;
-          read = sym (add_zero from);
+          read = sym (add-zero from);
           inside = omega arith;
           counted = refl;
           few = omega arith;
@@ -184,17 +184,17 @@ module _ (r : ℕ → ℕ) where
                 };
           }
 
-      copying-next : at < from + words → RecordAtHand at written out'
+      copying_next : at < from + words → RecordAtHand at written out'
       unfolding flat_map
-      copying-next h = go c.rest refl c.each_rest
+      copying_next h = go c.rest refl c.each_rest
         where
           go : (l : List Record) → c.rest ≡ l → All BodyRecord l → RecordAtHand at written out'
           go [] e k = absurd (omega (arith, all_words, ap (λ l. length (flat_map encode l)) e, c.read))
           go (x ∷ rest) e k = step x rest e k
 
-      pub copying-done : from + words ≤ at → RecordsCopied r out from words to written out'
+      pub copying_done : from + words ≤ at → RecordsCopied r out from words to written out'
       unfolding flat_map encode
-      copying-done h = go c.rest refl
+      copying_done h = go c.rest refl
         where
           go : (l : List Record) → c.rest ≡ l → RecordsCopied r out from words to written out'
           go [] e =
@@ -208,20 +208,20 @@ module _ (r : ℕ → ℕ) where
           go (x ∷ rest) e = absurd (omega (arith, all_words, ap (λ l. length (flat_map encode l)) e ∙ length-append (encode x) (flat_map encode rest), c.read))
 
       module _ (h : at < from + words) where
-        read_at : Read r out' at (copying-next h).it
-        read_at = let x = copying-next h in body_read r out' at x.it x.there x.body
+        read_at : Read r out' at (copying_next h).it
+        read_at = let x = copying_next h in body_read r out' at x.it x.there x.body
 
         -- it has room at the end of the copy
-        pub copy-place : LaterPlace out' at (to + written) (body_record_length out' at)
-        copy-place =
+        pub copy_place : LaterPlace out' at (to + written) (body_record_length out' at)
+        copy_place =
             let e = read_at.whole in
-            let k = (copying-next h).inside in
+            let k = (copying_next h).inside in
             record { after = omega (arith, place.after); fits = omega (arith, c.few, c.same, place.fits) }
 
         -- and is copied there
-        pub copy-later : {n m : ℕ} {out'' : List ℕ} → n ≡ body_record_length out' at → WordsPut out' (to + written) (renamed_words r out' at) m out'' → CopiedSoFar r out from words to (at + n) (written + m) out''
-        copy-later {n} {m} {out''} e w =
-            let x = copying-next h in
+        pub copy_later : {n m : ℕ} {out'' : List ℕ} → n ≡ body_record_length out' at → WordsPut out' (to + written) (renamed_words r out' at) m out'' → CopiedSoFar r out from words to (at + n) (written + m) out''
+        copy_later {n} {m} {out''} e w =
+            let x = copying_next h in
             let k = x.later (rw read_at.copied at w) in
             rw (e, read_at.whole) k
 

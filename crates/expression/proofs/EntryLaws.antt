@@ -1,13 +1,13 @@
 -- What the check says of an accepted expression entry, for the evaluator.
+use types.Run.{OneOf}
+use denote.Enum.Declared.{tag_of}
+use Rattle.value.specs.contracts.Evaluation.{the_type}
+use mathlib.Core.Logic.{⊎_elim}
 use Prim.Native.Nat.{ℕ, zero, suc, ◌+◌, ◌-◌, ◌≤◌, ◌<◌, ◌^◌}
 use borrow.Author.Tests.{ltb-true, ltb-false}
-use mathlib.Core.Logic.{⊎_elim}
 use Rattle.value.specs.declared.Evaluation.{Evaluation}
 use Rattle.value.specs.declared.Evaluation.TheVariants as evaluation
 use Rattle.value.specs.Value.{and_then}
-use Rattle.value.specs.contracts.Evaluation.{the_type}
-use denote.Enum.Declared.{tag_of}
-use types.Run.{OneOf}
 use native.Mathlib.Omega.{arith}
 use mathlib.Core.Path.{◌≡◌, refl, sym, ap, ap₂, ◌∙◌, subst}
 use mathlib.Core.Bool.{Bool, true, false}
@@ -89,8 +89,8 @@ Refused r = OneOf (1 ∷ 2 ∷ 3 ∷ 4 ∷ []) (tag_of the_type r)
 pub no_value : (r : Evaluation) → Refused r → NoValue r
 no_value r k x e = absurd (⊎_elim (λ e. omega arith) (λ h. ⊎_elim (λ e. omega arith) (λ i. ⊎_elim (λ e. omega arith) (λ e. omega arith) i) h) (subst Refused e k))
 
-stays : (r : Evaluation) (f : Value → Evaluation) → Refused r → r ≡ and_then r f
-stays (evaluation.Value x) f k = absurd (no_value _ k x refl)
+stays : (r : Evaluation) (f : Value → Evaluation) → NoValue r → r ≡ and_then r f
+stays (evaluation.Value x) f k = absurd (k x refl)
 stays evaluation.DivideByZero f k = refl
 stays evaluation.Overflow f k = refl
 stays (evaluation.ApproximateFail x) f k = refl
@@ -129,7 +129,7 @@ module _ (values : List Value) (op : ℕ → Evaluation) (a b : ℕ) where
       (o.0, sym (ap (λ (n : ℕ). expression_of n a b) same) ∙ o.1)
 
   -- "The left operand's refusal wins."
-  pub left_refuses : (kind : ℕ) (r : Evaluation) → 4 ≤ kind → kind < 16 → op a ≡ r → Refused r → r ≡ value_of values op (expression_of kind a b)
+  pub left_refuses : (kind : ℕ) (r : Evaluation) → 4 ≤ kind → kind < 16 → op a ≡ r → NoValue r → r ≡ value_of values op (expression_of kind a b)
   unfolding value_of
   left_refuses kind r h l e k = go (ltb kind 9) refl
     where
@@ -137,7 +137,7 @@ module _ (values : List Value) (op : ℕ → Evaluation) (a b : ℕ) where
       go true s = let o = binop kind h (ltb-true kind 9 s) in sym (rw (o.1, e) (sym (stays r _ k)))
       go false s = let o = unop_of kind (ltb-false kind 9 s) l in sym (rw (o.1, e) (sym (stays r _ k)))
 
-  pub right_refuses : (kind : ℕ) (x : Value) (r : Evaluation) → 4 ≤ kind → kind < 9 → op a ≡ evaluation.Value x → op b ≡ r → Refused r → r ≡ value_of values op (expression_of kind a b)
+  pub right_refuses : (kind : ℕ) (x : Value) (r : Evaluation) → 4 ≤ kind → kind < 9 → op a ≡ evaluation.Value x → op b ≡ r → NoValue r → r ≡ value_of values op (expression_of kind a b)
   unfolding value_of
   right_refuses kind x r h l d e k = let o = binop kind h l in sym (rw (o.1, d, e) (sym (stays r _ k)))
 

@@ -62,8 +62,8 @@ module _ (image : List ℕ) (angles : List Value) where
         record {
           constants = record { room = subst (λ (n : ℕ). 7 * expressions image ≤ n) (sym s.same) k.constants.room; each = λ i l m. (constant i l m (eqb i e) refl).0; sound = λ i l m. (constant i l m (eqb i e) refl).1 };
           marks = subst (λ (n : ℕ). expressions image ≤ n) (sym (ap length s.marked ∙ length-set known e true)) k.marks;
-          each = λ i l m. (known-now i l m (eqb i e) refl).0;
-          sound = λ i l m. (known-now i l m (eqb i e) refl).1;
+          each = λ i l m. (known_now i l m (eqb i e) refl).0;
+          sound = λ i l m. (known_now i l m (eqb i e) refl).1;
         }
       where
         here : evaluate image angles 32 e ≡ evaluation.Value (kept_at t' e)
@@ -82,9 +82,9 @@ module _ (image : List ℕ) (angles : List Value) where
             let before : constant_at t i ≡ 1 = sym (s.constants i) ∙ m in
             (λ xs. k.constants.each i l before xs ∙ ap evaluation.Value (sym (s.others i n)), rw (s.others i n) (k.constants.sound i l before))
 
-        known-now : (i : ℕ) → i < expressions image → get_or known' i false ≡ true → (b : Bool) → eqb i e ≡ b → (evaluate image angles 32 i ≡ evaluation.Value (kept_at t' i)) × Sound (kept_at t' i)
-        known-now i l m true b = let j = eqb-true i e b in (rw j here, rw j good)
-        known-now i l m false b =
+        known_now : (i : ℕ) → i < expressions image → get_or known' i false ≡ true → (b : Bool) → eqb i e ≡ b → (evaluate image angles 32 i ≡ evaluation.Value (kept_at t' i)) × Sound (kept_at t' i)
+        known_now i l m true b = let j = eqb-true i e b in (rw j here, rw j good)
+        known_now i l m false b =
             let n = eqb-false i e b in
             let before : get_or known i false ≡ true = sym (get_or-set_other known e i true false n) ∙ ap (λ (u : List Bool). get_or u i false) (sym s.marked) ∙ m in
             (k.each i l before ∙ ap evaluation.Value (sym (s.others i n)), rw (s.others i n) (k.sound i l before))

@@ -1,6 +1,6 @@
 -- The angles of some expressions in turn: those done so far, and the first that has none.
 use Prim.Native.Nat.{ℕ, zero, suc, ◌+◌, ◌≤◌, ◌<◌}
-use native.Mathlib.Nat.{add_zero, le_antisymm}
+use native.Mathlib.Nat.{add-zero, le_antisymm}
 use native.Mathlib.Numerals.{add-one}
 use native.Mathlib.Omega.{arith}
 use mathlib.Core.Path.{◌≡◌, refl, sym, ap, ◌∙◌, subst}
@@ -85,7 +85,7 @@ module _ (image : List ℕ) (angles : List Value) (f : ℕ → ℕ) where
   one_more : (a n k : ℕ) (xs : List Value) (x : Value) → k ≡ a + n → values a n ≡ have xs → valued k ≡ evaluation.Value x → values a (suc n) ≡ have (xs ++ x ∷ [])
   unfolding parameter_values range also
   one_more a zero k xs x q e h =
-      let here : valued a ≡ evaluation.Value x = ap valued (sym (add_zero a) ∙ sym q) ∙ h in
+      let here : valued a ≡ evaluation.Value x = ap valued (sym (add-zero a) ∙ sym q) ∙ h in
       let none : [] ≡ xs = ap items e in
       rw (here) (ap (λ (ys : List Value). have (ys ++ x ∷ [])) none)
   one_more a (suc n) k xs x q e h =
@@ -97,7 +97,7 @@ module _ (image : List ℕ) (angles : List Value) (f : ℕ → ℕ) where
   unfolding parameter_values range also
   refuses_next a i zero k xs y l q e h = absurd (omega arith)
   refuses_next a zero (suc n) k xs y l q e h =
-      subst (λ (m : ℕ). also (valued m) (expression_at image (f m)) (values (suc a) n) ≡ lack y) (q ∙ add_zero a) (h (values (suc a) n))
+      subst (λ (m : ℕ). also (valued m) (expression_at image (f m)) (values (suc a) n) ≡ lack y) (q ∙ add-zero a) (h (values (suc a) n))
   refuses_next a (suc i) (suc n) k xs y l q e h =
       let s = split (valued a) (expression_at image (f a)) (values (suc a) i) xs e in
       rw (s.first_is, refuses_next (suc a) i n k s.rest y (omega arith) (omega arith) s.rest_is h) refl

@@ -1,4 +1,6 @@
 // Works out the angles of an accepted image: expressions, and the parameters of a call.
+#![tactic(auto)]
+
 ghost use Rattle.std.specs.Prelude.{◌≡◌, true, ℕ, ◌+◌, ◌*◌, ◌<◌, ◌≤◌, ◌^◌, length, List};
 ghost use Rattle.value.specs.Value.{Sound};
 ghost use Rattle.value.specs.Promise.{EvaluatesTo, SoundEvaluation};
@@ -367,7 +369,7 @@ pub fn refused(l: Layout, e: u64, r: Evaluation, at: Position) -> Linearized
 }
 
 // The angles of a call's parameters, the others 0, beside the answer, since an enum cannot hold an array.
-#[derive(Drop)]
+#[derive(Clone, Copy)]
 pub struct ParameterValues {
     pub angles: [Value; image::FRAME_ANGLES],
     pub answer: Linearized,

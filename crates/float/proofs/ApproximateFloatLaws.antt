@@ -2,7 +2,7 @@
 use mathlib.Core.Path.{◌≡◌, refl, sym, ap, ◌∙◌}
 use mathlib.Core.Bool.{Bool, ◌&&◌}
 use Prim.Native.Nat.{ℕ, zero, suc, ◌*◌, ◌/◌, ◌%◌, ◌^◌, ◌<◌}
-use native.Mathlib.Nat.{mul-one, one-mul, div_one}
+use native.Mathlib.Nat.{mul-one, one-mul, div-one}
 use lib.Dec.{T, ltb, leb, eqb, eqb→eq}
 use lib.IntN.{ℤ, pos, negsuc}
 use lib.Ieee.{Float, nan, inf, fin, Format, binary32, up, down, fits, prec, low, emax}
@@ -42,7 +42,7 @@ float_lowest f s (suc m) (negsuc k) t = ap (λ (z : ℕ). gcd z (2 ^ suc k)) (mu
 pub own_lowest : (f : Format) (s : Bool) (m : ℕ) (e : ℤ) → T (fits f (fin s m e)) → (m * up e / gcd (m * up e) (down e) ≡ m * up e) × (down e / gcd (m * up e) (down e) ≡ down e)
 own_lowest f s m e h =
     let one = float_lowest f s m e h in
-    (ap (λ (g : ℕ). m * up e / g) one ∙ div_one (m * up e), ap (λ (g : ℕ). down e / g) one ∙ div_one (down e))
+    (ap (λ (g : ℕ). m * up e / g) one ∙ div-one (m * up e), ap (λ (g : ℕ). down e / g) one ∙ div-one (down e))
 
 -- The value of a float that fits its format, however it is written, comes to the float's own parts in reduced terms.
 pub value_lowest : (f : Format) (s t : Bool) (m : ℕ) (e : ℤ) (a c : ℕ) → 0 < c → T (fits f (fin t m e)) → HasValue (fin t m e) s a c

@@ -10,7 +10,7 @@ use lib.IntN.{ℤ, pos, negsuc}
 use lib.Dec.{T, ltb, leb, eqb, leb→le, ltb→lt}
 use lib.Pow.{pow-add, pow_pos, pow_mono, pow-lt}
 use borrow.Author.Tests.{ltb-true, ltb-false, leb-true, leb-false}
-use lib.Ieee.{Float, nan, inf, fin, Format, prec, emax, low, up, down, size, nearest, round, fits}
+use lib.Ieee.{Float, nan, inf, fin, Format, prec, emax, low, up, down, size, nearest, fits}
 use lib.Ieee.Digits.{size_reaches}
 use lib.Ieee.Fits.{two, two-le_pos, and_l, and_r, down_pos}
 use lib.Ieee.Exact.{HasValue}

@@ -1,7 +1,7 @@
 -- The three fields of an f32's bits give its exact value as a fraction.
 use mathlib.Core.Path.{◌≡◌, refl, sym, ap, ◌∙◌, subst}
 use mathlib.Core.Bool.{Bool, true, false, cond}
-use Prim.Native.Nat.{ℕ, suc, ◌+◌, ◌-◌, ◌*◌, ◌/◌, ◌%◌, ◌<◌, ◌^◌}
+use Prim.Native.Nat.{ℕ, suc, ◌+◌, ◌*◌, ◌/◌, ◌%◌, ◌<◌, ◌^◌}
 use lib.Dec.{T, leb, eqb}
 use lib.Pow.{pow_pos}
 use borrow.Author.Tests.{ne_eqb}

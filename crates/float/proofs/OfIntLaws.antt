@@ -2,7 +2,7 @@
 use mathlib.Core.Path.{◌≡◌, refl, sym, ap, ◌∙◌, subst}
 use mathlib.Core.Bool.{Bool, true, false, cond, not}
 use Prim.Native.Nat.{ℕ, suc, ◌+◌, ◌-◌, ◌*◌, ◌/◌, ◌%◌, ◌^◌, ◌≤◌, ◌<◌, compare, Ordering}
-use native.Mathlib.Nat.{le_trans, le_of_eq, le_of_lt, lt_of_lt_of_le, lt_of_le_of_lt, lt_of_not-le, not-le_of_lt, zero-lt-suc, mul-one, mul_assoc, mul_right_comm, mul-le-mul_right, mul-lt-mul_of_pos_right, mul-pos, div_one, div-lt_iff_lt-mul, eq_of_mul-eq-mul_right, mul-le-mul, le_antisymm, eq-or-lt_of_le, two-pow-succ, le-div_iff_mul-le}
+use native.Mathlib.Nat.{le_trans, le_of_eq, le_of_lt, lt_of_lt_of_le, lt_of_le_of_lt, lt_of_not-le, not-le_of_lt, zero-lt-suc, mul-one, mul_assoc, mul_right_comm, mul-le-mul_right, mul-lt-mul_of_pos_right, mul-pos, div-one, div-lt_iff_lt-mul, eq_of_mul-eq-mul_right, mul-le-mul, le_antisymm, eq-or-lt_of_le, two-pow-succ, le-div_iff_mul-le}
 use native.Mathlib.Omega.{arith}
 use mathlib.Core.Logic.{⊎_elim}
 use lib.Dec.{T, eqb, is_le, compare_is_eq, lit<}
@@ -29,7 +29,7 @@ size_is n j h l = le_antisymm (size-le n (suc j) l) (size_gt n j h)
 -- A number n of 24 + k binary digits has l more when it is multiplied by 2 ^ l.
 size_scaled : (n k l : ℕ) → 2 ^ 23 * 2 ^ k ≤ n → n < 2 ^ 24 * 2 ^ k → size (n * 2 ^ l / 1) ≡ suc (23 + (k + l))
 size_scaled n k l h g =
-    ap size (div_one (n * 2 ^ l))
+    ap size (div-one (n * 2 ^ l))
     ∙ size_is (n * 2 ^ l) (23 + (k + l))
     (omega (arith, mul-le-mul_right (2 ^ l) h, pow-add 2 23 (k + l), pow-add 2 k l))
     (omega (arith, mul-lt-mul_of_pos_right g (pow_pos l), pow-add 2 23 (k + l), pow-add 2 k l))

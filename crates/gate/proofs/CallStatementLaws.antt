@@ -1,13 +1,13 @@
 -- What the check accepted of a call, and its steps where its parameters have values and where one is refused.
 use Prim.Native.Nat.{ℕ, zero, suc, ◌+◌, ◌≤◌, ◌<◌}
-use native.Mathlib.Nat.{add_zero}
+use native.Mathlib.Nat.{add-zero}
 use native.Mathlib.Omega.{arith}
 use mathlib.Core.Path.{◌≡◌, refl, sym, ap, ap₂, subst, ◌∙◌}
 use mathlib.Core.List.{List, [], ◌∷◌, map}
 use lib.Dec.{T, ltb→lt}
 use Rattle.value.specs.declared.Value.{Value}
 use Rattle.model.specs.Lists.{range, all}
-use Rattle.model.specs.Image.{Gate, word, statement, statement_at, parameter_at, parameter, parameters, gates, gate_parameters, variables}
+use Rattle.model.specs.Image.{Gate, word, statement, statement_at, parameter_at, parameter, gates, gate_parameters, variables}
 use Rattle.model.specs.Check.{expression_ok, downward}
 use Rattle.model.specs.Steps.{Frame, refuse, Refusal, have, lack, given, parameter_values, with_values, qubit_in, write_opaque, push_frame, visit_gate, visit_plain}
 use Rattle.model.proofs.All.{all-All, All-all, All-of}
@@ -36,7 +36,7 @@ parameters_from image p k (suc n) =
     ap₂ (λ (x : ℕ) (y : List ℕ). x ∷ y) (ap (word image) e) (parameters_from image p (suc k) n ∙ ap (λ (m : ℕ). map (parameter image) (range m n)) f)
 
 named_is : (image : List ℕ) (p n : ℕ) → named_at image (parameter_at image p) n ≡ map (parameter image) (range p n)
-named_is image p n = parameters_from image p 0 n ∙ ap (λ (m : ℕ). map (parameter image) (range m n)) (add_zero p)
+named_is image p n = parameters_from image p 0 n ∙ ap (λ (m : ℕ). map (parameter image) (range m n)) (add-zero p)
 
 -- ---- what the check says
 
@@ -83,8 +83,8 @@ module _ {image : List ℕ} {l : Layout} {register-starts : List ℕ} (site : Si
               };
             })
 
-        pub named-listed : ListedExpressions image (variables image scope) call.expressions call.parameters
-        named-listed =
+        pub named_listed : ListedExpressions image (variables image scope) call.expressions call.parameters
+        named_listed =
             subst (λ (c : Call). ListedExpressions image (variables image scope) c.expressions c.parameters) (sym e) (record {
               few = (few_parameters st.accepted gate call_facts.0, few_variables image st.accepted scope _ st.frame);
               near = omega (arith, call_facts.1, st.laid.whole, st.laid.short);
@@ -98,21 +98,21 @@ module _ {image : List ℕ} {l : Layout} {register-starts : List ℕ} (site : Si
       abbrev frame : Frame
       frame = scope_frame image scope angles qubits
 
-      gate-steps : plain_steps image site.levels_left frame site.statement ≡ with_values image frame (named_at image call.expressions call.parameters) (call_steps image frame call)
+      gate_steps : plain_steps image site.levels_left frame site.statement ≡ with_values image frame (named_at image call.expressions call.parameters) (call_steps image frame call)
       unfolding visit_plain
-      gate-steps = rw (is_call, e, named_is image (word image (at + 2)) (gate_parameters image gate)) refl
+      gate_steps = rw (is_call, e, named_is image (word image (at + 2)) (gate_parameters image gate)) refl
 
       -- the caller's angles do not show in the rounds
-      same-call : (xs : List Value) → call_steps image (scope_frame image call.site.scope [] qubits) call xs ≡ call_steps image frame call xs
+      same_call : (xs : List Value) → call_steps image (scope_frame image call.site.scope [] qubits) call xs ≡ call_steps image frame call xs
       unfolding visit_gate write_opaque push_frame qubit_in
-      same-call xs = rw e refl
+      same_call xs = rw e refl
 
       module _ (li : ListedExpressions image (variables image scope) call.expressions call.parameters) where
-        pub gate-given : {xs : List Value} → parameter_values image angles (named_at image call.expressions call.parameters) ≡ have xs
+        pub gate_given : {xs : List Value} → parameter_values image angles (named_at image call.expressions call.parameters) ≡ have xs
             → call_steps image (scope_frame image call.site.scope [] qubits) call xs ≡ plain_steps image site.levels_left frame site.statement
         unfolding with_values given
-        gate-given {xs} h = same-call xs ∙ sym (gate-steps ∙ rw (listed_values image (variables image scope) angles li ∙ h) refl)
+        gate_given {xs} h = same_call xs ∙ sym (gate_steps ∙ rw (listed_values image (variables image scope) angles li ∙ h) refl)
 
-        pub gate-refused : {x : Refusal} → parameter_values image angles (named_at image call.expressions call.parameters) ≡ lack x → refuse [] x ∷ [] ≡ plain_steps image site.levels_left frame site.statement
+        pub gate_refused : {x : Refusal} → parameter_values image angles (named_at image call.expressions call.parameters) ≡ lack x → refuse [] x ∷ [] ≡ plain_steps image site.levels_left frame site.statement
         unfolding with_values given
-        gate-refused h = sym (gate-steps ∙ rw (listed_values image (variables image scope) angles li ∙ h) refl)
+        gate_refused h = sym (gate_steps ∙ rw (listed_values image (variables image scope) angles li ∙ h) refl)

@@ -1,17 +1,16 @@
 -- The steps of an opened gate: the frame that a call opens it with, and the statements of its body in turn.
 use Prim.Native.Nat.{ℕ, zero, suc, ◌+◌, ◌-◌, ◌<◌}
-use native.Mathlib.Nat.{add_zero}
+use native.Mathlib.Nat.{add-zero}
 use native.Mathlib.Omega.{arith}
 use mathlib.Core.Path.{◌≡◌, refl, sym, ap, subst, fun_ext, ◌∙◌}
-use mathlib.Core.List.{List, [], ◌∷◌, ◌++◌, map, flat_map, map_append}
+use mathlib.Core.List.{List, [], ◌∷◌, ◌++◌, map, flat_map, map-append}
 use borrow.Author.Tests.{ne_eqb, eq-eqb}
 use lib.ListN.{take, length-take}
 use Rattle.value.specs.declared.Value.{Value}
 use Rattle.model.specs.Lists.{range}
-use Rattle.model.specs.Image.{Statement, U, CX, Gate, Barrier, Measure, Reset, Conditional, Unknown, statement, statement_at, gates, gate_parameters, gate_arguments, gate_body, variables, rounds, scope_statements}
+use Rattle.model.specs.Image.{Statement, U, CX, Gate, Barrier, Measure, Reset, Conditional, Unknown, statement, statement_at, gates, gate_parameters, gate_arguments, gate_body, variables, scope_statements}
 use Rattle.model.specs.Steps.{Frame, Step, enter, in_rounds, qubit_in, push_frame, open_gate, write_opaque, visit_gate, visit_plain, visit_statement, visit_body, opening}
 use Rattle.model.proofs.All.{all-All}
-use Rattle.model.proofs.Accepted as accepted
 use Rattle.model.specs.Accepted.{Accepted, PlainFacts, Facts, Declared}
 use Rattle.model.proofs.Facts.{run_facts}
 use Rattle.model.proofs.StepsSound.{all_below}
@@ -28,7 +27,7 @@ use Rattle.gate.specs.CallStatement.{CallStatement, call_steps, opened_round}
 
 -- the steps of rounds under a caller's words
 map_under : (u : List ℕ) (xs ys : List Step) → map (under u) (xs ++ ys) ≡ map (under u) xs ++ map (under u) ys
-map_under u xs ys = map_append (under u) xs ys
+map_under u xs ys = map-append (under u) xs ys
 
 range_under : (u : List ℕ) (h : ℕ → List Step) (is : List ℕ) → map (under u) (flat_map h is) ≡ flat_map (λ i. map (under u) (h i)) is
 unfolding flat_map
@@ -115,7 +114,7 @@ from_later g a k (suc n) =
 
 pub from_first : (g : ℕ → List Step) (a n : ℕ) → flat_map g (range a n) ≡ in_rounds n (λ i. g (a + i))
 unfolding in_rounds
-from_first g a n = ap (λ (m : ℕ). flat_map g (range m n)) (sym (add_zero a)) ∙ from_later g a 0 n
+from_first g a n = ap (λ (m : ℕ). flat_map g (range m n)) (sym (add-zero a)) ∙ from_later g a 0 n
 
 -- a plain statement does what it does, whatever an if would
 plain_any : (image : List ℕ) (scope : ℕ) (c d : ℕ → ℕ → ℕ → List Step) (levels-left : ℕ) (frame : Frame) (s : ℕ) (x : Statement) → PlainFacts image scope x

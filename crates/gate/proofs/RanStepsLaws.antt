@@ -1,6 +1,6 @@
 -- Steps that were run: those that open no gate, loops, calls with their pairs of trace words, and one thing after another.
 use Prim.Native.Nat.{ℕ, suc, ◌+◌, ◌-◌, ◌≤◌, ◌<◌}
-use native.Mathlib.Nat.{add_zero}
+use native.Mathlib.Nat.{add-zero}
 use native.Mathlib.Omega.{arith}
 use mathlib.Core.Path.{◌≡◌, refl, sym, ap, subst, ◌∙◌}
 use mathlib.Core.Bool.{Bool, true, false, cond}
@@ -47,14 +47,14 @@ quiet (linearized.Refused e) = no_calls e.kind
 
 pub wrote_ran : {ss : List Step} {out out' : List ℕ} {at : Position} {r : Linearized} (trace : List ℕ) → WroteSteps ss out at r out' → RanSteps ss out at trace r out' trace
 wrote_ran {at = at} {r} trace w =
-    record { calls = []; plays = w.plays; tracing = rw (quiet r) refl; level = rw (quiet r) (w.level ∙ sym (add_zero at.trace)) }
+    record { calls = []; plays = w.plays; tracing = rw (quiet r) refl; level = rw (quiet r) (w.level ∙ sym (add-zero at.trace)) }
 
 -- steps that are done leave the trace as it was
 pub ran_wrote : {ss : List Step} {out out' trace trace' : List ℕ} {at p : Position} {r : Linearized} → RanSteps ss out at trace r out' trace' → r ≡ linearized.Done p → WroteSteps ss out at (linearized.Done p) out' × (trace' ≡ trace)
 unfolding trace_of
 ran_wrote {ss} {out} {out'} {trace} {trace'} {at} {p} w e =
     let v : RanSteps ss out at trace (linearized.Done p) out' trace' = rw e at w in
-    (record { plays = v.plays; level = v.level ∙ add_zero at.trace }, v.tracing)
+    (record { plays = v.plays; level = v.level ∙ add-zero at.trace }, v.tracing)
 
 -- steps and traces may be replaced by equal ones
 module _ {ss : List Step} {out out' trace trace' : List ℕ} {at : Position} {r : Linearized} where

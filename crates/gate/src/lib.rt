@@ -1,4 +1,6 @@
 // Opens gate calls: a statement runs a gate's body, and the body its statements, in turn.
+#![tactic(auto)]
+
 ghost use Rattle.std.specs.Prelude.{◌≡◌, List, [], ◌∷◌, ℕ, suc, ◌+◌, ◌-◌, ◌^◌, ◌≤◌, ◌<◌, length, take};
 ghost use Rattle.std.proofs.lemmas.List.Edits.{sets};
 ghost use Rattle.model.specs.Image.{word, statement_at};
@@ -23,7 +25,7 @@ use statement::{Call, Site};
 use value::Value;
 
 // What the body of a gate has at hand: an angle for each parameter and a qubit for each argument.
-#[derive(Drop)]
+#[derive(Clone, Copy)]
 pub struct Frame {
     pub angles: [Value; image::FRAME_ANGLES],
     pub qubits: [u64; image::FRAME_QUBITS],
@@ -160,7 +162,7 @@ fn body_site(call: Call, statement: u64) -> Site
 // ---- the cycle
 
 // A statement that is no conditional.
-#[cycle(open_gate_visit_body_visit_call_visit_gate_visit_rounds_visit_statement)]
+#[cycle(visit)]
 pub fn visit_statement(
     image: &[u64],
     l: Layout,
@@ -210,7 +212,7 @@ pub fn visit_statement(
 }
 
 // A call: its parameters are worked out before anything else.
-#[cycle(open_gate_visit_body_visit_call_visit_gate_visit_rounds_visit_statement)]
+#[cycle(visit)]
 fn visit_call(
     image: &[u64],
     l: Layout,
@@ -263,7 +265,7 @@ fn visit_call(
 }
 
 // The gate of a call, with its angles: it is opaque, or no level is left for its body, or its body is opened.
-#[cycle(open_gate_visit_body_visit_call_visit_gate_visit_rounds_visit_statement)]
+#[cycle(visit)]
 fn visit_gate(
     image: &[u64],
     l: Layout,
@@ -311,7 +313,7 @@ fn visit_gate(
 }
 
 // The rounds of a call whose body is opened.
-#[cycle(open_gate_visit_body_visit_call_visit_gate_visit_rounds_visit_statement)]
+#[cycle(visit)]
 fn visit_rounds(
     image: &[u64],
     l: Layout,
@@ -369,7 +371,7 @@ fn visit_rounds(
 }
 
 // The body of a gate in the frame of a call: it is copied if it was run before, and run otherwise.
-#[cycle(open_gate_visit_body_visit_call_visit_gate_visit_rounds_visit_statement)]
+#[cycle(visit)]
 fn open_gate(
     image: &[u64],
     l: Layout,
@@ -414,7 +416,7 @@ fn open_gate(
 }
 
 // The statements of a gate's body in turn. A body that is run to its end is kept.
-#[cycle(open_gate_visit_body_visit_call_visit_gate_visit_rounds_visit_statement)]
+#[cycle(visit)]
 fn visit_body(
     image: &[u64],
     l: Layout,

@@ -1,7 +1,7 @@
 -- The size of an argument follows from its two words, and the rounds are the largest of some sizes.
 use Prim.Native.Nat.{ℕ, zero, suc, ◌+◌, ◌≤◌, max}
 use native.Mathlib.Omega.{arith}
-use native.Mathlib.Nat.{add_zero}
+use native.Mathlib.Nat.{add-zero}
 use mathlib.Core.Path.{◌≡◌, refl, sym, ap, ◌∙◌}
 use mathlib.Core.List.{List, map}
 use borrow.Author.Tests.{eq-eqb, ne_eqb}
@@ -31,7 +31,7 @@ module _ (image : List ℕ) where
 
     pub classical_size_whole : (f r w : ℕ) → i ≡ 0 → f ≡ classical_register_at image 0 → r ≡ word image p → w ≡ word image (f + r) → w ≡ classical_argument_size image a
     unfolding classical_argument_size
-    classical_size_whole f r w h ef er ew = rw (← at-is, ← index_is, ← er, ← add_zero (quantum_register_at image (quantum_registers image)), ← ef, ← ew, eq-eqb i 0 h) refl
+    classical_size_whole f r w h ef er ew = rw (← at-is, ← index_is, ← er, ← add-zero (quantum_register_at image (quantum_registers image)), ← ef, ← ew, eq-eqb i 0 h) refl
 
 -- ---- the largest of some numbers
 module _ (f : ℕ → ℕ) where

@@ -1,7 +1,7 @@
 -- Counts that are capped past any image's length add up to the image exactly if the counts themselves do.
 use Prim.Native.Nat.{ℕ, ◌+◌, ◌≤◌, min}
 use native.Mathlib.Omega.{arith}
-use native.Mathlib.Nat.{add_zero}
+use native.Mathlib.Nat.{add-zero}
 use mathlib.Core.Path.{◌≡◌, ◌∙◌}
 use mathlib.Core.List.{List, [], ◌∷◌}
 use lib.ListN.{length}
@@ -93,4 +93,4 @@ module _ (image : List ℕ) (l : Layout) (c : CappedCounts image l) where
     where
       go : {q k g s a p e : ℕ} → q ≡ word image 1 → k ≡ word image 2 → g ≡ word image 3 → s ≡ word image 4 + word image 5 → a ≡ word image 6 → p ≡ word image 7 → e ≡ word image 8
           → expression_at (0 ∷ q ∷ k ∷ g ∷ s ∷ 0 ∷ a ∷ p ∷ e ∷ []) e ≡ length image
-      go {s = s} e1 e2 e3 e4 e5 e6 e7 = rw (add_zero s, e1, e2, e3, e4, e5, e6, e7) r
+      go {s = s} e1 e2 e3 e4 e5 e6 e7 = rw (add-zero s, e1, e2, e3, e4, e5, e6, e7) r

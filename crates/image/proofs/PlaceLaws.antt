@@ -1,7 +1,7 @@
 -- The place of an entry by the counts alone is its place in each image that has them.
 use Prim.Native.Nat.{ℕ, zero-le}
 use mathlib.Core.Path.{◌≡◌, refl, ◌∙◌}
-use native.Mathlib.Nat.{add_zero}
+use native.Mathlib.Nat.{add-zero}
 use native.Mathlib.Omega.{arith}
 use mathlib.Core.List.{List}
 use Rattle.model.specs.Image.{quantum_register_at, classical_register_at, gate_at, statement_at, argument_at, parameter_at, expression_at}
@@ -37,19 +37,19 @@ module _ (l : Layout) (i r : ℕ) where
   argument_place h e = record { small = h; counted = λ w same. rw same e; in_image = λ image laid. e ∙ go image laid }
     where
       go : (image : List ℕ) → LayoutOf image l → argument_at (contents_with l) i ≡ argument_at image i
-      go image laid = rw (add_zero l.statements, laid.quantum_registers_is, laid.classical_registers_is, laid.gates_is, laid.statements_is) refl
+      go image laid = rw (add-zero l.statements, laid.quantum_registers_is, laid.classical_registers_is, laid.gates_is, laid.statements_is) refl
 
   pub parameter_place : SmallPlace r → r ≡ parameter_at (contents_with l) i → PlaceIs l parameter_at i r
   parameter_place h e = record { small = h; counted = λ w same. rw same e; in_image = λ image laid. e ∙ go image laid }
     where
       go : (image : List ℕ) → LayoutOf image l → parameter_at (contents_with l) i ≡ parameter_at image i
-      go image laid = rw (add_zero l.statements, laid.quantum_registers_is, laid.classical_registers_is, laid.gates_is, laid.statements_is, laid.arguments_is) refl
+      go image laid = rw (add-zero l.statements, laid.quantum_registers_is, laid.classical_registers_is, laid.gates_is, laid.statements_is, laid.arguments_is) refl
 
   pub expression_place : SmallPlace r → r ≡ expression_at (contents_with l) i → PlaceIs l expression_at i r
   expression_place h e = record { small = h; counted = λ w same. rw same e; in_image = λ image laid. e ∙ go image laid }
     where
       go : (image : List ℕ) → LayoutOf image l → expression_at (contents_with l) i ≡ expression_at image i
-      go image laid = rw (add_zero l.statements, laid.quantum_registers_is, laid.classical_registers_is, laid.gates_is, laid.statements_is, laid.arguments_is, laid.parameters_is) refl
+      go image laid = rw (add-zero l.statements, laid.quantum_registers_is, laid.classical_registers_is, laid.gates_is, laid.statements_is, laid.arguments_is, laid.parameters_is) refl
 
 -- each list ends before the image does
 module _ (l : Layout) (limits : WithinLimits l) where

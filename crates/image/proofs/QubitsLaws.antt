@@ -1,6 +1,6 @@
 -- The sizes of the quantum registers add up to the qubits, and those of the classical ones to the bits.
 use Prim.Native.Nat.{ℕ, ◌+◌}
-use native.Mathlib.Nat.{add_zero}
+use native.Mathlib.Nat.{add-zero}
 use mathlib.Core.Path.{◌≡◌, refl, ◌∙◌}
 use mathlib.Core.List.{List, map}
 use Rattle.model.specs.Lists.{range, sum}
@@ -15,4 +15,4 @@ module _ (image : List ℕ) (l : Layout) (laid : LayoutOf image l) (at : ℕ) wh
 
   pub bits_are : at ≡ classical_register_at image 0 → sum (map (λ i. word image (at + i)) (range 0 l.classical_registers)) ≡ bits image
   unfolding first_bit
-  bits_are e = rw (e ∙ add_zero (quantum_register_at image (quantum_registers image)), laid.classical_registers_is) refl
+  bits_are e = rw (e ∙ add-zero (quantum_register_at image (quantum_registers image)), laid.classical_registers_is) refl

@@ -5,12 +5,12 @@ use mathlib.Core.Path.{◌≡◌, sym, ap, ◌∙◌}
 use mathlib.Core.Logic.{◌⊎◌, inl, inr}
 use mathlib.Core.List.{List, map, ◌++◌}
 use lib.ListN.{length, get_or, set, take, drop, length-set, length-drop, length-append, get_or-append}
-use native.Mathlib.Nat.{eq-or-lt_of_le, zero-add, add_zero}
+use native.Mathlib.Nat.{eq-or-lt_of_le, zero-add, add-zero}
 use lib.Seq.{get_or-set_same, get_or-set_other, get_or-take, length-take-le, drop-append_seam}
 use Rattle.model.specs.Lists.{range, sum}
 use Rattle.model.proofs.Ranges.{sum_next}
 use Rattle.model.proofs.StepsSound.{sum_below}
-use Rattle.model.specs.Image.{word, quantum_registers, classical_registers, quantum_register_at, classical_register_at, first_qubit, first_bit}
+use Rattle.model.specs.Image.{word, quantum_registers, quantum_register_at, classical_register_at, first_qubit, first_bit}
 use Rattle.image.specs.declared.Layout.{Layout}
 use Rattle.image.specs.Layout.{LayoutOf, PlaceIs}
 use Rattle.image.specs.RegisterStarts.{RegisterStarts, RegisterTable, RegistersFit}
@@ -43,7 +43,7 @@ part_length n xs e f = length-take-le (length xs - n) (drop n xs) (omega (arith,
 module _ {image : List ℕ} {l : Layout} (laid : LayoutOf image l) {table : List ℕ} (fit : RegistersFit image table) where
   -- the list of classical registers begins after that of quantum ones
   classical_at : {at : ℕ} → PlaceIs l classical_register_at 0 at → at ≡ 9 + quantum_registers image
-  classical_at p = p.in_image image laid ∙ add_zero (9 + quantum_registers image)
+  classical_at p = p.in_image image laid ∙ add-zero (9 + quantum_registers image)
 
   pub quantum_fits : {at : ℕ} → PlaceIs l quantum_register_at 0 at
       → (at ≤ 16384) × (l.quantum_registers ≤ length table) × (sum (map (λ i. word image (at + i)) (range 0 l.quantum_registers)) ≤ 4096)

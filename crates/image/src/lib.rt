@@ -1,4 +1,6 @@
 // The program image: the widths and limits of its format, its counts, where its entries stand, sizes, the statements of a scope, and what the check answers.
+#![tactic(auto)]
+
 ghost use Rattle.std.specs.Prelude.{◌≡◌, map, length, set, ◌+◌, ◌*◌, ◌<◌, ◌≤◌, min, max};
 ghost use Rattle.model.specs.Lists.{range, sum};
 ghost use Rattle.model.specs.Image.{word, quantum_register_at, classical_register_at, gate_at, statement_at, argument_at, parameter_at, expression_at, argument_size, classical_argument_size, rounds};
@@ -59,7 +61,7 @@ pub const FEW_EXPRESSIONS: usize = 128;
 // ---- the counts
 
 // The counts of an image; its statements are main's and the further ones.
-#[derive(Drop)]
+#[derive(Clone, Copy)]
 pub struct Layout {
     pub quantum_registers: u64,
     pub classical_registers: u64,
@@ -123,7 +125,7 @@ impl Layout {
     }
 }
 
-#[derive(Drop)]
+#[derive(Clone, Copy)]
 pub enum Contents {
     AddUp(Layout),
     DoNotAddUp,
@@ -306,7 +308,7 @@ pub fn rounds_of(image: &[u64], l: Layout, scope: u64, a: u64, n: u64) -> u64
 // ---- statements
 
 // Some statements in a row: the first one's number, and how many.
-#[derive(Drop)]
+#[derive(Clone, Copy)]
 pub struct Span {
     pub first: u64,
     pub count: u64,
@@ -332,7 +334,7 @@ pub fn statements_of(image: &[u64], l: Layout, scope: u64) -> Span
 // ---- answers
 
 // Why the check refuses an image, with the place of what is wrong.
-#[derive(Drop)]
+#[derive(Clone, Copy)]
 pub enum CheckRefusal {
     Contents,
     Register(u64),
@@ -345,7 +347,7 @@ pub enum CheckRefusal {
 }
 
 // What the check answers.
-#[derive(Drop)]
+#[derive(Clone, Copy)]
 pub enum CheckAnswer {
     Accepted,
     Refused(CheckRefusal),

@@ -1,6 +1,6 @@
 -- The parts of the check, one after another: what is wrong first is what the check finds.
 use Prim.Native.Nat.{ℕ, ◌+◌, ◌≤◌}
-use native.Mathlib.Nat.{add_zero}
+use native.Mathlib.Nat.{add-zero}
 use native.Mathlib.Omega.{arith}
 use mathlib.Core.Path.{◌≡◌, refl, sym, ◌∙◌}
 use mathlib.Core.Bool.{true, false}
@@ -42,7 +42,7 @@ module _ (image : List ℕ) where
     quantum_part_lem e h = h ∙ rw (e, laid.quantum_registers_is) refl
 
     pub classical_part_lem : at ≡ classical_register_at image 0 → v ≡ first_bad (register_flaw (λ i. word image (at + i))) (λ i. at + i) (range 0 l.classical_registers) → v ≡ classical_part
-    classical_part_lem e h = h ∙ rw (e ∙ add_zero (quantum_register_at image (quantum_registers image)), laid.classical_registers_is) refl
+    classical_part_lem e h = h ∙ rw (e ∙ add-zero (quantum_register_at image (quantum_registers image)), laid.classical_registers_is) refl
 
   -- the four parts in their turn
   pub in_turn : or_else quantum_part (or_else classical_part (or_else (gate_entries image) (statement_entries image))) ≡ entries_flaw image

@@ -1,4 +1,6 @@
 // Checks a program image: its statements, and what is wrong first of all that it holds.
+#![tactic(auto)]
+
 ghost use Rattle.std.specs.Prelude.{◌≡◌, [], ◌∷◌, List, ℕ, ◌≤◌};
 ghost use Rattle.model.specs.Lists.{all};
 ghost use Rattle.model.specs.Image.{U, CX, Gate, Barrier, Measure, Reset, statement, statement_at, scope_statements};
@@ -487,7 +489,7 @@ fn refusal_of(f: Flaw) -> CheckRefusal
 }
 
 // The layout of an accepted image, or why the image is refused.
-#[derive(Drop)]
+#[derive(Clone, Copy)]
 pub enum LayoutAnswer {
     Accepted(Layout),
     Refused(CheckRefusal),

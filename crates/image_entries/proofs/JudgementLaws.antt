@@ -205,28 +205,28 @@ module _ (image : List ℕ) (e : ℕ) where
     entry_words p v operand d g Expr.Unknown = refl
 
     module _ (at : ℕ) (at-is : at ≡ expression_at image e) (kind-is : kind ≡ word image at) (a-is : a ≡ word image (at + 1)) (b-is : b ≡ word image (at + 2)) (inside : e < expressions image) where
-      its-words : expression image e ≡ expression_of kind a b
-      its-words = entry_is image e at kind a b at-is kind-is a-is b-is
+      its_words : expression image e ≡ expression_of kind a b
+      its_words = entry_is image e at kind a b at-is kind-is a-is b-is
 
-      by-words : (v k : ℕ) → expression_ok image v (suc k) e ≡ words_ok kind a b v (operand_ok v k)
+      by_words : (v k : ℕ) → expression_ok image v (suc k) e ≡ words_ok kind a b v (operand_ok v k)
       unfolding expression_ok every
-      by-words v k =
+      by_words v k =
           rw (lt-ltb e (expressions image) inside)
           (and-true _
           ∙ entry_words (expression_at image e) v (operand_ok v k) (ap (λ (p : ℕ). word image (p + 1)) (sym at-is) ∙ sym a-is) (ap (λ (p : ℕ). word image (p + 2)) (sym at-is) ∙ sym b-is) (expression image e)
-          ∙ ap (entry_ok (kind ∷ a ∷ b ∷ []) v (operand_ok v k) 0) its-words)
+          ∙ ap (entry_ok (kind ∷ a ∷ b ∷ []) v (operand_ok v k) 0) its_words)
 
-      pub judged-leaf : (level variables : ℕ) → kind < 4 → JudgementIs level variables (λ v k. words_ok kind a b v (λ i. false)) → JudgementIs level variables (λ v k. expression_ok image v (suc k) e)
-      judged-leaf level variables h t = record { right = λ v k hv hk. by-words v k ∙ leaf_kind a b v (operand_ok v k) kind h ∙ t.right v k hv hk }
+      pub judged_leaf : (level variables : ℕ) → kind < 4 → JudgementIs level variables (λ v k. words_ok kind a b v (λ i. false)) → JudgementIs level variables (λ v k. expression_ok image v (suc k) e)
+      judged_leaf level variables h t = record { right = λ v k hv hk. by_words v k ∙ leaf_kind a b v (operand_ok v k) kind h ∙ t.right v k hv hk }
 
-      pub judged-unknown : 16 ≤ kind → JudgementIs 0 0 (λ v k. expression_ok image v (suc k) e)
-      judged-unknown h = record { right = λ v k hv hk. by-words v k ∙ unknown_kind a b v (operand_ok v k) kind h }
+      pub judged_unknown : 16 ≤ kind → JudgementIs 0 0 (λ v k. expression_ok image v (suc k) e)
+      judged_unknown h = record { right = λ v k hv hk. by_words v k ∙ unknown_kind a b v (operand_ok v k) kind h }
 
-      pub judged-unused : 9 ≤ kind → kind < 16 → (b ≡ 0 → ⊥) → JudgementIs 0 0 (λ v k. expression_ok image v (suc k) e)
+      pub judged_unused : 9 ≤ kind → kind < 16 → (b ≡ 0 → ⊥) → JudgementIs 0 0 (λ v k. expression_ok image v (suc k) e)
       unfolding every
-      judged-unused l h z =
+      judged_unused l h z =
           record {
-            right = λ v k hv hk. by-words v k ∙ unary_kind a b v (operand_ok v k) kind l h ∙ rw (ne_eqb b 0 z) (and-false (operand_ok v k a));
+            right = λ v k hv hk. by_words v k ∙ unary_kind a b v (operand_ok v k) kind l h ∙ rw (ne_eqb b 0 z) (and-false (operand_ok v k a));
           }
 
       -- an operation over operands that the tables tell of
@@ -237,32 +237,32 @@ module _ (image : List ℕ) (e : ℕ) where
         abbrev counted : ℕ → ℕ
         counted i = cond (ltb i e) (get_or variable-counts i 0) 0
 
-        operand-is : (i v k : ℕ) → v ≤ 16 → k < 32 → operand_ok v k i ≡ accepts (leveled i) (counted i) v k
+        operand_is : (i v k : ℕ) → v ≤ 16 → k < 32 → operand_ok v k i ≡ accepts (leveled i) (counted i) v k
         unfolding every
-        operand-is i v k hv hk = go (ltb i e) refl
+        operand_is i v k hv hk = go (ltb i e) refl
           where
             go : (t : Bool) → ltb i e ≡ t → (t && (expression_ok image v k i && true)) ≡ accepts (cond t (get_or levels i 0) 0) (cond t (get_or variable-counts i 0) 0) v k
             go true t = and-true _ ∙ tables.right i (ltb-true i e t) v k hv (omega arith)
             go false t = refl
 
-        pub judged-binary : (x p y q level variables : ℕ) → 4 ≤ kind → kind < 9 → x ≡ leveled a → p ≡ counted a → y ≡ leveled b → q ≡ counted b
+        pub judged_binary : (x p y q level variables : ℕ) → 4 ≤ kind → kind < 9 → x ≡ leveled a → p ≡ counted a → y ≡ leveled b → q ≡ counted b
             → JudgementIs level variables (λ v k. accepts x p v k && accepts y q v k) → JudgementIs level variables (λ v k. expression_ok image v (suc k) e)
         unfolding every
-        judged-binary x p y q level variables l h x-is p-is y-is q-is t =
+        judged_binary x p y q level variables l h x-is p-is y-is q-is t =
             record {
               right = λ v k hv hk.
-                  by-words v k ∙ binary_kind a b v (operand_ok v k) kind l h
-                  ∙ rw (and-true (operand_ok v k b), operand-is a v k hv hk, operand-is b v k hv hk, ← x-is, ← p-is, ← y-is, ← q-is) (t.right v k hv hk);
+                  by_words v k ∙ binary_kind a b v (operand_ok v k) kind l h
+                  ∙ rw (and-true (operand_ok v k b), operand_is a v k hv hk, operand_is b v k hv hk, ← x-is, ← p-is, ← y-is, ← q-is) (t.right v k hv hk);
             }
 
-        pub judged-unary : (x p level variables : ℕ) → 9 ≤ kind → kind < 16 → b ≡ 0 → x ≡ leveled a → p ≡ counted a
+        pub judged_unary : (x p level variables : ℕ) → 9 ≤ kind → kind < 16 → b ≡ 0 → x ≡ leveled a → p ≡ counted a
             → JudgementIs level variables (λ v k. accepts x p v k && accepts x p v k) → JudgementIs level variables (λ v k. expression_ok image v (suc k) e)
         unfolding every
-        judged-unary x p level variables l h z x-is p-is t =
+        judged_unary x p level variables l h z x-is p-is t =
             record {
               right = λ v k hv hk.
-                  by-words v k ∙ unary_kind a b v (operand_ok v k) kind l h
-                  ∙ rw (eq-eqb b 0 z, and-true (operand_ok v k a), operand-is a v k hv hk, ← x-is, ← p-is) (sym (and_self (accepts x p v k)) ∙ t.right v k hv hk);
+                  by_words v k ∙ unary_kind a b v (operand_ok v k) kind l h
+                  ∙ rw (eq-eqb b 0 z, and-true (operand_ok v k a), operand_is a v k hv hk, ← x-is, ← p-is) (sym (and_self (accepts x p v k)) ∙ t.right v k hv hk);
             }
 
 -- ---- the tables

@@ -1,4 +1,6 @@
 // Judges the entries of a program image: registers, gates, expressions and arguments.
+#![tactic(auto)]
+
 ghost use Rattle.std.specs.Prelude.{◌≡◌, false, cond, ◌&&◌, List, [], ◌∷◌, map, ltb, leb, eqb, length, get_or, ℕ, ◌+◌, ◌-◌, ◌<◌, ◌≤◌, suc};
 ghost use Rattle.model.specs.Lists.{range, all};
 ghost use Rattle.model.specs.Image.{word, parameter, variables, argument_size};
@@ -11,14 +13,14 @@ ghost use Rattle.image_entries.specs.Judging.{accepts, JudgementTables, TablesFi
 use image::{Layout, refusal};
 
 // What is wrong with an image: a number of document 01 with its place. Number 0 is nothing wrong.
-#[derive(Drop)]
+#[derive(Clone, Copy)]
 pub struct Flaw {
     pub number: u64,
     pub place: u64,
 }
 
 // The levels of an expression, 0 if they pass the limit or no scope may have it, and how many variables it needs: one more than its largest.
-#[derive(Drop)]
+#[derive(Clone, Copy)]
 pub struct Judgement {
     pub level: u64,
     pub variables: u64,

@@ -49,15 +49,15 @@ module _ {image : List ℕ} {call : Call} (c : CalledGate image call) where
       abbrev old : List ℕ
       old = slot_qubits slot (gate_parameters image call.gate) (gate_arguments image call.gate)
 
-      old-qubits : length old ≡ gate_arguments image call.gate
-      old-qubits = length-take-le (gate_arguments image call.gate) (drop (4 + 6 * gate_parameters image call.gate) slot) (omega (arith, length-drop (4 + 6 * gate_parameters image call.gate) slot, wide, c.arguments_are, c.parameters_are))
+      old_qubits : length old ≡ gate_arguments image call.gate
+      old_qubits = length-take-le (gate_arguments image call.gate) (drop (4 + 6 * gate_parameters image call.gate) slot) (omega (arith, length-drop (4 + 6 * gate_parameters image call.gate) slot, wide, c.arguments_are, c.parameters_are))
 
       -- a body that wrote nothing
-      pub silent-copied : slot_words slot ≡ 0 → at.words ≤ length out → WroteStepsTo (called_steps image call (angles_in angles) qubits) out at at out
-      silent-copied e inside =
+      pub silent_copied : slot_words slot ≡ 0 → at.words ≤ length out → WroteStepsTo (called_steps image call (angles_in angles) qubits) out at at out
+      silent_copied e inside =
           record {
             plays = subst (λ (vs : List Value). Plays (body_steps image call.site.levels_left [] call.gate vs (take call.arguments qubits)) (state_at out at) (state_at out at) done) values_are
-                (kept_silent c.accepted (state_at out at) call.gate (slot_levels slot) call.site.levels_left (slot_angles slot (gate_parameters image call.gate)) old (take call.arguments qubits) [] k.body e c.listed old-qubits (levels (body_alike slot call angles s)) inside);
+                (kept_silent c.accepted (state_at out at) call.gate (slot_levels slot) call.site.levels_left (slot_angles slot (gate_parameters image call.gate)) old (take call.arguments qubits) [] k.body e c.listed old_qubits (levels (body_alike slot call angles s)) inside);
             level = refl;
           }
         where
@@ -67,17 +67,17 @@ module _ {image : List ℕ} {call : Call} (c : CalledGate image call) where
           levels (inr (inr d)) = inr d
 
       -- a body whose records were copied
-      pub records-copied : (n : ℕ) {written : ℕ} {out' : List ℕ} → ¬ (slot_words slot ≡ 0) → call.arguments ≤ n → T (differ (take call.arguments qubits)) → length qubits ≡ most_arguments
+      pub records_copied : (n : ℕ) {written : ℕ} {out' : List ℕ} → ¬ (slot_words slot ≡ 0) → call.arguments ≤ n → T (differ (take call.arguments qubits)) → length qubits ≡ most_arguments
           → at.words + slot_words slot ≤ length out → RecordsCopied (renamed_qubit (take n (drop (4 + 6 * call.parameters) slot)) qubits call.arguments) out (slot_start slot) (slot_words slot) at.words written out'
           → WroteStepsTo (called_steps image call (angles_in angles) qubits) out at (record { records = at.records + slot_records slot; words = at.words + written; trace = at.trace }) out'
       unfolding output
-      records-copied n {written} {out'} some long d sixteen fits r =
+      records_copied n {written} {out'} some long d sixteen fits r =
           let new : List ℕ = take call.arguments qubits in
           let e : take call.arguments (take n (drop (4 + 6 * call.parameters) slot)) ≡ old = take-take call.arguments n (drop (4 + 6 * call.parameters) slot) long ∙ ap₂ (slot_qubits slot) c.parameters_are c.arguments_are in
           let many : length new ≡ gate_arguments image call.gate = length-take-le call.arguments qubits (omega (arith, few_qubits, sixteen)) ∙ c.arguments_are in
           let v : RecordsCopied (renaming old new) out (slot_start slot) (slot_words slot) at.words written out' = subst (λ (l : List ℕ). RecordsCopied (renaming l new) out (slot_start slot) (slot_words slot) at.words written out') e r in
           let same = copied_once (renaming old new) v.each (kept_each slot c.accepted c.listed k) (sym v.stands ∙ k.body.stands) in
-          let formals = distinct_formals (gate_arguments image call.gate) old new old-qubits many (k.distinct some) d in
+          let formals = distinct_formals (gate_arguments image call.gate) old new old_qubits many (k.distinct some) d in
           let place : copied_place (renaming old new) (kept_records k.body) (state_at out at) ≡ state_at out' (record { records = at.records + slot_records slot; words = at.words + written; trace = at.trace }) =
           ap₂ (λ (o : List ℕ) (w : ℕ). record { out = o; words = at.words + w; records = at.records + length (kept_records k.body) }) (sym (v.contents ∙ ap (sets out at.words) same)) (sym (v.counted ∙ ap length same))
           ∙ ap (λ (m : ℕ). record { out = out'; words = at.words + written; records = at.records + m }) (sym k.body.counted) in

@@ -5,7 +5,7 @@ use native.Mathlib.Omega.{arith}
 use mathlib.Core.Path.{◌≡◌, refl, sym, ap, subst, ◌∙◌}
 use mathlib.Core.Logic.{◌⊎◌, inl, inr}
 use mathlib.Core.Bool.{Bool, true, false, not, ◌&&◌, ◌||◌}
-use mathlib.Core.List.{List, [], ◌∷◌, map, map_append}
+use mathlib.Core.List.{List, [], ◌∷◌, map, map-append}
 use mathlib.Core.Option.{none, some}
 use lib.Dec.{T, T_not, eqb, leb, ltb, eqb→eq, ltb→lt}
 use borrow.Author.Tests.{eqb-true, leb-true, ltb-true, eq-eqb, ne_eqb, le-leb, lt-leb}
@@ -236,7 +236,7 @@ pub first_words_next : (slot angles : List ℕ) (i : ℕ) {slot' : List ℕ} →
 first_words_next slot angles i e =
     let long : length (first_words angles i) ≡ i = length-map (range 0 i) (λ j. get_or angles j 0) ∙ length_range 0 i in
     put_more slot 4 (4 + i) (first_words angles i) (get_or angles i 0 ∷ []) (omega (arith, long)) e refl
-    ∙ ap (sets slot 4) (sym (map_append (λ j. get_or angles j 0) (range 0 i) (i ∷ [])) ∙ ap (map (λ j. get_or angles j 0)) (sym (range_more i)))
+    ∙ ap (sets slot 4) (sym (map-append (λ j. get_or angles j 0) (range 0 i) (i ∷ [])) ∙ ap (map (λ j. get_or angles j 0)) (sym (range_more i)))
 
 -- ---- the width of slots
 

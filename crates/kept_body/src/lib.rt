@@ -1,4 +1,6 @@
 // Keeps where the records of a gate's body stand that was run to its end, so that a later call of the gate copies them.
+#![tactic(auto)]
+
 ghost use Rattle.std.specs.Prelude.{◌≡◌, List, ℕ, ◌+◌, ◌-◌, ◌*◌, ◌≤◌, length, take};
 ghost use Rattle.std.proofs.lemmas.List.Edits.{sets};
 ghost use Rattle.model.specs.Limits.{most_parameters};
@@ -22,7 +24,7 @@ const ANGLES_AT: usize = 4;
 pub const MOST_SLOT_WORDS: usize = ANGLES_AT + expression::FRAME_ANGLE_WORDS + image::FRAME_QUBITS;
 
 // Whether a body was copied, and where the run stands then.
-#[derive(Drop)]
+#[derive(Clone, Copy)]
 pub enum BodyCopy {
     Copied(Position),
     NotCopied,

@@ -1,4 +1,6 @@
 // Writes the finished operations of a program image: the head, then its main statements.
+#![tactic(auto)]
+
 ghost use Rattle.std.specs.Prelude.{◌≡◌, ◌+◌, ◌-◌, ◌*◌, ◌≤◌};
 ghost use Rattle.model.specs.Steps.{steps};
 ghost use Rattle.image.specs.Layout.{few_expressions};

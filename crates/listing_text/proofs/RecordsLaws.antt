@@ -2,7 +2,7 @@
 use Prim.Native.Nat.{ℕ, ◌+◌, ◌*◌, ◌≤◌, ◌<◌}
 use native.Mathlib.Omega.{arith}
 use mathlib.Core.Path.{◌≡◌, refl, sym, ap, ◌∙◌}
-use mathlib.Core.List.{List, [], ◌∷◌, ◌++◌, map, flat_map, append-nil, append_assoc, map_append}
+use mathlib.Core.List.{List, [], ◌∷◌, ◌++◌, map, flat_map, append-nil, append_assoc, map-append}
 use lib.ListN.{length, length-append}
 use Rattle.model.specs.Records.{Record, encode}
 use Rattle.model.specs.RecordReader.{next_at, records_in}
@@ -80,7 +80,7 @@ module _ {ws text text' : List ℕ} {at i end : ℕ} (g : Reading ws text at i e
         rw (flat_append encode g.before (one ∷ []), append-nil (encode one), f) refl
         in
         let lines : lines_of g.before ++ record_line v ≡ lines_of (g.before ++ one ∷ []) =
-        rw (map_append encode g.before (one ∷ []), flat_append record_line (map encode g.before) (encode one ∷ []), append-nil (record_line (encode one)), f) refl
+        rw (map-append encode g.before (one ∷ []), flat_append record_line (map encode g.before) (encode one ∷ []), append-nil (record_line (encode one)), f) refl
         in
         record {
           before = g.before ++ one ∷ [];

@@ -156,11 +156,11 @@ module _ {image : List ℕ} {depth : ℕ} {out trace : List ℕ} {r : Linearized
     trace_short = omega (arith, same_trace)
 
     module _ {text text' : List ℕ} {mid : ℕ} (p : PutMost (flat_map record_line (records_in (take n out'))) (21 * length (take n out')) text 0 mid text') where
-      pub end-room : 262144 ≤ length text → mid + 6400 ≤ length text'
-      end-room k = omega (arith, p.few, prefix_few, put_length p.put)
+      pub end_room : 262144 ≤ length text → mid + 6400 ≤ length text'
+      end_room k = omega (arith, p.few, prefix_few, put_length p.put)
 
-      pub run-put : {text'' : List ℕ} {end : ℕ} → Put (end_text r calls) text' mid end text'' → Put (run_text (runs image depth 8192 256)) text 0 end text''
+      pub run_put : {text'' : List ℕ} {end : ℕ} → Put (end_text r calls) text' mid end text'' → Put (run_text (runs image depth 8192 256)) text 0 end text''
       unfolding run_text
-      run-put q =
+      run_put q =
           let e : take n out' ≡ take (position_of r).words out' = ap (λ (k : ℕ). take k out') en in
           rw (sym eo, sym et) (put_then (put_same (ap (λ (l : List ℕ). flat_map record_line (records_in l)) e ∙ lines_are) p.put) (put_same end_is q))

@@ -1,4 +1,6 @@
 // A run as text: a line for each record, then how it ended.
+#![tactic(auto)]
+
 ghost use Rattle.std.specs.Prelude.{◌≡◌, ◌+◌, ◌*◌, ◌≤◌, length, take};
 ghost use mathlib.Core.List.{[], ◌∷◌, flat_map};
 ghost use Rattle.model.specs.Refusals as number;

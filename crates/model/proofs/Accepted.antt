@@ -10,8 +10,8 @@ use Rattle.model.specs.Lists.{range, sum}
 use Rattle.model.specs.All.{All, nil, cons}
 use Rattle.model.specs.Accepted.{Accepted}
 use Rattle.model.proofs.All.{and_t, test, of-All, flat-All, range-All}
-use Rattle.model.specs.Image.{gates, gate_parameters, gate_arguments, quantum_registers, classical_registers, quantum_size, classical_size, qubits, bits, first_qubit, first_bit, scope_statements, quantum_register_at, classical_register_at}
-use Rattle.model.specs.Check.{Flaw, fine, bad, or_else, first_of, first_bad, contents_ok, register_flaw, gate_ok, gate_flaw, flaw, every_statement, registers, gate_entries, statement_entries, check}
+use Rattle.model.specs.Image.{gates, gate_parameters, gate_arguments, quantum_registers, classical_registers, quantum_size, classical_size, first_qubit, first_bit, scope_statements, quantum_register_at, classical_register_at}
+use Rattle.model.specs.Check.{Flaw, fine, bad, or_else, first_of, first_bad, contents_ok, register_flaw, gate_ok, gate_flaw, every_statement, registers, gate_entries, statement_entries, check}
 
 -- tests that give a number each: where none is given the i-th passes
 abbrev pub numbered : List (Bool × ℕ) → Bool

@@ -1,6 +1,6 @@
 -- The steps of a run come to what the tally says, for any weight of records and of body entries.
 use Prim.Native.Nat.{ℕ, zero, suc, ◌+◌, ◌-◌, ◌*◌, ◌≤◌, zero-le}
-use native.Mathlib.Nat.{le_refl, le_of_eq, add-le-add, add_zero, zero-add, suc-mul, zero-mul}
+use native.Mathlib.Nat.{le_refl, le_of_eq, add-le-add, add-zero, zero-add, suc-mul, zero-mul}
 use native.Mathlib.Omega.{arith}
 use mathlib.Core.Path.{◌≡◌, refl, sym, ap₂, ◌∙◌, subst}
 use mathlib.Core.Bool.{Bool, true, false, cond}
@@ -69,7 +69,7 @@ module _ (f : ℕ → ℕ → ℕ) (e : ℕ) where
 
   enter_tallied : (t : List ℕ) (g : ℕ) → Tallied (enter t g ∷ []) e
   unfolding weighs clean
-  enter_tallied t g = record { most = le_of_eq (add_zero e); exactly = λ flat c. add_zero e }
+  enter_tallied t g = record { most = le_of_eq (add-zero e); exactly = λ flat c. add-zero e }
 
   -- n in every round
   rounds_tallied : (g : ℕ → List Step) (n : ℕ) → ((i : ℕ) → Tallied (g i) n) → (a k : ℕ) → Tallied (flat_map g (range a k)) (k * n)
@@ -105,8 +105,8 @@ module _ (f : ℕ → ℕ → ℕ) (e : ℕ) where
     unfolding weighs clean
     write_tallied t r n h =
         record {
-          most = rw add_zero (mono (kind r) (length (encode r)) n h);
-          exactly = λ flat c. add_zero _ ∙ flat (kind r) (length (encode r)) n;
+          most = rw add-zero (mono (kind r) (length (encode r)) n h);
+          exactly = λ flat c. add-zero _ ∙ flat (kind r) (length (encode r)) n;
         }
 
     values_tallied : (fr : Frame) (es : List ℕ) (next : List Value → List Step) (n : ℕ)

@@ -108,52 +108,52 @@ module _ (image : List ℕ) where
     AlikeTally n o o' = (g : ℕ) → g < n → open_gate_tally image weight entry o g ≡ open_gate_tally image weight entry o' g
 
     module _ (n : ℕ) (o o' : Option (ℕ → ℕ)) (alike : AlikeTally n o o') (scope : ℕ) (below : calls_below image scope ≤ n) where
-      gate-tally : (g : ℕ) → g < n → gate_tally image weight entry o g ≡ gate_tally image weight entry o' g
+      gate_tally_lem : (g : ℕ) → g < n → gate_tally image weight entry o g ≡ gate_tally image weight entry o' g
       unfolding gate_tally
-      gate-tally g h = rw (alike g h)
+      gate_tally_lem g h = rw (alike g h)
 
-      plain-tally : (c c' : ℕ → ℕ) (ifFlaw : ℕ → ℕ → ℕ → ℕ) → ((r v t : ℕ) → ifFlaw r v t ≡ 0 → c t ≡ c' t)
+      plain_tally_lem : (c c' : ℕ → ℕ) (ifFlaw : ℕ → ℕ → ℕ → ℕ) → ((r v t : ℕ) → ifFlaw r v t ≡ 0 → c t ≡ c' t)
           → (s : ℕ) (x : Statement) → plain_flaw image ifFlaw scope s x ≡ 0 → plain_tally image weight entry c o scope x ≡ plain_tally image weight entry c' o' scope x
       unfolding plain_tally plain_flaw
-      plain-tally c c' ifFlaw h s (Statement.U theta phi lambda q) e = refl
-      plain-tally c c' ifFlaw h s (Statement.CX a b) e = refl
-      plain-tally c c' ifFlaw h s (Gate g p a) e =
+      plain_tally_lem c c' ifFlaw h s (Statement.U theta phi lambda q) e = refl
+      plain_tally_lem c c' ifFlaw h s (Statement.CX a b) e = refl
+      plain_tally_lem c c' ifFlaw h s (Gate g p a) e =
           let k = called ifFlaw scope s g p a e in
-          ap (◌*◌ _) (gate-tally g (omega arith))
-      plain-tally c c' ifFlaw h s (Statement.Barrier a n) e = refl
-      plain-tally c c' ifFlaw h s (Statement.Measure q b) e = refl
-      plain-tally c c' ifFlaw h s (Statement.Reset q) e = refl
-      plain-tally c c' ifFlaw h s (Conditional r v t) e = h r v t e
-      plain-tally c c' ifFlaw h s Statement.Unknown e = refl
+          ap (◌*◌ _) (gate_tally_lem g (omega arith))
+      plain_tally_lem c c' ifFlaw h s (Statement.Barrier a n) e = refl
+      plain_tally_lem c c' ifFlaw h s (Statement.Measure q b) e = refl
+      plain_tally_lem c c' ifFlaw h s (Statement.Reset q) e = refl
+      plain_tally_lem c c' ifFlaw h s (Conditional r v t) e = h r v t e
+      plain_tally_lem c c' ifFlaw h s Statement.Unknown e = refl
 
-      conditional-tally : (s r v t : ℕ) → conditional_flaw image scope s r v t ≡ 0 → conditional_tally image weight entry o scope t ≡ conditional_tally image weight entry o' scope t
+      conditional_tally_lem : (s r v t : ℕ) → conditional_flaw image scope s r v t ≡ 0 → conditional_tally image weight entry o scope t ≡ conditional_tally image weight entry o' scope t
       unfolding conditional_tally conditional_flaw
-      conditional-tally s r v t e =
-          rw (plain-tally (λ t. 0) (λ t. 0) (λ r v t. 4) (λ r v t z. refl) t (statement image t) (inner_flaw (conditional_ok image scope s r t) _ 3 e))
+      conditional_tally_lem s r v t e =
+          rw (plain_tally_lem (λ t. 0) (λ t. 0) (λ r v t. 4) (λ r v t z. refl) t (statement image t) (inner_flaw (conditional_ok image scope s r t) _ 3 e))
 
-      body-tally : All (λ s. flaw image scope s ≡ 0) (scope_statements image scope) → body_tally image weight entry o scope ≡ body_tally image weight entry o' scope
+      body_tally_lem : All (λ s. flaw image scope s ≡ 0) (scope_statements image scope) → body_tally image weight entry o scope ≡ body_tally image weight entry o' scope
       unfolding body_tally statement_tally flaw
-      body-tally h = sum_same _ _ (All-weaken (λ s e. plain-tally _ _ (conditional_flaw image scope s) (conditional-tally s) s (statement image s) e) h)
+      body_tally_lem h = sum_same _ _ (All-weaken (λ s e. plain_tally_lem _ _ (conditional_flaw image scope s) (conditional_tally_lem s) s (statement image s) e) h)
 
     module _ (accepted : Accepted image) where
-      alike-tally : (n a b : ℕ) → n ≤ gates image → n ≤ a → n ≤ b → AlikeTally n (opening_tally image weight entry a) (opening_tally image weight entry b)
+      alike_tally : (n a b : ℕ) → n ≤ gates image → n ≤ a → n ≤ b → AlikeTally n (opening_tally image weight entry a) (opening_tally image weight entry b)
       unfolding opening_tally open_gate_tally
-      alike-tally zero a b h p q = λ g k. absurd (not-suc-le-zero k)
-      alike-tally (suc n) zero b h p q = absurd (not-suc-le-zero p)
-      alike-tally (suc n) (suc a) zero h p q = absurd (not-suc-le-zero q)
-      alike-tally (suc n) (suc a) (suc b) h p q =
-          λ g k. ap (λ m. entry + m) (body-tally n _ _ (alike-tally n a b (omega arith) (omega arith) (omega arith)) (suc g) (omega arith) (accepted.flawless (suc g) (omega arith)))
+      alike_tally zero a b h p q = λ g k. absurd (not-suc-le-zero k)
+      alike_tally (suc n) zero b h p q = absurd (not-suc-le-zero p)
+      alike_tally (suc n) (suc a) zero h p q = absurd (not-suc-le-zero q)
+      alike_tally (suc n) (suc a) (suc b) h p q =
+          λ g k. ap (λ m. entry + m) (body_tally_lem n _ _ (alike_tally n a b (omega arith) (omega arith) (omega arith)) (suc g) (omega arith) (accepted.flawless (suc g) (omega arith)))
 
       -- a scope's statements come to the same where all that they may call is opened
       pub deep_body : (scope a b : ℕ) → scope ≤ gates image → calls_below image scope ≤ a → calls_below image scope ≤ b → body_tally image weight entry (opening_tally image weight entry a) scope ≡ body_tally image weight entry (opening_tally image weight entry b) scope
-      deep_body scope a b h p q = body-tally (calls_below image scope) _ _ (alike-tally (calls_below image scope) a b (calls_below_few scope h) p q) scope (omega arith) (accepted.flawless scope h)
+      deep_body scope a b h p q = body_tally_lem (calls_below image scope) _ _ (alike_tally (calls_below image scope) a b (calls_below_few scope h) p q) scope (omega arith) (accepted.flawless scope h)
 
-      deep-weights : (d e : ℕ) → gates image < d → gates image < e → weight_tally image weight entry d ≡ weight_tally image weight entry e
+      deep_weights : (d e : ℕ) → gates image < d → gates image < e → weight_tally image weight entry d ≡ weight_tally image weight entry e
       unfolding weight_tally
-      deep-weights d e h k = rw (deep_body 0 (d - 1) (e - 1) (omega arith) (omega arith) (omega arith))
+      deep_weights d e h k = rw (deep_body 0 (d - 1) (e - 1) (omega arith) (omega arith) (omega arith))
 
   pub deep_figures : Accepted image → (d e : ℕ) → gates image < d → gates image < e → figures image d ≡ figures image e
   unfolding figures record_figure entry_figure word_bound
   deep_figures accepted d e h k =
-      λ i. map (λ kind. deep-weights (of_kind kind) 0 accepted d e h k i) (range 1 7)
-      ++ deep-weights (λ kind n. 0) 1 accepted d e h k i ∷ deep-weights the_words 0 accepted d e h k i ∷ []
+      λ i. map (λ kind. deep_weights (of_kind kind) 0 accepted d e h k i) (range 1 7)
+      ++ deep_weights (λ kind n. 0) 1 accepted d e h k i ∷ deep_weights the_words 0 accepted d e h k i ∷ []

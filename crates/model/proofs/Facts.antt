@@ -3,11 +3,11 @@ use Prim.Native.Nat.{ℕ, zero, suc, ◌+◌, ◌≤◌, ◌<◌}
 use native.Mathlib.Omega.{arith}
 use mathlib.Core.Path.{◌≡◌, refl, sym, subst}
 use mathlib.Core.Bool.{Bool, true, false, cond}
-use mathlib.Core.List.{List, [], ◌∷◌, map, Memᴰ}
+use mathlib.Core.List.{List, Memᴰ}
 use lib.Dec.{T, leb→le, ltb→lt, eqb→eq}
-use Rattle.model.specs.Lists.{range, all}
-use Rattle.model.specs.Image.{Statement, U, CX, Gate, Barrier, Measure, Reset, Conditional, Unknown, statement_of, statement, expressions, arguments, parameters, gates, main_statements, all_statements, classical_registers, gate_parameters, gate_arguments, parameter, variables, argument_size, classical_argument_size, scope_statements}
-use Rattle.model.specs.Check.{expression_ok, argument_ok, classical_argument_ok, downward, matching, plain_flaw, in_conditional, conditional_ok, conditional_flaw, flaw}
+use Rattle.model.specs.Lists.{range}
+use Rattle.model.specs.Image.{Statement, U, CX, Gate, Barrier, Measure, Reset, Conditional, Unknown, statement_of, statement, gates, scope_statements}
+use Rattle.model.specs.Check.{plain_flaw, conditional_ok, conditional_flaw, flaw}
 use Rattle.model.specs.All.{All}
 use Rattle.model.specs.Accepted.{Accepted, PlainFacts, Facts}
 use Rattle.model.proofs.All.{test, members-All, All-members, range-All}

@@ -1,6 +1,6 @@
 -- Small laws that several crates cite: the entries of a list and of its front, ranges with one number more, a number that is none of some.
 use Prim.Native.Nat.{ℕ, zero, suc, ◌+◌, ◌-◌, ◌≤◌, ◌<◌}
-use native.Mathlib.Nat.{add_zero, le_of_suc-le-suc, not-suc-le-zero}
+use native.Mathlib.Nat.{add-zero, le_of_suc-le-suc, not-suc-le-zero}
 use native.Mathlib.Numerals.{add-one}
 use native.Mathlib.Omega.{arith}
 use mathlib.Core.Path.{◌≡◌, refl, sym, ap, ◌∙◌}
@@ -36,14 +36,14 @@ drop_take (suc k) (suc m) (x ∷ l) h =
 pub entry_of_map : {A : Type 0} (f : ℕ → A) (a n i : ℕ) (d : A) → i < n → get_or (map f (range a n)) i d ≡ f (a + i)
 unfolding range
 entry_of_map f a zero i d h = absurd (omega arith)
-entry_of_map f a (suc n) zero d h = ap f (sym (add_zero a))
+entry_of_map f a (suc n) zero d h = ap f (sym (add-zero a))
 entry_of_map f a (suc n) (suc i) d h =
     let e : suc a + i ≡ a + suc i = omega arith in
     entry_of_map f (suc a) n i d (omega arith) ∙ ap f e
 
 range_suc : (a n : ℕ) → range a (suc n) ≡ range a n ++ (a + n) ∷ []
 unfolding range
-range_suc a zero = rw (add_zero a) refl
+range_suc a zero = rw (add-zero a) refl
 range_suc a (suc n) =
     let e : suc a + n ≡ a + suc n = omega arith in
     rw (sym e, range_suc (suc a) n) refl

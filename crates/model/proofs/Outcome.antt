@@ -260,10 +260,10 @@ module _ (w : List ℕ) (depth outWords trace_words : ℕ) where
   -- the number of records of a finished run: kinds 1 to 7, kind 7's once more for the ends, and the head if any
   record_count : ran.answer ≡ done → length ran.written ≡ sum (map (record_figure w depth) (range 1 7)) + record_figure w depth 7 + cond (eqb (main_statements w) 0) 0 1
   unfolding range sum
-  record_count d = omega (arith, kinds-done, kinds_total w depth (range 0 9), ends w depth, heads w depth, all_kinds ran.written)
+  record_count d = omega (arith, kinds_done, kinds_total w depth (range 0 9), ends w depth, heads w depth, all_kinds ran.written)
     where
-      kinds-done : weighs_records (of_kinds (range 0 9)) ran.written ≡ weight_tally w (of_kinds (range 0 9)) 0 depth
-      kinds-done = go ran_either d
+      kinds_done : weighs_records (of_kinds (range 0 9)) ran.written ≡ weight_tally w (of_kinds (range 0 9)) 0 depth
+      kinds_done = go ran_either d
         where
           go : {p : Played} → Ran p → p.answer ≡ done → weighs_records (of_kinds (range 0 9)) p.written ≡ weight_tally w (of_kinds (range 0 9)) 0 depth
           go (none a x y z) e = absurd (x e)

@@ -1,6 +1,6 @@
 -- Playing steps into a lent output: what a step does to it, one part after another, and a loop that plays steps.
 use Prim.Native.Nat.{ℕ, suc, ◌+◌, ◌-◌, ◌≤◌, ◌<◌, zero-le}
-use native.Mathlib.Nat.{add_zero, zero-add}
+use native.Mathlib.Nat.{add-zero, zero-add}
 use native.Mathlib.Numerals.{add-one}
 use native.Mathlib.Omega.{arith}
 use mathlib.Core.Path.{◌≡◌, refl, sym, ap, ◌∙◌}
@@ -19,7 +19,7 @@ use Rattle.model.proofs.ReadBack.{words_enough}
 
 -- stores after stores
 pub sets_append : (out : List ℕ) (i : ℕ) (ws vs : List ℕ) → sets (sets out i ws) (i + length ws) vs ≡ sets out i (ws ++ vs)
-sets_append out i [] vs = ap (λ n. sets out n vs) (add_zero i)
+sets_append out i [] vs = ap (λ n. sets out n vs) (add-zero i)
 sets_append out i (w ∷ ws) vs =
     let e : i + suc (length ws) ≡ suc i + length ws = omega arith in
     ap (λ n. sets (sets (set out i w) (suc i) ws) n vs) e ∙ sets_append (set out i w) (suc i) ws vs
@@ -48,7 +48,7 @@ comes ss p = came p (play (room p) ss)
 -- nothing is written
 came_stop : (p : OutputState) (a : Answer) → came p (stop a) ≡ (p, a)
 unfolding output flat_map
-came_stop p a = λ i. (record { out = p.out; words = add_zero p.words i; records = add_zero p.records i }, a)
+came_stop p a = λ i. (record { out = p.out; words = add-zero p.words i; records = add-zero p.records i }, a)
 
 -- a record is written, and steps are played after it
 abbrev wrote : OutputState → Record → OutputState

@@ -1,6 +1,6 @@
 -- What a loop over a range has found after some turns: all, sum, largest, and the first bad one.
 use Prim.Native.Nat.{ℕ, zero, suc, ◌+◌, ◌-◌, ◌≤◌, ◌<◌, max}
-use native.Mathlib.Nat.{add_zero, add-suc, suc-add, not-suc-le-zero}
+use native.Mathlib.Nat.{add-zero, add-suc, suc-add, not-suc-le-zero}
 use native.Mathlib.Numerals.{add-one}
 use native.Mathlib.Omega.{arith}
 use mathlib.Core.Path.{◌≡◌, refl, sym, ap, ◌∙◌}
@@ -19,7 +19,7 @@ module _ (p : ℕ → Bool) where
 
   all_snoc : (a n : ℕ) → all p (range a n) ≡ true → p (a + n) ≡ true → all p (range a (suc n)) ≡ true
   unfolding all range
-  all_snoc a zero e h = rw (sym (ap p (add_zero a)) ∙ h) refl
+  all_snoc a zero e h = rw (sym (ap p (add-zero a)) ∙ h) refl
   all_snoc a (suc n) e h =
       let s = both_true (p a) (all p (range (suc a) n)) e in
       rw s.0 (all_snoc (suc a) n s.1 (ap p (suc-add a n ∙ sym (add-suc a n)) ∙ h))
@@ -30,7 +30,7 @@ module _ (p : ℕ → Bool) where
   pub all_fails : (a i n : ℕ) → i < n → p (a + i) ≡ false → false ≡ all p (range a n)
   unfolding all range
   all_fails a i zero h f = absurd (not-suc-le-zero h)
-  all_fails a zero (suc n) h f = sym (rw (sym (ap p (add_zero a)) ∙ f) refl)
+  all_fails a zero (suc n) h f = sym (rw (sym (ap p (add-zero a)) ∙ f) refl)
   all_fails a (suc i) (suc n) h f = go (p a) (all_fails (suc a) i n (omega arith) (ap p (suc-add a i ∙ sym (add-suc a i)) ∙ f))
     where
       go : (b : Bool) → false ≡ all p (range (suc a) n) → false ≡ (b && all p (range (suc a) n))
@@ -41,7 +41,7 @@ module _ (p : ℕ → Bool) where
 module _ (f : ℕ → ℕ) where
   sum_snoc : (a n : ℕ) → sum (map f (range a (suc n))) ≡ sum (map f (range a n)) + f (a + n)
   unfolding sum range
-  sum_snoc a zero = omega (arith, ap f (add_zero a))
+  sum_snoc a zero = omega (arith, ap f (add-zero a))
   sum_snoc a (suc n) = omega (arith, sum_snoc (suc a) n, ap f (suc-add a n ∙ sym (add-suc a n)))
 
   pub sum_next : (a i : ℕ) → sum (map f (range a (i + 1))) ≡ sum (map f (range a i)) + f (a + i)
@@ -49,7 +49,7 @@ module _ (f : ℕ → ℕ) where
 
   largest_snoc : (a n : ℕ) → largest (map f (range a (suc n))) ≡ max (largest (map f (range a n))) (f (a + n))
   unfolding largest range
-  largest_snoc a zero = omega (arith, ap f (add_zero a))
+  largest_snoc a zero = omega (arith, ap f (add-zero a))
   largest_snoc a (suc n) = omega (arith, largest_snoc (suc a) n, ap f (suc-add a n ∙ sym (add-suc a n)))
 
   pub largest_next : (a i : ℕ) → largest (map f (range a (i + 1))) ≡ max (largest (map f (range a i))) (f (a + i))

@@ -1,6 +1,6 @@
 -- Every record of an accepted program's run is declared and distinct, a barrier's qubits rise, and every trace has at most 256 words.
 use Prim.Native.Nat.{ℕ, zero, suc, ◌+◌, ◌-◌, ◌*◌, ◌≤◌, ◌<◌}
-use native.Mathlib.Nat.{not-suc-le-zero, suc-add, add-suc, add_zero, zero-add}
+use native.Mathlib.Nat.{not-suc-le-zero, suc-add, add-suc, add-zero, zero-add}
 use native.Mathlib.Omega.{arith}
 use mathlib.Core.Path.{◌≡◌, refl, sym, ap, ◌∙◌}
 use mathlib.Core.Bool.{Bool, true, false, not, ◌||◌, cond}
@@ -88,7 +88,7 @@ offsets_in sizes n =
 pub sum_below : (f : ℕ → ℕ) (a n i : ℕ) → i < n → sum (map f (range a i)) + f (a + i) ≤ sum (map f (range a n))
 unfolding sum range
 sum_below f a zero i h = absurd (not-suc-le-zero h)
-sum_below f a (suc n) zero h = omega (arith, ap f (add_zero a))
+sum_below f a (suc n) zero h = omega (arith, ap f (add-zero a))
 sum_below f a (suc n) (suc i) h = omega (arith, sum_below f (suc a) n i (omega arith), ap f (add-suc a i ∙ sym (suc-add a i)))
 
 -- the qubit or bit of an argument: register r, index j (0 the whole), in round i, which is below the argument's size unless that is 1

@@ -1,6 +1,6 @@
 -- The tally adds up: what is counted in two parts comes to the sum of the two. So the number of records follows from the figures.
 use Prim.Native.Nat.{ℕ, zero, suc, ◌+◌, ◌-◌, ◌*◌}
-use native.Mathlib.Nat.{mul-add, add_zero}
+use native.Mathlib.Nat.{mul-add, add-zero}
 use native.Mathlib.Omega.{arith}
 use mathlib.Core.Path.{◌≡◌, refl, ap, ◌∙◌}
 use mathlib.Core.Bool.{Bool, true, false, cond}
@@ -103,7 +103,7 @@ module _ (w : List ℕ) (depth : ℕ) where
   unfolding record_figure nothing
   ends =
       total_sum w (of_kind 7) nothing (of_kind 8) (record { k1 = refl; k2 = refl; k3 = λ n. refl; k4 = λ n. refl; k5 = refl; k6 = refl; k78 = refl }) depth (λ n. refl)
-      ∙ ap (λ x. weight_tally w (of_kind 7) 0 depth + x) nothing_total ∙ add_zero _
+      ∙ ap (λ x. weight_tally w (of_kind 7) 0 depth + x) nothing_total ∙ add-zero _
 
   pub heads : record_figure w depth 0 ≡ cond (eqb (main_statements w) 0) 0 1
   unfolding record_figure weight_tally

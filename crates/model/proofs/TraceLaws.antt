@@ -81,53 +81,53 @@ module _ (u : List ℕ) where
     Moves o = (new : Frame) (g : ℕ) → open_gate o (deeper new) g ≡ map under (open_gate o new g)
 
     module _ (o : Opening) (moves : Moves o) (f : Frame) where
-      values-under : (es : List ℕ) (next next' : List Value → List Step) → ((xs : List Value) → next xs ≡ map under (next' xs))
+      values_under : (es : List ℕ) (next next' : List Value → List Step) → ((xs : List Value) → next xs ≡ map under (next' xs))
           → with_values image (deeper f) es next ≡ map under (with_values image f es next')
       unfolding with_values given under
-      values-under es next next' e = go (parameter_values image f.values es)
+      values_under es next next' e = go (parameter_values image f.values es)
         where
           go : (v : Values) → given (u ++ f.trace) v next ≡ map under (given f.trace v next')
           go (have xs) = e xs
           go (lack r) = refl
 
-      cx-under : (a b i : ℕ) → write_cx image (deeper f) a b i ≡ map under (write_cx image f a b i)
+      cx_under : (a b i : ℕ) → write_cx image (deeper f) a b i ≡ map under (write_cx image f a b i)
       unfolding write_cx qubit_in under
-      cx-under a b i = map_cond under (eqb (qubit_in image f i a) (qubit_in image f i b)) (refuse f.trace _ ∷ []) (write f.trace _ ∷ []) refl refl
+      cx_under a b i = map_cond under (eqb (qubit_in image f i a) (qubit_in image f i b)) (refuse f.trace _ ∷ []) (write f.trace _ ∷ []) refl refl
 
-      opaque-under : (t : List ℕ) (ab : Option (ℕ × ℕ)) (r : Record) → distinctly image (u ++ t) ab r ≡ map under (distinctly image t ab r)
+      opaque_under : (t : List ℕ) (ab : Option (ℕ × ℕ)) (r : Record) → distinctly image (u ++ t) ab r ≡ map under (distinctly image t ab r)
       unfolding distinctly under
-      opaque-under t none r = refl
-      opaque-under t (some ab) r = refl
+      opaque_under t none r = refl
+      opaque_under t (some ab) r = refl
 
-      gate-under : (s g : ℕ) (al : List ℕ) (xs : List Value) (i : ℕ) → visit_gate image o (deeper f) s g al xs i ≡ map under (visit_gate image o f s g al xs i)
+      gate_under : (s g : ℕ) (al : List ℕ) (xs : List Value) (i : ℕ) → visit_gate image o (deeper f) s g al xs i ≡ map under (visit_gate image o f s g al xs i)
       unfolding visit_gate write_opaque push_frame qubit_in
-      gate-under s g al xs i =
+      gate_under s g al xs i =
           map_cond under (eqb (gate_body image g) 0) (write_opaque image f g al xs i) (open_gate o (push_frame image f s g al xs i) g)
-          (opaque-under f.trace _ _)
+          (opaque_under f.trace _ _)
           (rw (append_assoc u f.trace (f.scope ∷ statement_at image s ∷ [])) (moves _ g))
 
-      plain-under : (c c' : ℕ → ℕ → ℕ → List Step) → ((r v t : ℕ) → c r v t ≡ map under (c' r v t)) → (s : ℕ) (x : Statement)
+      plain_under : (c c' : ℕ → ℕ → ℕ → List Step) → ((r v t : ℕ) → c r v t ≡ map under (c' r v t)) → (s : ℕ) (x : Statement)
           → visit_plain image c o (deeper f) s x ≡ map under (visit_plain image c' o f s x)
       unfolding visit_plain in_rounds write_u write_measure write_reset argument_qubits qubit_in under
-      plain-under c c' h s (Statement.U theta phi lambda q) = values-under _ _ _ λ xs. map_flat under _ _ (λ i. refl) _
-      plain-under c c' h s (Statement.CX a b) = map_flat under _ _ (cx-under a b) _
-      plain-under c c' h s (Gate g p a) = values-under _ _ _ λ xs. map_flat under _ _ (λ i. gate-under s g _ xs i) _
-      plain-under c c' h s (Statement.Barrier a n) = refl
-      plain-under c c' h s (Statement.Measure q b) = map_flat under _ _ (λ i. refl) _
-      plain-under c c' h s (Statement.Reset q) = map_flat under _ _ (λ i. refl) _
-      plain-under c c' h s (Conditional r v t) = h r v t
-      plain-under c c' h s Statement.Unknown = refl
+      plain_under c c' h s (Statement.U theta phi lambda q) = values_under _ _ _ λ xs. map_flat under _ _ (λ i. refl) _
+      plain_under c c' h s (Statement.CX a b) = map_flat under _ _ (cx_under a b) _
+      plain_under c c' h s (Gate g p a) = values_under _ _ _ λ xs. map_flat under _ _ (λ i. gate_under s g _ xs i) _
+      plain_under c c' h s (Statement.Barrier a n) = refl
+      plain_under c c' h s (Statement.Measure q b) = map_flat under _ _ (λ i. refl) _
+      plain_under c c' h s (Statement.Reset q) = map_flat under _ _ (λ i. refl) _
+      plain_under c c' h s (Conditional r v t) = h r v t
+      plain_under c c' h s Statement.Unknown = refl
 
-      if-under : (r v t : ℕ) → visit_conditional image o (deeper f) r v t ≡ map under (visit_conditional image o f r v t)
+      if_under : (r v t : ℕ) → visit_conditional image o (deeper f) r v t ≡ map under (visit_conditional image o f r v t)
       unfolding visit_conditional under
-      if-under r v t =
-          rw (plain-under (λ r v t. []) (λ r v t. []) (λ r v t. refl) t (statement image t), map_append)
+      if_under r v t =
+          rw (plain_under (λ r v t. []) (λ r v t. []) (λ r v t. refl) t (statement image t), map_append under)
 
-      pub body-under : visit_body image o (deeper f) ≡ map under (visit_body image o f)
+      pub body_under : visit_body image o (deeper f) ≡ map under (visit_body image o f)
       unfolding visit_body visit_statement
-      body-under = map_flat under _ _ (λ s. plain-under _ _ if-under s (statement image s)) (scope_statements image f.scope)
+      body_under = map_flat under _ _ (λ s. plain_under _ _ if_under s (statement image s)) (scope_statements image f.scope)
 
     pub opening_under : (n : ℕ) → Moves (opening image n)
     unfolding opening open_gate under
     opening_under zero new g = refl
-    opening_under (suc n) new g = ap (λ l. enter (u ++ new.trace) g ∷ l) (body-under (opening image n) (opening_under n) new)
+    opening_under (suc n) new g = ap (λ l. enter (u ++ new.trace) g ∷ l) (body_under (opening image n) (opening_under n) new)

@@ -1,1 +1,3 @@
+#![tactic(auto)]
+
 // The definitions of the program, and theorems about them: specs/ and proofs/. No code.

@@ -1,7 +1,7 @@
 -- `root k n` is the one r with r ^ k ≤ n < (r + 1) ^ k.
 use mathlib.Core.Path.{◌≡◌, refl, sym, ◌∙◌, subst}
 use mathlib.Core.Bool.{Bool, true, false, cond}
-use Prim.Native.Nat.{ℕ, zero, suc, ◌+◌, ◌-◌, ◌*◌, ◌/◌, ◌^◌, ◌≤◌, ◌<◌}
+use Prim.Native.Nat.{ℕ, zero, suc, ◌+◌, ◌*◌, ◌/◌, ◌^◌, ◌≤◌, ◌<◌}
 use native.Mathlib.Nat.{pow-suc, pow-zero, mul-zero, lt_irrefl, le_refl, le_trans, le_of_eq, lt_of_lt_of_le, lt_of_not-le, pow-le-pow_left, one-le-pow, div-mul-le_self, lt-div-mul-add, zero-lt-suc, le_of_suc-le-suc, le_antisymm, div-lt_self, pow-le-pow_right, mul-le-mul_left}
 use native.Mathlib.Omega.{arith}
 use lib.Dec.{leb}

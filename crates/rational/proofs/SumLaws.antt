@@ -1,7 +1,7 @@
 -- The sum whose steps are each capped at the limit is the definition's sum.
 use mathlib.Core.Path.{◌≡◌, refl, sym, ap, ◌∙◌, subst}
 use mathlib.Core.Bool.{Bool, true, false, ◌&&◌, cond}
-use Prim.Native.Nat.{ℕ, ◌-◌, ◌*◌, ◌/◌, ◌<◌, ◌^◌, min}
+use Prim.Native.Nat.{ℕ, ◌*◌, ◌/◌, ◌<◌, ◌^◌, min}
 use native.Mathlib.Nat.{mul-pos, mul-div_cancel'}
 use native.Mathlib.Omega.{arith}
 use lib.Dec.{ltb}

@@ -1,4 +1,6 @@
 // Fractions in lowest terms, a sign beside two magnitudes: the stand-in for num's Rational64.
+#![tactic(auto)]
+
 ghost use Rattle.std.specs.Prelude.{◌≡◌, ◌&&◌, ltb, eqb, ◌+◌, ◌-◌, ◌*◌, ◌/◌, ◌%◌, ◌<◌, ◌≤◌, ◌^◌, min};
 ghost use Rattle.std.specs.Bool.{beq};
 ghost use Rattle.rational.specs.Gcd.{gcd};
@@ -7,7 +9,7 @@ ghost use Rattle.rational.specs.Rational.{magnitude_limit, LowestTerms, reduced,
 ghost use Rattle.rational.specs.Rational.{sum_magnitude, sum_sign, common_denominator, all_in_range, fraction_sum, difference, product, quotient, power, whole_root, root_ratio, rational_root};
 ghost use Rattle.rational.specs.Promise.{SoundOption, ChecksTo};
 
-#[derive(Drop)]
+#[derive(Clone, Copy)]
 pub struct Rational64 {
     pub negative: bool,
     pub numer: u64,
@@ -15,14 +17,14 @@ pub struct Rational64 {
 }
 
 // Option<Rational64> in the Rust: None is an overflow, or a root that is no fraction.
-#[derive(Drop)]
+#[derive(Clone, Copy)]
 pub enum OptionRational64 {
     Some(Rational64),
     None,
 }
 
 // Option<u64> in the Rust: a root that is a whole number.
-#[derive(Drop)]
+#[derive(Clone, Copy)]
 pub enum WholeRoot {
     Whole(u64),
     Absent,

@@ -8,7 +8,7 @@ use lib.Dec.{leb, ltb, eqb}
 use lib.ListN.{length, get_or, take, drop, get_or-eq_default, length-drop}
 use borrow.Author.Tests.{le-leb, lt-leb, lt-ltb, le-ltb, leb-true, eqb-true, eqb-false}
 use lib.Seq.{get_or-drop, length-take-le}
-use native.Mathlib.Nat.{add_zero}
+use native.Mathlib.Nat.{add-zero}
 use Rattle.record_reader.specs.declared.NextRecord.TheVariants as answer
 use Rattle.record_reader.specs.Answer.{next_record_of, next_words_of}
 use Rattle.model.specs.RecordReader.{next, end, wrong, record_length, next_at}
@@ -96,7 +96,7 @@ module _ (ws : List ℕ) (at : ℕ) where
 
 -- ---- the kind at a position, and the length that was found
 pub kind_at : (ws : List ℕ) (at : ℕ) → get_or ws at 0 ≡ get_or (drop at ws) 0 0
-kind_at ws at = sym (get_or-drop at ws 0 0 ∙ ap (λ (k : ℕ). get_or ws k 0) (add_zero at))
+kind_at ws at = sym (get_or-drop at ws 0 0 ∙ ap (λ (k : ℕ). get_or ws k 0) (add-zero at))
 
 pub fits_left : (ws : List ℕ) (at n : ℕ) → n ≡ cond (leb (record_length (drop at ws)) (length ws - at)) (record_length (drop at ws)) 0 → n ≤ length ws - at
 fits_left ws at n e = go (leb (record_length (drop at ws)) (length ws - at)) refl e

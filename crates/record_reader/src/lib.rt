@@ -1,10 +1,12 @@
 // The next record of some words, as a part of the caller's own slice.
+#![tactic(auto)]
+
 ghost use Rattle.std.specs.Prelude.{◌≡◌, length, get_or, drop, ◌+◌, ◌-◌, ◌*◌, ◌/◌, ◌<◌};
 ghost use Rattle.model.specs.RecordReader.{record_length, next_at};
 ghost use Rattle.record_reader.specs.Answer.{length_within, next_record_of, next_words_of};
 
 // What stands at a position: a record of so many words, the end of the words, or no record, which has the number 17.
-#[derive(Drop)]
+#[derive(Clone, Copy)]
 pub enum NextRecord {
     Record(usize),
     End,

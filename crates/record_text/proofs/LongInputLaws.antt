@@ -1,12 +1,11 @@
 -- Of an input that is longer than a program's room, what the program leaves out changes no answer.
 use Prim.Native.Nat.{ℕ, zero, suc, ◌-◌, ◌*◌, ◌/◌, ◌≤◌, ◌<◌, min}
-use native.Mathlib.Nat.{le_of_suc-le-suc, not-suc-le-zero}
 use native.Mathlib.Omega.{arith}
-use mathlib.Core.Path.{◌≡◌, refl, sym, ap, ◌∙◌}
+use mathlib.Core.Path.{◌≡◌, refl, sym, ap}
 use mathlib.Core.List.{List, [], ◌∷◌}
 use borrow.Author.Tests.{lt-ltb, ne_eqb}
 use lib.ListN.{length, take, drop}
-use lib.Seq.{take-nil, take-take, length-take-le}
+use lib.Seq.{take-take, length-take-le}
 use Rattle.model.specs.Lists.{sum}
 use Rattle.model.specs.RecordReader.{records_in}
 use Rattle.model.specs.Listing.{little_endian, words_of}

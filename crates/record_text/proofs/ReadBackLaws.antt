@@ -55,8 +55,8 @@ module _ (input : List ℕ) {n : ℕ} (e : n ≡ min (length input / 8) 65536) w
       pub last_room : 1441792 ≤ length text → (front.words ≤ 65536) × (front.end + 64 ≤ length text')
       last_room h = (omega (arith, f.inside, words_few), omega (arith, f.few, words_few, put_length f.put))
 
-      pub back-put : {end : ℕ} {text'' : List ℕ} → Put (last_line (length input) front.words front.records) text' front.end end text'' → Put (read_back input) text 0 end text''
+      pub back_put : {end : ℕ} {text'' : List ℕ} → Put (last_line (length input) front.words front.records) text' front.end end text'' → Put (read_back input) text 0 end text''
       unfolding read_back records_text
-      back-put q =
+      back_put q =
           put_same (ap (λ (l : List ℕ). records_text (length input) (records_in l)) (words_read ∙ ap (λ (k : ℕ). words_of k input) e))
           (put_then f.put (put_same (ap₂ (last_line (length input)) f.place f.count) q))

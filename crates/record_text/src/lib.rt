@@ -1,4 +1,6 @@
 // Records read back, each as its line in the listing, and a last line.
+#![tactic(auto)]
+
 ghost use Rattle.std.specs.Prelude.{◌≡◌, ◌+◌, ◌*◌, ◌≤◌, ◌&&◌, ltb, length};
 ghost use Rattle.text.specs.Put.{Put, InFront};
 ghost use Rattle.record_text.specs.ReadBack.{last_line, read_back};
@@ -12,7 +14,7 @@ const WORDS_READ: usize = 65536;
 const BYTES_READ: usize = 524288;
 
 // Where the lines of some records end, where their words end, and how many records they are.
-#[derive(Drop)]
+#[derive(Clone, Copy)]
 struct Front {
     end: usize,
     words: usize,

@@ -1,22 +1,20 @@
 -- One round of each statement, from the qubits and bits that the code found.
 use Prim.Native.Nat.{ℕ, ◌+◌, ◌<◌}
-use mathlib.Core.Path.{◌≡◌, refl, sym, ap, ap₂, subst}
+use mathlib.Core.Path.{◌≡◌, refl, ap, ap₂, subst}
 use borrow.Author.Tests.{eq-eqb, ne_eqb}
 use mathlib.Core.List.{List, [], ◌∷◌}
 use lib.ListN.{length}
 use Rattle.value.specs.declared.Value.{Value}
 use Rattle.model.specs.Records.{Record, encode, kind as kind_of, fields}
-use Rattle.model.specs.Steps.{Step, write, refuse, Refusal, Frame, in_rounds, qubit_in, bit_in, write_reset, write_measure, write_cx, write_u}
+use Rattle.model.specs.Steps.{Step, write, Frame, in_rounds, qubit_in, bit_in, write_reset, write_measure, write_cx, write_u}
 use Rattle.model.specs.Image.{argument_at}
-use Rattle.model.specs.Run.{Answer, refused, play}
-use Rattle.model.specs.Playing.{Plays}
+use Rattle.model.specs.Run.{play}
 use Rattle.model.proofs.PlayLaws.{plays_stop}
 use Rattle.record_writer.specs.declared.Position.{Position}
 use Rattle.record_writer.specs.declared.LinearizeErrorKind.TheVariants as kind
-use Rattle.record_writer.specs.declared.LinearizeError.{LinearizeError}
 use Rattle.record_writer.specs.declared.Linearized.{Linearized}
 use Rattle.record_writer.specs.declared.Linearized.TheVariants as linearized
-use Rattle.record_writer.specs.Promise.{output_full_at, InOutput, WroteSteps, refusal_answer, state_at}
+use Rattle.record_writer.specs.Promise.{output_full_at, InOutput, WroteSteps}
 use Rattle.record_writer.proofs.WroteStepsLaws.{record_refused}
 use Rattle.record_writer.proofs.AngleWordsLaws.{u_long}
 use Rattle.argument.specs.declared.Argument.{Argument}

@@ -1,4 +1,6 @@
 // The tally of an image at a depth: nine figures, before the first record.
+#![tactic(auto)]
+
 ghost use Rattle.std.specs.Prelude.{◌≡◌, cond, [], ◌∷◌, map, eqb, suc, ◌+◌, ◌-◌, ◌*◌, ◌<◌, ◌≤◌, ◌^◌, min};
 ghost use Rattle.model.specs.Lists.{range, sum, largest};
 ghost use Rattle.model.specs.Image.{statement, argument_size, classical_argument_size, rounds, gates, gate_arguments, qubits, bits};
@@ -14,7 +16,7 @@ use image::{CheckRefusal, Layout};
 use image_check::LayoutAnswer;
 
 // The records of kinds 1 to 7, the body entries and the word bound.
-#[derive(Drop)]
+#[derive(Clone, Copy)]
 pub struct Figures {
     pub u: u64,
     pub cx: u64,
@@ -28,7 +30,7 @@ pub struct Figures {
 }
 
 // What a tally answers: the figures, why the check refuses the image, or that a figure is too large.
-#[derive(Drop)]
+#[derive(Clone, Copy)]
 pub enum Tallied {
     Figures(Figures),
     Refused(CheckRefusal),

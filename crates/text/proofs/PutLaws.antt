@@ -1,6 +1,6 @@
 -- Bytes that are put behind bytes are put together.
 use Prim.Native.Nat.{ℕ, ◌+◌, ◌≤◌, ◌<◌}
-use native.Mathlib.Nat.{add_zero, zero-add}
+use native.Mathlib.Nat.{add-zero, zero-add}
 use native.Mathlib.Numerals.{add-one}
 use native.Mathlib.Omega.{arith}
 use mathlib.Core.Path.{◌≡◌, refl, sym, ap, subst, ◌∙◌}
@@ -11,7 +11,7 @@ use Rattle.model.proofs.PlayLaws.{sets_append}
 use Rattle.text.specs.Put.{Room, Put, InFront}
 
 pub put_none : (text : List ℕ) (at : ℕ) → at ≤ length text → Put [] text at at text
-put_none text at h = record { contents = refl; ends = sym (add_zero at); fits = h }
+put_none text at h = record { contents = refl; ends = sym (add-zero at); fits = h }
 
 pub put_same : {a b text text' : List ℕ} {at end : ℕ} → a ≡ b → Put a text at end text' → Put b text at end text'
 put_same {text = text} {text' = text'} {at = at} {end = end} e h = subst (λ (l : List ℕ). Put l text at end text') e h

@@ -4,7 +4,7 @@ use native.Mathlib.Nat.{le_of_lt}
 use native.Mathlib.Omega.{arith}
 use mathlib.Core.Path.{◌≡◌, refl, sym, ap, ◌∙◌}
 use mathlib.Core.Bool.{Bool, true, false, cond}
-use mathlib.Core.List.{List, [], ◌∷◌, ◌++◌, map, flat_map, append_assoc}
+use mathlib.Core.List.{List, [], ◌∷◌, ◌++◌, map, flat_map}
 use borrow.Author.Tests.{eq-eqb, ne_eqb}
 use lib.Dec.{eqb}
 use lib.ListN.{length, get_or}
@@ -14,7 +14,7 @@ use Rattle.value.specs.declared.Value.{Value}
 use Rattle.value.specs.Value.{Sound}
 use Rattle.model.specs.Records.{Record, kind, fields, encode, fraction_words, angle_words}
 use Rattle.model.specs.Claims.{angles_of}
-use Rattle.model.specs.Listing.{decimal, line, fraction_text, angle_text, fields_text, record_text}
+use Rattle.model.specs.Listing.{decimal, fraction_text, angle_text, fields_text, record_text}
 use Rattle.model.proofs.All.{head-All, tail-All}
 use Rattle.model.specs.All.{All}
 use Rattle.text.specs.NumberLine.{spaced}

@@ -1,4 +1,6 @@
 // The operations of the sequence unit: check, tally, run, next record.
+#![tactic(auto)]
+
 ghost use Rattle.std.specs.Prelude.{◌≡◌};
 ghost use Rattle.model.specs.Check.{check};
 ghost use Rattle.model.specs.Tally.{tally};
@@ -51,7 +53,7 @@ pub fn next_record(words: &[u64], at: usize) -> &[u64]
 }
 
 // An answer's number and two places, as document 01 numbers them: 0 is finished.
-#[derive(Drop)]
+#[derive(Clone, Copy)]
 pub struct Numbers {
     pub number: u64,
     pub place: u64,

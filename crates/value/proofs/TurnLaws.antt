@@ -35,11 +35,11 @@ module _ (b t : Rational64) (q : OptionRational64) (et : t ≡ two) (eq : q ≡ 
 
     -- The doubled part d is the fraction z.
     module _ (z : Rational64) (ez : d ≡ Some z) where
-      pub turn-negative : (v : Rational64) (r : OptionRational64) → v ≡ two → z.negative ≡ true → r ≡ fraction_sum z v → r ≡ turn b
-      turn-negative v r ev n er = er ∙ rw ev (sym (halved ∙ rw ez (rw n)))
+      pub turn_negative : (v : Rational64) (r : OptionRational64) → v ≡ two → z.negative ≡ true → r ≡ fraction_sum z v → r ≡ turn b
+      turn_negative v r ev n er = er ∙ rw ev (sym (halved ∙ rw ez (rw n)))
 
-      pub turn-positive : z.negative ≡ false → Some z ≡ turn b
-      turn-positive n = sym (halved ∙ rw ez (rw n))
+      pub turn_positive : z.negative ≡ false → Some z ≡ turn b
+      turn_positive n = sym (halved ∙ rw ez (rw n))
 
 -- ---- whole multiples of pi
 signs : (s : Bool) (n m : ℕ) → (n ≡ 0 → m ≡ 0) → (unlike (s && ltb 0 n) false && ltb 0 m) ≡ (s && ltb 0 m)

@@ -1,4 +1,6 @@
 // Angles a + b·pi with their arithmetic, after the Rust's value.rs.
+#![tactic(auto)]
+
 ghost use Rattle.std.specs.Prelude.{◌≡◌, false, ◌||◌, ◌<◌};
 ghost use Rattle.rational.specs.Rational.{LowestTerms, ratio, same_fraction};
 ghost use Rattle.rational.specs.Promise.{SoundOption, ChecksTo};
@@ -9,14 +11,14 @@ ghost use Rattle.value.specs.Promise.{SoundEvaluation, EvaluatesTo};
 
 use rational::{MAGNITUDE_LIMIT, OptionRational64, Rational64};
 
-#[derive(Drop)]
+#[derive(Clone, Copy)]
 pub struct Value {
     pub a: Rational64,
     pub b: Rational64,
 }
 
 // The Rust's Result<Value, EvalError>, with one case more: what the Rust hands to a function of floats.
-#[derive(Drop)]
+#[derive(Clone, Copy)]
 pub enum Evaluation {
     Value(Value),
     DivideByZero,

@@ -1,0 +1,13 @@
+-- The words are put in turn: after i turns of the loop the first i of them stand.
+use Prim.Native.Nat.{◌-◌, ◌≤◌}
+use mathlib.Core.Path.{◌≡◌}
+use lib.ListN.{length}
+use lib.Seq.{sets}
+use Rattle.kept_body.specs.Slot.{first_words}
+use Rattle.kept_body.proofs.put_angle_words.Given as goal
+
+abbrev pub invariant-loop-i : goal.invariant-loop-i
+invariant-loop-i l = (l.i ≤ l.n) × (l.slot ≡ sets l.initial.slot 4 (first_words l.angles l.i)) × (length l.slot ≡ length l.initial.slot)
+
+abbrev pub decreases-loop-i : goal.decreases-loop-i
+decreases-loop-i l = l.n - l.i
