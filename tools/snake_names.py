@@ -11,6 +11,7 @@ The names are turned in every .antt, in the .rt files and in the must-fail edits
 
 import collections
 import glob
+import os
 import re
 import sys
 
@@ -23,10 +24,15 @@ CHOSEN = {
     "angle-text": "angle_text_lem",
     "angle-words": "angle_words_lem",
     "at-depth": "at_depth_lem",
+    "body-tally": "body_tally_lem",
+    "conditional-tally": "conditional_tally_lem",
+    "gate-tally": "gate_tally_lem",
+    "plain-tally": "plain_tally_lem",
     "barrier-length": "barrier_length_lem",
     "called-steps": "called_steps_lem",
     "check-words": "check_words_lem",
     "classical-part": "classical_part_lem",
+    "cut-round": "cut_round_lem",
     "fields-text": "fields_text_lem",
     "first-bad": "first_bad_lem",
     "first-of": "first_of_lem",
@@ -59,7 +65,7 @@ def antt_files():
 
 
 def is_of_a_function(path):
-    return path.rsplit("/", 1)[1] in ("Proof.antt", "Invariants.antt", "Answers.antt")
+    return "/proofs/" in path and path.rsplit("/", 1)[1] in ("Proof.antt", "Invariants.antt", "Answers.antt")
 
 
 def without_comment(line):
@@ -80,7 +86,7 @@ def declared(path):
                 continue
             if re.match(r"^\S", text):
                 inside = False
-            m = re.match(r"^ {0,4}(?:abbrev |unfoldable )?(?:pub )?([^\s:(){}=,]+) :(?:\s|$)", text)
+            m = re.match(r"^ *(?:abbrev |unfoldable )?(?:pub )?([^\s:(){}=,]+) :(?:\s|$)", text)
             if m and m.group(1) not in ("use", "module", "let", "in"):
                 yield m.group(1)
             elif inside:
@@ -114,8 +120,19 @@ def table():
     return {n: snake(n) for n in sorted(names) if snake(n) != n}, names
 
 
+def of_a_library(text):
+    """The names that a file takes from a library of the kit, which keep their spelling there."""
+    found = set()
+    for module, items in re.findall(r"^(?:ghost )?use ([^\s;{]+)\.\{([^}]*)\}", text, re.M):
+        parts = module.split(".")
+        if parts[0] != "Rattle" or not os.path.isdir("crates/" + parts[1]):
+            found.update(item.strip().split(" as ")[0] for item in items.split(","))
+    return found
+
+
 def turned(text, names):
-    return NAME.sub(lambda m: names.get(m.group(0), m.group(0)), text)
+    kept = of_a_library(text)
+    return NAME.sub(lambda m: m.group(0) if m.group(0) in kept else names.get(m.group(0), m.group(0)), text)
 
 
 def in_backquotes(text, names):
@@ -154,7 +171,8 @@ def main():
         return
     for path in antt_files() + glob.glob("crates/*/src/**/*.rt", recursive=True) + glob.glob("crates/*/must-fail/*.edit"):
         write(path, turned, names)
-    for path in ["README.md"] + glob.glob("docs/*.md"):
+    histories = ("docs/CHANGES.md", "docs/NAMES.md")
+    for path in ["README.md"] + [p for p in glob.glob("docs/*.md") if p not in histories]:
         write(path, in_backquotes, names)
 
 
