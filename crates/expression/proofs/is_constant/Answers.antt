@@ -21,11 +21,11 @@ second w = word w.args.image.now (w.expression_at-at.result + 2)
 facts : (w : After-word-a) → (let f = w.requires.1 in let image = w.args.image.now in Kinds image f.variables (operand image f.variables [] 32 w.args.e) (expression_at image w.args.e) w.word-a.result (second w) w.word-kind.result)
 facts w = entry w.args.image.now [] w.args.e w.requires.1 _ _ _ (second w) (w.expression_at-at.ensures.in_image _ w.requires.0) w.word-kind.ensures w.word-a.ensures refl
 
-operand-inside : (w : After-word-a) (i : ℕ) → T (operand w.args.image.now w.requires.1.variables [] 32 w.args.e i) → i < expressions w.args.image.now
-operand-inside w i h = inside w.args.image.now i (below w.args.image.now [] w.args.e w.requires.1 _ _ _ (second w) (w.expression_at-at.ensures.in_image _ w.requires.0) w.word-kind.ensures w.word-a.ensures refl i h).1
+operand_inside : (w : After-word-a) (i : ℕ) → T (operand w.args.image.now w.requires.1.variables [] 32 w.args.e i) → i < expressions w.args.image.now
+operand_inside w i h = inside w.args.image.now i (below w.args.image.now [] w.args.e w.requires.1 _ _ _ (second w) (w.expression_at-at.ensures.in_image _ w.requires.0) w.word-kind.ensures w.word-a.ensures refl i h).1
 
 left : (w : After-word-a) → w.word-a.result < expressions w.args.image.now
-left w = operand-inside w w.word-a.result ((facts w).left (omega (arith, w.if-kind-lt4.false)))
+left w = operand_inside w w.word-a.result ((facts w).left (omega (arith, w.if-kind-lt4.false)))
 
 right : (v : After-word-b) → v.word-b.result < expressions v.args.image.now
 right v =

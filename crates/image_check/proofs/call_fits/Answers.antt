@@ -16,9 +16,9 @@ rest c = sym c.unused_after.ensures ∙ c.if-not-unused_after.false
 inside : (c : Else-l-g) → (let a = c.args in ltb a.g (gates a.image.now)) ≡ true
 inside c = below c.requires.0.gates_is c.if-l-g.false
 
-parameters-fit : (c : After-fits)
+parameters_fit : (c : After-fits)
     → (let a = c.args in leb (a.p + gate_parameters a.image.now a.g) (parameters a.image.now)) ≡ c.fits.result
-parameters-fit c = run_fits c.args.p c.fits.ensures
+parameters_fit c = run_fits c.args.p c.fits.ensures
     (parameters_of c.args.image.now c.args.g _ (c.gate_at-at.ensures.in_image _ c.requires.0) _ c.word-m.ensures)
     c.requires.0.parameters_is
 
@@ -35,7 +35,7 @@ pub returns-then-l-g : goal.returns-then-l-g
 returns-then-l-g c = sym (then _ (rest (goal.at.returns-then-l-g c).Else-not-unused_after) (out _ (beyond c.requires.0.gates_is c.if-l-g.true)))
 
 pub returns-then-not-fits : goal.returns-then-not-fits
-returns-then-not-fits c = sym (then _ (rest (goal.at.returns-then-not-fits c).Else-not-unused_after) (then _ (inside (goal.at.returns-then-not-fits c).Else-l-g) (out _ (parameters-fit (goal.at.returns-then-not-fits c).After-fits ∙ c.if-not-fits.true))))
+returns-then-not-fits c = sym (then _ (rest (goal.at.returns-then-not-fits c).Else-not-unused_after) (then _ (inside (goal.at.returns-then-not-fits c).Else-l-g) (out _ (parameters_fit (goal.at.returns-then-not-fits c).After-fits ∙ c.if-not-fits.true))))
 
 pub returns : goal.returns
-returns c = sym (then _ (rest (goal.at.returns c).Else-not-unused_after) (then _ (inside (goal.at.returns c).Else-l-g) (then _ (parameters-fit (goal.at.returns c).After-fits ∙ c.if-not-fits.false) (last (arguments_fit (goal.at.returns c).After-fits-2)))))
+returns c = sym (then _ (rest (goal.at.returns c).Else-not-unused_after) (then _ (inside (goal.at.returns c).Else-l-g) (then _ (parameters_fit (goal.at.returns c).After-fits ∙ c.if-not-fits.false) (last (arguments_fit (goal.at.returns c).After-fits-2)))))
