@@ -4,12 +4,12 @@ use native.Mathlib.Omega.{arith}
 use mathlib.Core.Path.{◌≡◌, refl, sym, ap, ap₂, subst, ◌∙◌}
 use mathlib.Core.Bool.{Bool, true, false, cond}
 use mathlib.Core.List.{List, [], ◌∷◌, map}
-use borrow.Author.Tests.{eq-eqb, ne_eqb}
+use borrow.Author.Tests.{ne_eqb}
 use lib.Dec.{T, eqb, ltb→lt, leb→le}
 use lib.ListN.{length, get_or, take, drop, length-drop}
 use lib.Seq.{take_all}
 use Rattle.model.specs.Lists.{range, sum, largest}
-use Rattle.model.specs.Image.{word, argument_at, quantum_registers, classical_registers, quantum_size, classical_size, argument_register, argument_index, argument_size, classical_argument_size, gate_arguments, first_qubit, first_bit, rounds}
+use Rattle.model.specs.Image.{word, arguments, argument_at, quantum_registers, classical_registers, quantum_size, classical_size, argument_register, argument_index, argument_size, classical_argument_size, gate_arguments, first_qubit, first_bit, rounds}
 use Rattle.model.specs.Check.{argument_ok, classical_argument_ok, matching}
 use Rattle.model.specs.Steps.{resolve_qreg, qubit_in, bit_in}
 use Rattle.model.proofs.ListLaws.{get_d_take}
@@ -19,9 +19,10 @@ use Rattle.model.specs.Accepted.{Accepted, FrameOk}
 use Rattle.model.proofs.StepsSound.{argument, bit_below, matched}
 use Rattle.value.specs.declared.Value.{Value}
 use Rattle.image.specs.declared.Layout.{Layout}
-use Rattle.image.specs.RegisterStarts.{RegisterStarts}
+use Rattle.image.specs.Layout.{LayoutOf}
+use Rattle.image.specs.RegisterStarts.{RegisterStarts, RegisterTable}
 use Rattle.argument.specs.declared.Argument.{Argument}
-use Rattle.argument.specs.Frames.{scope_qubits, scope_frame, ScopeContext, BitContext, number_in_round, register_argument, RegisterEntry, quantum_argument, classical_argument}
+use Rattle.argument.specs.Frames.{scope_qubits, scope_frame, ScopeContext, number_in_round, register_argument, RegisterEntry, quantum_argument, classical_argument}
 
 -- sizes of 1 at least come to their number at least
 pub count_sum : (f : ℕ → ℕ) (a n : ℕ) → ((r : ℕ) → a ≤ r → r < a + n → 1 ≤ f r) → n ≤ sum (map f (range a n))
@@ -109,19 +110,19 @@ module _ {image : List ℕ} (acc : Accepted image) where
 
 -- ---- quantum arguments
 
-module _ {image : List ℕ} {l : Layout} {register-starts : List ℕ} {scope : ℕ} {qubits : List ℕ} (s : ScopeContext image l register-starts scope qubits) where
+module _ {image : List ℕ} (acc : Accepted image) {scope : ℕ} {qubits : List ℕ} (s : ScopeContext image scope qubits) where
   abbrev resolved : ℕ → Argument
   resolved a = quantum_argument image scope qubits a
 
   pub resolved_below : (a i : ℕ) → T (argument_ok image scope a) → (¬ (argument_size image scope a ≡ 1) → i < argument_size image scope a) → number_in_round (resolved a) i < 4096
-  resolved_below a i k h = omega (arith, argument image s.accepted scope [] (take (scope_qubits image scope) qubits) a i s.frame k h, s.accepted.few_qubits)
+  resolved_below a i k h = omega (arith, argument image acc scope [] (take (scope_qubits image scope) qubits) a i s.frame k h, acc.few_qubits)
 
   pub qubit_is : (angles : List Value) (a i : ℕ) {x : Argument} {q : ℕ} → x ≡ resolved a → q ≡ number_in_round x i → q ≡ qubit_in image (scope_frame image scope angles qubits) i a
   unfolding qubit_in
   qubit_is angles a i e f = f ∙ ap (λ (x : Argument). number_in_round x i) e
 
   first_below : (a : ℕ) → T (argument_ok image scope a) → (resolved a).first < 4096
-  first_below a k = omega (arith, resolved_below a 0 k (λ n. at_least_one image s.accepted qubits a scope k))
+  first_below a k = omega (arith, resolved_below a 0 k (λ n. at_least_one image acc qubits a scope k))
 
   pub in_range : (a i : ℕ) {x : Argument} → T (argument_ok image scope a) → x ≡ resolved a → (¬ (argument_size image scope a ≡ 1) → i < argument_size image scope a) → number_in_round x i < 2 ^ 64
   in_range a i k e h = omega (arith, resolved_below a i k h, ap (λ (x : Argument). number_in_round x i) e)
@@ -155,32 +156,32 @@ module _ {image : List ℕ} {l : Layout} {register-starts : List ℕ} {scope : �
   measure_range a c i t e f g h = pair_range _ _ i t (subst (λ (n : ℕ). i < n) (measure_rounds a c e f g) h)
 
   -- the words of an argument entry name a qubit of the frame in a body, a part of a register in main
-  module _ (a : ℕ) {at : ℕ} (ea : at ≡ argument_at image a) (near : a < l.arguments) where
+  module _ {l : Layout} (laid : LayoutOf image l) (a : ℕ) {at : ℕ} (ea : at ≡ argument_at image a) (near : a < arguments image) where
     low : at ≤ 16384
-    low = omega (arith, s.laid.arguments_is, s.laid.whole, s.laid.short)
+    low = omega (arith, laid.whole, laid.short)
 
     module _ (k : T (argument_ok image scope a)) where
       pub frame_qubit : {r : ℕ} → r ≡ word image at → ¬ (scope ≡ 0) → (r < 16) × (◌≡◌ {A = Argument} (record { first = get_or qubits r 0; size = 1 }) (resolved a))
       frame_qubit e h =
           let read = e ∙ ap (word image) ea in (
-            subst (λ (n : ℕ). n < 16) (sym read) (body_register image s.accepted qubits a scope _ s.frame h k),
-            same_argument (ap (λ (n : ℕ). get_or qubits n 0) read ∙ body_first image s.accepted qubits a scope h k) (body_size image s.accepted qubits a scope h),
+            subst (λ (n : ℕ). n < 16) (sym read) (body_register image acc qubits a scope _ s.frame h k),
+            same_argument (ap (λ (n : ℕ). get_or qubits n 0) read ∙ body_first image acc qubits a scope h k) (body_size image acc qubits a scope h),
           )
 
       pub quantum_argument_is : {c : ℕ} → c ≡ 9 → scope ≡ 0 → register_argument image c at ≡ resolved a
       unfolding first_qubit
       quantum_argument_is e h =
           ap₂ (register_argument image) e ea
-          ∙ same_argument (main_first image s.accepted qubits a scope (take (scope_qubits image scope) qubits) h) (main_size image s.accepted qubits a scope h)
+          ∙ same_argument (main_first image acc qubits a scope (take (scope_qubits image scope) qubits) h) (main_size image acc qubits a scope h)
 
-      pub quantum_part_lem : {c : ℕ} → c ≡ 9 → scope ≡ 0 → RegisterEntry image register-starts c at
+      pub quantum_part_lem : {register-starts : List ℕ} → RegisterTable image register-starts → {c : ℕ} → c ≡ 9 → scope ≡ 0 → RegisterEntry image register-starts c at
       unfolding first_qubit
-      quantum_part_lem {c} e h =
-          let m = main_register image s.accepted qubits a scope h k in
+      quantum_part_lem {register-starts} starts {c} e h =
+          let m = main_register image acc qubits a scope h k in
           record {
             count = quantum_registers image;
-            starts = subst (λ (n : ℕ). RegisterStarts (λ i. word image (n + i)) (quantum_registers image) register-starts) (sym e) s.starts;
-            few = few_quantum s.accepted;
+            starts = subst (λ (n : ℕ). RegisterStarts (λ i. word image (n + i)) (quantum_registers image) register-starts) (sym e) starts.quantum;
+            few = few_quantum acc;
             listed = subst (λ (n : ℕ). word image n < quantum_registers image) (sym ea) m.0;
             below = subst (λ (x : Argument). x.first < 4096) (sym (quantum_argument_is e h)) (first_below a k);
             near = (omega arith, low);
@@ -188,29 +189,21 @@ module _ {image : List ℕ} {l : Layout} {register-starts : List ℕ} {scope : �
 
 -- ---- classical arguments
 
-module _ {image : List ℕ} {l : Layout} {register-starts : List ℕ} (s : BitContext image l register-starts) where
-  -- the part of the table that is lent for the classical registers
-  pub quantum_within : l.quantum_registers ≤ length register-starts
-  quantum_within = omega (arith, s.laid.quantum_registers_is, s.starts.quantum.fits)
+-- the part of the table that is lent for the classical registers
+part_is : {image : List ℕ} {l : Layout} → LayoutOf image l → (register-starts : List ℕ) → take (length register-starts - l.quantum_registers) (drop l.quantum_registers register-starts) ≡ drop (quantum_registers image) register-starts
+part_is {l = l} laid register-starts =
+    take_all (length register-starts - l.quantum_registers) (drop l.quantum_registers register-starts) (omega (arith, length-drop l.quantum_registers register-starts))
+    ∙ ap (λ (n : ℕ). drop n register-starts) laid.quantum_registers_is
 
-  part_is : take (length register-starts - l.quantum_registers) (drop l.quantum_registers register-starts) ≡ drop (quantum_registers image) register-starts
-  part_is =
-      take_all (length register-starts - l.quantum_registers) (drop l.quantum_registers register-starts) (omega (arith, length-drop l.quantum_registers register-starts))
-      ∙ ap (λ (n : ℕ). drop n register-starts) s.laid.quantum_registers_is
-
+module _ {image : List ℕ} (acc : Accepted image) where
   pub bit_range : (c i : ℕ) {y : Argument} → T (classical_argument_ok image c) → y ≡ classical_argument image c → (¬ (classical_argument_size image c ≡ 1) → i < classical_argument_size image c) → number_in_round y i < 2 ^ 64
   unfolding bit_in
-  bit_range c i k e h = omega (arith, bit_below image s.accepted c i k h, s.accepted.few_bits, ap (λ (y : Argument). number_in_round y i) e)
-
-  pub few_bit_rounds : (c : ℕ) {y : Argument} → T (classical_argument_ok image c) → y ≡ classical_argument image c → y.size ≤ 4096
-  unfolding bit_in
-  few_bit_rounds c {y} k e =
-      rw e (last_below (classical_argument image c).first (classical_argument_size image c) (λ h. omega (arith, bit_below image s.accepted c (classical_argument_size image c - 1) k h, s.accepted.few_bits)))
+  bit_range c i k e h = omega (arith, bit_below image acc c i k h, acc.few_bits, ap (λ (y : Argument). number_in_round y i) e)
 
   -- the words of an argument entry name a part of a register
-  module _ (a : ℕ) {at : ℕ} (ea : at ≡ argument_at image a) (near : a < l.arguments) (k : T (classical_argument_ok image a)) where
+  module _ {l : Layout} (laid : LayoutOf image l) (a : ℕ) {at : ℕ} (ea : at ≡ argument_at image a) (near : a < arguments image) (k : T (classical_argument_ok image a)) where
     low_bits : at ≤ 16384
-    low_bits = omega (arith, s.laid.arguments_is, s.laid.whole, s.laid.short)
+    low_bits = omega (arith, laid.whole, laid.short)
 
     register_listed : (argument_register image a < classical_registers image) × (argument_index image a ≤ classical_size image (argument_register image a))
     unfolding classical_argument_ok
@@ -222,41 +215,25 @@ module _ {image : List ℕ} {l : Layout} {register-starts : List ℕ} (s : BitCo
 
     bit_size : 1 ≤ classical_argument_size image a
     unfolding classical_argument_size
-    bit_size = either (eqb (argument_index image a) 0) (s.accepted.csizes _ register_listed.0)
+    bit_size = either (eqb (argument_index image a) 0) (acc.csizes _ register_listed.0)
 
     bit_first : (classical_argument image a).first < 4096
     unfolding bit_in
-    bit_first = omega (arith, bit_below image s.accepted a 0 k (λ n. bit_size), s.accepted.few_bits)
+    bit_first = omega (arith, bit_below image acc a 0 k (λ n. bit_size), acc.few_bits)
 
-    pub classical_part_lem : {c : ℕ} → c ≡ 9 + quantum_registers image → RegisterEntry image (take (length register-starts - l.quantum_registers) (drop l.quantum_registers register-starts)) c at
+    pub classical_part_lem : {register-starts : List ℕ} → RegisterTable image register-starts → {c : ℕ} → c ≡ 9 + quantum_registers image → RegisterEntry image (take (length register-starts - l.quantum_registers) (drop l.quantum_registers register-starts)) c at
     unfolding first_bit
-    classical_part_lem {c} e =
+    classical_part_lem {register-starts} starts {c} e =
         record {
           count = classical_registers image;
-          starts = subst (λ (t : List ℕ). RegisterStarts (λ i. word image (c + i)) (classical_registers image) t) (sym part_is)
-              (subst (λ (n : ℕ). RegisterStarts (λ i. word image (n + i)) (classical_registers image) (drop (quantum_registers image) register-starts)) (sym e) s.starts.classical);
-          few = few_classical s.accepted;
+          starts = subst (λ (t : List ℕ). RegisterStarts (λ i. word image (c + i)) (classical_registers image) t) (sym (part_is laid register-starts))
+              (subst (λ (n : ℕ). RegisterStarts (λ i. word image (n + i)) (classical_registers image) (drop (quantum_registers image) register-starts)) (sym e) starts.classical);
+          few = few_classical acc;
           listed = subst (λ (n : ℕ). word image n < classical_registers image) (sym ea) register_listed.0;
           below = subst (λ (x : Argument). x.first < 4096) (sym (classical_argument_is e)) bit_first;
-          near = (omega (arith, few_quantum s.accepted), low_bits);
+          near = (omega (arith, few_quantum acc), low_bits);
         }
 
 pub bit_is : (image : List ℕ) (c i : ℕ) {y : Argument} {b : ℕ} → y ≡ classical_argument image c → b ≡ number_in_round y i → b ≡ bit_in image i c
 unfolding bit_in
 bit_is image c i e f = f ∙ ap (λ (y : Argument). number_in_round y i) e
-
--- what the words at a place say
-module _ {image register-starts : List ℕ} {sizes at : ℕ} (p : RegisterEntry image register-starts sizes at) {r j : ℕ} (er : r ≡ word image at) (ej : j ≡ word image (at + 1)) where
-  first_is : get_or register-starts r 0 ≡ sum (map (λ i. word image (sizes + i)) (range 0 (word image at)))
-  first_is = ap (λ (n : ℕ). get_or register-starts n 0) er ∙ p.starts.each (word image at) p.listed
-
-  begins : get_or register-starts r 0 + (j - 1) ≡ (register_argument image sizes at).first
-  begins = ap₂ (λ (m n : ℕ). m + (n - 1)) first_is ej
-
-  pub part_index : ¬ (j ≡ 0) → (get_or register-starts r 0 + (j - 1) < 4096) × (◌≡◌ {A = Argument} (record { first = get_or register-starts r 0 + (j - 1); size = 1 }) (register_argument image sizes at))
-  part_index n = (omega (arith, begins, p.below), same_argument begins (sym (rw (ne_eqb (word image (at + 1)) 0 (λ e. n (ej ∙ e))) refl)))
-
-  pub part_whole : j ≡ 0 → {z : ℕ} → z ≡ word image (sizes + r) → ◌≡◌ {A = Argument} (record { first = get_or register-starts r 0; size = z }) (register_argument image sizes at)
-  part_whole n ez =
-      let f : get_or register-starts r 0 ≡ get_or register-starts r 0 + (j - 1) = omega (arith, n) in
-      same_argument (f ∙ begins) (ez ∙ ap (λ (m : ℕ). word image (sizes + m)) er ∙ sym (rw (eq-eqb (word image (at + 1)) 0 (sym ej ∙ n)) refl))

@@ -2,22 +2,20 @@
 use Prim.Native.Nat.{ℕ, zero, suc, ◌+◌, ◌≤◌, ◌<◌}
 use native.Mathlib.Numerals.{add-one}
 use native.Mathlib.Omega.{arith}
-use mathlib.Core.Path.{◌≡◌, refl, sym, ap, ap₂, subst, ◌∙◌}
+use mathlib.Core.Path.{◌≡◌, refl, sym, ap, ap₂, ◌∙◌}
 use mathlib.Core.Bool.{◌||◌}
 use mathlib.Core.List.{List, [], ◌∷◌, ◌++◌, map, map-append}
 use lib.Dec.{T, eqb}
 use lib.ListN.{length, get_or, set, take, length-set}
 use lib.Seq.{take-suc-set}
 use Rattle.model.specs.Lists.{range, largest}
-use Rattle.model.specs.Image.{argument_size, rounds}
+use Rattle.model.specs.Image.{arguments, argument_size, rounds}
 use Rattle.model.specs.Check.{argument_ok, matching}
 use Rattle.model.specs.Steps.{qubit_in}
 use Rattle.model.proofs.ListLaws.{get_d_take, entry_of_map, range_snoc}
 use Rattle.model.proofs.All.{all-All, of-All, range-All}
 use Rattle.model.proofs.StepsSound.{matched}
-use Rattle.image.specs.declared.Layout.{Layout}
-use Rattle.argument.specs.Frames.{scope_frame, ScopeContext, CallArguments, RoundQubits}
-use Rattle.argument.proofs.ArgumentLaws.{few_rounds}
+use Rattle.argument.specs.Frames.{scope_frame, CallArguments, RoundQubits}
 
 map_snoc : (f : ℕ → ℕ) (a n : ℕ) → map f (range a (n + 1)) ≡ map f (range a n) ++ f (a + n) ∷ []
 map_snoc f a n = ap (map f) (range_snoc a n) ∙ map-append f (range a n) ((a + n) ∷ [])
@@ -34,17 +32,12 @@ module _ (image : List ℕ) (scope : ℕ) (qubits : List ℕ) (a i : ℕ) where
         front = ap (λ (n : ℕ). take n (set q j x)) (add-one j) ∙ take-suc-set q j x (omega (arith, k.sixteen)) ∙ ap₂ (λ (s : List ℕ) (y : ℕ). s ++ y ∷ []) k.front e ∙ sym (map_snoc (qubit_in image (scope_frame image scope [] qubits) i) a j);
       }
 
-  pub qubits_all : {j n : ℕ} {q : List ℕ} → j ≤ n → n ≤ j → RoundQubits image scope qubits a j i q → RoundQubits image scope qubits a n i q
-  qubits_all {j} {n} {q} h k w =
-      let e : j ≡ n = omega arith in
-      subst (λ (m : ℕ). RoundQubits image scope qubits a m i q) e w
-
   -- so each is the qubit of its argument
   pub qubit_of : {n : ℕ} {q : List ℕ} → RoundQubits image scope qubits a n i q → (j : ℕ) → j < n → qubit_in image (scope_frame image scope [] qubits) i (a + j) ≡ get_or q j 0
   qubit_of {n} {q} k j h = sym (entry_of_map _ a n j 0 h) ∙ ap (λ (l : List ℕ). get_or l j 0) (sym k.front) ∙ get_d_take n j q 0 h
 
-module _ {image : List ℕ} {l : Layout} {scope a n : ℕ} (c : CallArguments image l scope a n) {j : ℕ} (h : j < n) where
-  pub argument_listed : a + j < l.arguments
+module _ {image : List ℕ} {scope a n : ℕ} (c : CallArguments image scope a n) {j : ℕ} (h : j < n) where
+  pub argument_listed : a + j < arguments image
   argument_listed = omega (arith, c.listed)
 
   pub argument_is_ok : T (argument_ok image scope (a + j))
@@ -62,8 +55,3 @@ largest_few : (f : ℕ → ℕ) (a n : ℕ) → ((j : ℕ) → a ≤ j → j < a
 unfolding largest range
 largest_few f a zero h = omega arith
 largest_few f a (suc n) h = omega (arith, h a (omega arith) (omega arith), largest_few f (suc a) n (λ j p q. h j (omega arith) (omega arith)))
-
-pub call_rounds_few : {image : List ℕ} {l : Layout} {register-starts : List ℕ} {scope : ℕ} {qubits : List ℕ} {a n : ℕ} → ScopeContext image l register-starts scope qubits → CallArguments image l scope a n → rounds image scope (range a n) ≤ 4096
-unfolding rounds
-call_rounds_few {image} {scope = scope} {a = a} {n} s c =
-    largest_few (argument_size image scope) a n λ j p q. few_rounds s j (range-All {P = λ b. T (argument_ok image scope b)} a n j (all-All _ _ c.each) p q) refl

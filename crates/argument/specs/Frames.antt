@@ -4,12 +4,10 @@ use Rattle.value.specs.declared.Value.{Value}
 use Rattle.model.specs.Limits.{most_words, most_arguments, most_elements}
 use Rattle.model.specs.Lists.{range, sum, all}
 use Rattle.model.specs.Check.{argument_ok, classical_argument_ok, matching}
-use Rattle.model.specs.Image.{word, quantum_size, quantum_registers, gate_arguments, variables, argument_size, classical_argument_size, argument_register, argument_index, first_bit}
+use Rattle.model.specs.Image.{word, arguments, gate_arguments, variables, argument_size, classical_argument_size, argument_register, argument_index, first_bit}
 use Rattle.model.specs.Steps.{Frame, resolve_qreg, qubit_in}
-use Rattle.model.specs.Accepted.{Accepted, FrameOk}
-use Rattle.image.specs.declared.Layout.{Layout}
-use Rattle.image.specs.Layout.{LayoutOf}
-use Rattle.image.specs.RegisterStarts.{RegisterStarts, RegisterTable}
+use Rattle.model.specs.Accepted.{FrameOk}
+use Rattle.image.specs.RegisterStarts.{RegisterStarts}
 use Rattle.argument.specs.declared.Argument.{Argument}
 
 -- how many qubits the frame of a scope has: none in main, one for each argument of its gate in a body
@@ -21,19 +19,10 @@ scope_qubits image (suc g) = gate_arguments image g
 abbrev pub scope_frame : List ℕ → ℕ → List Value → List ℕ → Frame
 scope_frame image scope angles qubits = record { scope = scope; trace = []; values = take (variables image scope) angles; qubits = take (scope_qubits image scope) qubits }
 
--- where the statements of a scope are run: the image is accepted, its quantum registers start where the table says, and the frame's qubits are declared ones
-pub record ScopeContext (image : List ℕ) (l : Layout) (register-starts : List ℕ) (scope : ℕ) (qubits : List ℕ) : Type 0 where
-  pub laid : LayoutOf image l
-  pub accepted : Accepted image
-  pub starts : RegisterStarts (quantum_size image) (quantum_registers image) register-starts
+-- where the statements of a scope are run: sixteen qubits have the scope's frame in front, and its qubits are declared ones
+pub record ScopeContext (image : List ℕ) (scope : ℕ) (qubits : List ℕ) : Type 0 where
   pub sixteen : length qubits ≡ most_arguments
   pub frame : FrameOk image scope [] (take (scope_qubits image scope) qubits)
-
--- where the bits of an argument are found: the image is accepted, and its registers start where the table says
-pub record BitContext (image : List ℕ) (l : Layout) (register-starts : List ℕ) : Type 0 where
-  pub laid : LayoutOf image l
-  pub accepted : Accepted image
-  pub starts : RegisterTable image register-starts
 
 -- ---- arguments
 
@@ -67,26 +56,26 @@ abbrev pub number_in_round : Argument → ℕ → ℕ
 number_in_round x i = x.first + cond (eqb x.size 1) 0 i
 
 -- argument a, which the check accepted in a scope
-pub record AcceptedArgument (image : List ℕ) (l : Layout) (scope a : ℕ) : Type 0 where
-  pub listed : a < l.arguments
+pub record AcceptedArgument (image : List ℕ) (scope a : ℕ) : Type 0 where
+  pub listed : a < arguments image
   pub ok : T (argument_ok image scope a)
 
 -- argument c, which the check accepted as a classical one
-pub record AcceptedBits (image : List ℕ) (l : Layout) (c : ℕ) : Type 0 where
-  pub listed : c < l.arguments
+pub record AcceptedBits (image : List ℕ) (c : ℕ) : Type 0 where
+  pub listed : c < arguments image
   pub ok : T (classical_argument_ok image c)
 
 -- n arguments from a on, which the check accepted in a scope
-pub record AcceptedArguments (image : List ℕ) (l : Layout) (scope a n : ℕ) : Type 0 where
-  pub listed : a + n ≤ l.arguments
+pub record AcceptedArguments (image : List ℕ) (scope a n : ℕ) : Type 0 where
+  pub listed : a + n ≤ arguments image
   pub each : T (all (argument_ok image scope) (range a n))
 
 -- ---- calls
 
 -- n arguments from a on that a call may have in a scope
-pub record CallArguments (image : List ℕ) (l : Layout) (scope a n : ℕ) : Type 0 where
+pub record CallArguments (image : List ℕ) (scope a n : ℕ) : Type 0 where
   pub few : n ≤ most_arguments
-  pub listed : a + n ≤ l.arguments
+  pub listed : a + n ≤ arguments image
   pub each : T (all (argument_ok image scope) (range a n))
   pub match : T (matching (map (argument_size image scope) (range a n)))
 

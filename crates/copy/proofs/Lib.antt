@@ -8,3 +8,4 @@ pub mod PlacedLaws
 pub mod RenamedBarrierLaws
 pub mod CopiedRecordLaws
 pub mod CopiedRecordsLaws
+pub mod RenamingLaws

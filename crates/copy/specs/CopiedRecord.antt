@@ -1,16 +1,8 @@
 -- What the copying of one record asks for and promises, word by word.
 use Rattle.std.specs.Prelude.{ℕ, ◌+◌, ◌*◌, ◌≤◌, ◌≡◌, cond, List, ◌++◌, map, eqb, length, get_or, take, drop}
 use Rattle.std.proofs.lemmas.List.Edits.{sets}
-use Rattle.model.specs.Limits.{most_arguments}
 use Rattle.model.specs.Lists.{rising}
 use Rattle.model.specs.Records.{Record, encode}
-use Rattle.copy.specs.Renaming.{renaming}
-
--- the first n of some qubits are renamed to the first n of sixteen others
-pub record RenamingGiven (old new : List ℕ) (n : ℕ) : Type 0 where
-  pub few : n ≤ most_arguments
-  pub old_given : n ≤ length old
-  pub new_sixteen : length new ≡ most_arguments
 
 -- n words have room at a place after their own end
 pub record LaterPlace (out : List ℕ) (from to n : ℕ) : Type 0 where
@@ -21,10 +13,6 @@ pub record LaterPlace (out : List ℕ) (from to n : ℕ) : Type 0 where
 pub record WordsPut (out : List ℕ) (to : ℕ) (words : List ℕ) (count : ℕ) (out' : List ℕ) : Type 0 where
   pub counted : count ≡ length words
   pub contents : out' ≡ sets out to words
-
--- the qubit that another one is renamed to: that of the new ones at the place of the first old one that it is
-abbrev pub renamed_qubit : List ℕ → List ℕ → ℕ → ℕ → ℕ
-renamed_qubit old new n = renaming (take n old) (take n new)
 
 -- ---- a gate's record, of kind 1, 2 or 3, that stands from a place on
 

@@ -3,3 +3,4 @@ pub mod BodyRecord
 pub mod BodyKept
 pub mod CopiedRecord
 pub mod CopiedRecords
+pub mod Renamed

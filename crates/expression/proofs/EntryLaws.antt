@@ -1,93 +1,88 @@
--- What the check says of an accepted expression entry, for the evaluator.
-use types.Run.{OneOf}
-use denote.Enum.Declared.{tag_of}
-use Rattle.value.specs.contracts.Evaluation.{the_type}
-use mathlib.Core.Logic.{⊎_elim}
-use Prim.Native.Nat.{ℕ, zero, suc, ◌+◌, ◌-◌, ◌≤◌, ◌<◌, ◌^◌}
-use borrow.Author.Tests.{ltb-true, ltb-false}
+-- What the check says of an accepted expression entry, and the entry's value by its operands' values.
+use Prim.Native.Nat.{ℕ, ◌≤◌, ◌<◌, ◌^◌}
+use native.Mathlib.Omega.{arith}
+use mathlib.Core.Path.{◌≡◌, refl, sym, ap, ◌∙◌, subst}
+use mathlib.Core.List.{List, []}
+use lib.Dec.{T, ltb→lt}
+use lib.ListN.{get_or}
+use Rattle.std.proofs.lemmas.List.{get_or_default}
+use lib.Ieee.{Float, binary32, of_bits}
+use Rattle.value.specs.declared.Value.{Value}
 use Rattle.value.specs.declared.Evaluation.{Evaluation}
 use Rattle.value.specs.declared.Evaluation.TheVariants as evaluation
-use Rattle.value.specs.Value.{and_then}
-use native.Mathlib.Omega.{arith}
-use mathlib.Core.Path.{◌≡◌, refl, sym, ap, ap₂, ◌∙◌, subst}
-use mathlib.Core.Bool.{Bool, true, false}
-use mathlib.Core.List.{List, [], ◌∷◌}
-use lib.Dec.{T, ltb, ltb→lt}
-use Rattle.value.specs.declared.Value.{Value}
-use Rattle.model.specs.Image.{Expr, Binary, Unary, Binop, Add, Sub, Mul, Div, Pow, Unop, Neg, Sin, Cos, Tan, Exp, Ln, Sqrt, word, expressions, expression, expression_of, expression_at}
+use Rattle.value.specs.Value.{Sound, and_then, pi, integer, from_float}
+use Rattle.value.specs.Promise.{EvaluatesTo}
+use Rattle.model.specs.Image.{Expr, Pi, Real, Int, Var, Binary, Unary, Binop, Unop, expressions, expression, expression_at}
 use Rattle.model.specs.Check.{entry_ok, expression_ok}
-use Rattle.model.specs.Evaluate.{unary, binary, value_of, evaluate}
+use Rattle.model.specs.Evaluate.{unary, binary, value_of, evaluate, zero_value}
 use Rattle.model.proofs.All.{test}
 use Rattle.model.proofs.EvaluateLaws.{operand, node}
-use Rattle.model.proofs.StatementOfLaws.{entry_is}
+use Rattle.record_writer.specs.Promise.{SoundAngles}
 use Rattle.expression.specs.Operands.{AcceptedExpression, NoValue}
-use Rattle.expression.specs.KeptValues.{Constant}
+use Rattle.expression.specs.KeptValues.{operands_within}
 
-module _ (image : List ℕ) (v : ℕ) (op : ℕ → Bool) (p a b : ℕ) where
-  -- by its kind an entry has a small first word, or one operand, or two
-  pub record Kinds (kind : ℕ) : Type 0 where
-    pub known : kind < 16
-    pub real : kind ≡ 1 → a < 2 ^ 32
-    pub variable : kind ≡ 3 → a < v
-    pub left : 4 ≤ kind → T (op a)
-    pub right : 4 ≤ kind → kind < 9 → T (op b)
-
-  abbrev Entry : ℕ → Type 0
-  Entry kind = T (entry_ok image v op p (expression_of kind a b))
-
-  two : (kind : ℕ) → 4 ≤ kind → kind < 9 → T (op a) → T (op b) → Kinds kind
-  two kind h l s t = record { known = omega arith; real = λ e. absurd (omega arith); variable = λ e. absurd (omega arith); left = λ m. s; right = λ m n. t }
-
-  one : (kind : ℕ) → 9 ≤ kind → kind < 16 → T (op a) → Kinds kind
-  one kind h l s = record { known = l; real = λ e. absurd (omega arith); variable = λ e. absurd (omega arith); left = λ m. s; right = λ m n. absurd (omega arith) }
-
-  pub kinds : (kind : ℕ) → Entry kind → Kinds kind
-  unfolding entry_ok expression_of
-  kinds zero t = record { known = omega arith; real = λ e. absurd (omega arith); variable = λ e. absurd (omega arith); left = λ m. absurd (omega arith); right = λ m n. absurd (omega arith) }
-  kinds (suc zero) t = record { known = omega arith; real = λ e. ltb→lt a (2 ^ 32) (test 0 _ t); variable = λ e. absurd (omega arith); left = λ m. absurd (omega arith); right = λ m n. absurd (omega arith) }
-  kinds (suc (suc zero)) t = record { known = omega arith; real = λ e. absurd (omega arith); variable = λ e. absurd (omega arith); left = λ m. absurd (omega arith); right = λ m n. absurd (omega arith) }
-  kinds (suc (suc (suc zero))) t = record { known = omega arith; real = λ e. absurd (omega arith); variable = λ e. ltb→lt a v (test 0 _ t); left = λ m. absurd (omega arith); right = λ m n. absurd (omega arith) }
-  kinds (suc (suc (suc (suc zero)))) t = two 4 (omega arith) (omega arith) (test 0 _ t) (test 1 _ t)
-  kinds (suc (suc (suc (suc (suc zero))))) t = two 5 (omega arith) (omega arith) (test 0 _ t) (test 1 _ t)
-  kinds (suc (suc (suc (suc (suc (suc zero)))))) t = two 6 (omega arith) (omega arith) (test 0 _ t) (test 1 _ t)
-  kinds (suc (suc (suc (suc (suc (suc (suc zero))))))) t = two 7 (omega arith) (omega arith) (test 0 _ t) (test 1 _ t)
-  kinds (suc (suc (suc (suc (suc (suc (suc (suc zero)))))))) t = two 8 (omega arith) (omega arith) (test 0 _ t) (test 1 _ t)
-  kinds (suc (suc (suc (suc (suc (suc (suc (suc (suc zero))))))))) t = one 9 (omega arith) (omega arith) (test 0 _ t)
-  kinds (suc (suc (suc (suc (suc (suc (suc (suc (suc (suc zero)))))))))) t = one 10 (omega arith) (omega arith) (test 0 _ t)
-  kinds (suc (suc (suc (suc (suc (suc (suc (suc (suc (suc (suc zero))))))))))) t = one 11 (omega arith) (omega arith) (test 0 _ t)
-  kinds (suc (suc (suc (suc (suc (suc (suc (suc (suc (suc (suc (suc zero)))))))))))) t = one 12 (omega arith) (omega arith) (test 0 _ t)
-  kinds (suc (suc (suc (suc (suc (suc (suc (suc (suc (suc (suc (suc (suc zero))))))))))))) t = one 13 (omega arith) (omega arith) (test 0 _ t)
-  kinds (suc (suc (suc (suc (suc (suc (suc (suc (suc (suc (suc (suc (suc (suc zero)))))))))))))) t = one 14 (omega arith) (omega arith) (test 0 _ t)
-  kinds (suc (suc (suc (suc (suc (suc (suc (suc (suc (suc (suc (suc (suc (suc (suc zero))))))))))))))) t = one 15 (omega arith) (omega arith) (test 0 _ t)
-  kinds (suc (suc (suc (suc (suc (suc (suc (suc (suc (suc (suc (suc (suc (suc (suc (suc n)))))))))))))))) t = absurd t
+-- ---- accepted entries
 
 module _ (image : List ℕ) (e : ℕ) (f : AcceptedExpression image e) where
   pub inside : e < expressions image
   unfolding expression_ok
   inside = ltb→lt e (expressions image) (test 0 _ f.formed)
 
--- an entry as its words were read
-module _ (image : List ℕ) (values : List Value) (e : ℕ) (f : AcceptedExpression image e) (p kind a b : ℕ) (ep : p ≡ expression_at image e) (ek : kind ≡ word image p) (ea : a ≡ word image (p + 1)) (eb : b ≡ word image (p + 2)) where
-  read : expression image e ≡ expression_of kind a b
-  read = entry_is image e p kind a b ep ek ea eb
+-- an operand is an accepted entry of smaller number than its user
+abbrev pub Lower : List ℕ → ℕ → ℕ → Type 0
+Lower image e i = (i < e) × AcceptedExpression image i
 
-  pub entry : Kinds image f.variables (operand image f.variables values 32 e) (expression_at image e) a b kind
-  entry = kinds image f.variables (operand image f.variables values 32 e) (expression_at image e) a b kind (subst (λ (x : Expr). T (entry_ok image f.variables (operand image f.variables values 32 e) (expression_at image e) x)) read (node image f.variables values 32 e f.formed).0)
+-- what is known of an accepted entry of a number
+abbrev pub EntryFacts : List ℕ → ℕ → Expr → Type 0
+EntryFacts image e Pi = Unit {0}
+EntryFacts image e (Real b) = b < 2 ^ 32
+EntryFacts image e (Int n) = Unit {0}
+EntryFacts image e (Var i) = i < 16
+EntryFacts image e (Binary f a b) = Lower image e a × Lower image e b
+EntryFacts image e (Unary f a) = Lower image e a
+EntryFacts image e Expr.Unknown = ⊥
 
-  pub value_is : evaluate image values 32 e ≡ value_of values (evaluate image values 32) (expression_of kind a b)
-  value_is = (node image f.variables values 32 e f.formed).1 ∙ ap (value_of values (evaluate image values 32)) read
+module _ (image : List ℕ) (e : ℕ) (f : AcceptedExpression image e) {x : Expr} (is : x ≡ expression image e) where
+  abbrev v : ℕ
+  v = f.variables
 
-  -- an operand is an accepted entry of smaller number
-  pub below : (i : ℕ) → T (operand image f.variables values 32 e i) → (i < e) × AcceptedExpression image i
-  below i t = (ltb→lt i e (test 0 _ t), record { variables = f.variables; few = f.few; formed = test 1 _ t })
+  lower : (i : ℕ) → T (operand image v [] 32 e i) → Lower image e i
+  lower i t = (ltb→lt i e (test 0 _ t), record { variables = v; few = f.few; formed = test 1 _ t })
 
--- ---- the value of an entry with operands
--- an evaluation that is no value: its tag is another than a value's
-abbrev pub Refused : Evaluation → Type 0
-Refused r = OneOf (1 ∷ 2 ∷ 3 ∷ 4 ∷ []) (tag_of the_type r)
+  facts_of : (y : Expr) → T (entry_ok image v (operand image v [] 32 e) (expression_at image e) y) → EntryFacts image e y
+  unfolding entry_ok
+  facts_of Pi t = tt
+  facts_of (Real b) t = ltb→lt b (2 ^ 32) (test 0 _ t)
+  facts_of (Int n) t = tt
+  facts_of (Var i) t = omega (arith, ltb→lt i v (test 0 _ t), f.few)
+  facts_of (Binary o a b) t = (lower a (test 0 _ t), lower b (test 1 _ t))
+  facts_of (Unary o a) t = lower a (test 0 _ t)
+  facts_of Expr.Unknown t = t
 
-pub no_value : (r : Evaluation) → Refused r → NoValue r
-no_value r k x e = absurd (⊎_elim (λ e. omega arith) (λ h. ⊎_elim (λ e. omega arith) (λ i. ⊎_elim (λ e. omega arith) (λ e. omega arith) i) h) (subst Refused e k))
+  pub facts : EntryFacts image e x
+  facts = subst (EntryFacts image e) (sym is) (facts_of (expression image e) (node image v [] 32 e f.formed).0)
+
+  pub value_is : (values : List Value) → evaluate image values 32 e ≡ value_of values (evaluate image values 32) x
+  value_is values = (node image v values 32 e f.formed).1 ∙ ap (value_of values (evaluate image values 32)) (sym is)
+
+  within_of : (n : ℕ) → expressions image ≤ n → (y : Expr) → EntryFacts image e y → operands_within n y
+  within_of n h Pi t = tt
+  within_of n h (Real b) t = tt
+  within_of n h (Int k) t = tt
+  within_of n h (Var i) t = tt
+  within_of n h (Binary o a b) t = (omega (arith, inside image a t.0.1), omega (arith, inside image b t.1.1))
+  within_of n h (Unary o a) t = omega (arith, inside image a t.1)
+  within_of n h Expr.Unknown t = tt
+
+  -- its operands are numbers of entries
+  pub within : (n : ℕ) → expressions image ≤ n → operands_within n x
+  within n h = within_of n h x facts
+
+  -- what an entry comes to by its operands' values is its value
+  pub worked_out : (values : List Value) {r : Evaluation} → EvaluatesTo (value_of values (evaluate image values 32) x) r → EvaluatesTo (evaluate image values 32 e) r
+  worked_out values t = record { is = t.is ∙ sym (value_is values); sound = t.sound }
+
+-- ---- the value of an entry
 
 stays : (r : Evaluation) (f : Value → Evaluation) → NoValue r → r ≡ and_then r f
 stays (evaluation.Value x) f k = absurd (k x refl)
@@ -96,77 +91,43 @@ stays evaluation.Overflow f k = refl
 stays (evaluation.ApproximateFail x) f k = refl
 stays evaluation.FunctionOfFloats f k = refl
 
-module _ (values : List Value) (op : ℕ → Evaluation) (a b : ℕ) where
-  -- the operation of a kind from 4 to 8, and of one from 9 to 15
-  binop : (kind : ℕ) → 4 ≤ kind → kind < 9 → ((f : Binop) × (expression_of kind a b ≡ Binary f a b))
-  unfolding expression_of
-  binop (suc (suc (suc (suc zero)))) h l = (Add, refl)
-  binop (suc (suc (suc (suc (suc zero))))) h l = (Sub, refl)
-  binop (suc (suc (suc (suc (suc (suc zero)))))) h l = (Mul, refl)
-  binop (suc (suc (suc (suc (suc (suc (suc zero))))))) h l = (Div, refl)
-  binop (suc (suc (suc (suc (suc (suc (suc (suc zero)))))))) h l = (Pow, refl)
-  binop zero h l = absurd (omega arith)
-  binop (suc zero) h l = absurd (omega arith)
-  binop (suc (suc zero)) h l = absurd (omega arith)
-  binop (suc (suc (suc zero))) h l = absurd (omega arith)
-  binop (suc (suc (suc (suc (suc (suc (suc (suc (suc n))))))))) h l = absurd (omega arith)
+module _ (values : List Value) (op : ℕ → Evaluation) where
+  pub over_two : (f : Binop) (a b : ℕ) {x y : Value} {r : Evaluation} → EvaluatesTo (op a) (evaluation.Value x) → EvaluatesTo (op b) (evaluation.Value y) → EvaluatesTo (binary f x y) r → EvaluatesTo (value_of values op (Binary f a b)) r
+  unfolding value_of
+  over_two f a b p q t = record { is = t.is ∙ sym (rw (sym p.is, sym q.is) refl); sound = t.sound }
 
-  unop : (n : ℕ) → n < 7 → ((f : Unop) × (expression_of (9 + n) a b ≡ Unary f a))
-  unfolding expression_of
-  unop zero l = (Neg, refl)
-  unop (suc zero) l = (Sin, refl)
-  unop (suc (suc zero)) l = (Cos, refl)
-  unop (suc (suc (suc zero))) l = (Tan, refl)
-  unop (suc (suc (suc (suc zero)))) l = (Exp, refl)
-  unop (suc (suc (suc (suc (suc zero))))) l = (Ln, refl)
-  unop (suc (suc (suc (suc (suc (suc zero)))))) l = (Sqrt, refl)
-  unop (suc (suc (suc (suc (suc (suc (suc n))))))) l = absurd (omega arith)
-
-  unop_of : (kind : ℕ) → 9 ≤ kind → kind < 16 → ((f : Unop) × (expression_of kind a b ≡ Unary f a))
-  unop_of kind h l =
-      let o = unop (kind - 9) (omega arith) in
-      let same : 9 + (kind - 9) ≡ kind = omega arith in
-      (o.0, sym (ap (λ (n : ℕ). expression_of n a b) same) ∙ o.1)
+  pub over_one : (f : Unop) (a : ℕ) {x : Value} {r : Evaluation} → EvaluatesTo (op a) (evaluation.Value x) → EvaluatesTo (unary f x) r → EvaluatesTo (value_of values op (Unary f a)) r
+  unfolding value_of
+  over_one f a p t = record { is = t.is ∙ sym (rw (sym p.is) refl); sound = t.sound }
 
   -- "The left operand's refusal wins."
-  pub left_refuses : (kind : ℕ) (r : Evaluation) → 4 ≤ kind → kind < 16 → op a ≡ r → NoValue r → r ≡ value_of values op (expression_of kind a b)
+  pub left_refuses : (f : Binop) (a b : ℕ) {r : Evaluation} → EvaluatesTo (op a) r → NoValue r → EvaluatesTo (value_of values op (Binary f a b)) r
   unfolding value_of
-  left_refuses kind r h l e k = go (ltb kind 9) refl
-    where
-      go : (s : Bool) → ltb kind 9 ≡ s → r ≡ value_of values op (expression_of kind a b)
-      go true s = let o = binop kind h (ltb-true kind 9 s) in sym (rw (o.1, e) (sym (stays r _ k)))
-      go false s = let o = unop_of kind (ltb-false kind 9 s) l in sym (rw (o.1, e) (sym (stays r _ k)))
+  left_refuses f a b {r} p k = record { is = sym (rw (sym p.is) (sym (stays r _ k))); sound = p.sound }
 
-  pub right_refuses : (kind : ℕ) (x : Value) (r : Evaluation) → 4 ≤ kind → kind < 9 → op a ≡ evaluation.Value x → op b ≡ r → NoValue r → r ≡ value_of values op (expression_of kind a b)
+  pub right_refuses : (f : Binop) (a b : ℕ) {x : Value} {r : Evaluation} → EvaluatesTo (op a) (evaluation.Value x) → EvaluatesTo (op b) r → NoValue r → EvaluatesTo (value_of values op (Binary f a b)) r
   unfolding value_of
-  right_refuses kind x r h l d e k = let o = binop kind h l in sym (rw (o.1, d, e) (sym (stays r _ k)))
+  right_refuses f a b {r = r} p q k = record { is = sym (rw (sym p.is, sym q.is) (sym (stays r _ k))); sound = q.sound }
 
--- ---- constants
-
--- an entry of a kind below 3 has no operand, and no parameter goes into it
-nullary_constant : (xs ys : List Value) (f g : ℕ → Evaluation) (a b kind : ℕ) → kind < 3 → value_of xs f (expression_of kind a b) ≡ value_of ys g (expression_of kind a b)
-unfolding value_of expression_of
-nullary_constant xs ys f g a b zero h = refl
-nullary_constant xs ys f g a b (suc zero) h = refl
-nullary_constant xs ys f g a b (suc (suc zero)) h = refl
-nullary_constant xs ys f g a b (suc (suc (suc n))) h = absurd (omega arith)
-
-module _ (image : List ℕ) (e : ℕ) (f : AcceptedExpression image e) (p kind a b : ℕ) (ep : p ≡ expression_at image e) (ek : kind ≡ word image p) (ea : a ≡ word image (p + 1)) (eb : b ≡ word image (p + 2)) where
-  alike : (xs ys : List Value) → value_of xs (evaluate image xs 32) (expression_of kind a b) ≡ value_of ys (evaluate image ys 32) (expression_of kind a b) → evaluate image xs 32 e ≡ evaluate image ys 32 e
-  alike xs ys h = value_is image xs e f p kind a b ep ek ea eb ∙ h ∙ sym (value_is image ys e f p kind a b ep ek ea eb)
-
-  pub constant_nullary : kind < 3 → Constant image e
-  constant_nullary h xs ys = alike xs ys (nullary_constant xs ys (evaluate image xs 32) (evaluate image ys 32) a b kind h)
-
-  -- constants that are operands
-  pub constant_one : 9 ≤ kind → kind < 16 → Constant image a → Constant image e
+  pub only_refuses : (f : Unop) (a : ℕ) {r : Evaluation} → EvaluatesTo (op a) r → NoValue r → EvaluatesTo (value_of values op (Unary f a)) r
   unfolding value_of
-  constant_one h l c xs ys =
-      let o = unop_of xs (evaluate image xs 32) a b kind h l in
-      alike xs ys (ap (value_of xs (evaluate image xs 32)) o.1 ∙ ap (λ (r : Evaluation). and_then r (unary o.0)) (c xs ys) ∙ sym (ap (value_of ys (evaluate image ys 32)) o.1))
+  only_refuses f a {r} p k = record { is = sym (rw (sym p.is) (sym (stays r _ k))); sound = p.sound }
 
-  pub constant_two : 4 ≤ kind → kind < 9 → Constant image a → Constant image b → Constant image e
+  pub over_pi : {x : Value} → (x ≡ pi) × Sound x → EvaluatesTo (value_of values op Pi) (evaluation.Value x)
   unfolding value_of
-  constant_two h l c d xs ys =
-      let o = binop xs (evaluate image xs 32) a b kind h l in
-      alike xs ys (ap (value_of xs (evaluate image xs 32)) o.1 ∙ ap₂ (λ (r s : Evaluation). and_then r λ x. and_then s λ y. binary o.0 x y) (c xs ys) (d xs ys) ∙ sym (ap (value_of ys (evaluate image ys 32)) o.1))
+  over_pi t = record { is = ap evaluation.Value t.0; sound = t.1 }
+
+  pub over_real : (b : ℕ) {x : Float} {r : Evaluation} → x ≡ of_bits binary32 b → EvaluatesTo (from_float x) r → EvaluatesTo (value_of values op (Real b)) r
+  unfolding value_of
+  over_real b q t = record { is = t.is ∙ ap from_float q; sound = t.sound }
+
+  pub over_int : (n : ℕ) {r : Evaluation} → EvaluatesTo (integer n) r → EvaluatesTo (value_of values op (Int n)) r
+  unfolding value_of
+  over_int n t = t
+
+  -- the default that a read names does not show
+  pub over_variable : (i : ℕ) (d : Value) → SoundAngles values → i < 16 → EvaluatesTo (value_of values op (Var i)) (evaluation.Value (get_or values i d))
+  unfolding value_of
+  over_variable i d s h =
+      let e : get_or values i d ≡ get_or values i zero_value = get_or_default values i d zero_value (omega (arith, s.sixteen)) in
+      record { is = ap evaluation.Value e; sound = rw e (s.each i h) }

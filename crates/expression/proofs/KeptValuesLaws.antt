@@ -1,121 +1,149 @@
--- Values that are kept of expressions: none at first, one more, and one marked as a constant's.
-use Prim.Native.Nat.{ℕ, ◌+◌, ◌*◌, ◌≤◌, ◌<◌}
+-- Values that are kept of expressions: none at first, and one more.
+use Prim.Native.Nat.{ℕ, ◌≤◌, ◌<◌}
 use native.Mathlib.Omega.{arith}
-use mathlib.Core.Path.{◌≡◌, refl, sym, ap, ◌∙◌, subst}
-use mathlib.Core.Bool.{Bool, true, false}
+use mathlib.Core.Path.{◌≡◌, refl, sym, ap, ap₂, ◌∙◌, subst}
+use mathlib.Core.Bool.{Bool, true, false, ◌&&◌}
 use mathlib.Core.List.{List}
 use lib.ListN.{length, get_or, set, length-set, replicate, get_or-replicate, length-replicate}
-use lib.Seq.{get_or-set_other}
-use lib.Dec.{T, eqb}
+use lib.Seq.{get_or-set_same, get_or-set_other}
+use lib.Dec.{eqb}
 use borrow.Author.Tests.{eqb-true, eqb-false}
+use Rattle.std.specs.Prelude.{Some}
 use Rattle.value.specs.declared.Value.{Value}
 use Rattle.value.specs.declared.Evaluation.{Evaluation}
 use Rattle.value.specs.declared.Evaluation.TheVariants as evaluation
-use Rattle.value.specs.Value.{Sound}
+use Rattle.value.specs.Value.{and_then}
 use Rattle.value.specs.Promise.{EvaluatesTo}
-use Rattle.model.specs.Image.{expressions}
-use Rattle.model.specs.Evaluate.{evaluate}
-use Rattle.expression.specs.Angles.{put_value}
-use Rattle.expression.specs.KeptValues.{constant_at, kept_at, Constant, ConstantsKept, ValueStored, ValuesKept, Evaluated}
-use Rattle.expression.proofs.AnglesLaws.{value_length, value_same, value_other, value_set, word_beside}
+use Rattle.model.specs.Image.{Expr, Pi, Real, Int, Var, Binary, Unary, expressions, expression}
+use Rattle.model.specs.Evaluate.{unary, binary, value_of, evaluate}
+use Rattle.expression.specs.declared.KeptValue.{KeptValue}
+use Rattle.expression.specs.declared.KeptValue.TheVariants.{Nothing, Once, Constant}
+use Rattle.expression.specs.KeptValues.{known_value, is_kept_constant, from_constants, IsConstant, ConstantsKept, ValuesKept, Evaluated}
+use Rattle.expression.specs.Operands.{AcceptedExpression}
+use Rattle.expression.proofs.EntryLaws.{Lower, EntryFacts, facts, inside, value_is}
 
-pub stored : (known : List Bool) (t t2 : List ℕ) (e : ℕ) (x : Value) → 7 * e + 6 < length t → Sound x → t2 ≡ put_value t (7 * e + 1) x → ValueStored known t e x (set known e true) t2
-stored known t t2 e x h s q =
+-- ---- none
+
+-- nothing is kept at first
+pub no_constants : (image : List ℕ) (n : ℕ) → expressions image ≤ n → ConstantsKept image (replicate n Nothing)
+no_constants image n h =
     record {
-      marked = refl;
-      same = ap length q ∙ value_length t (7 * e + 1) x;
-      constants = λ i. ap (λ (u : List ℕ). constant_at u i) q ∙ word_beside t (7 * e + 1) x (7 * i) (λ m. omega arith) (λ m. omega arith) (λ m. omega arith) (λ m. omega arith) (λ m. omega arith) (λ m. omega arith);
-      this = ap (λ (u : List ℕ). kept_at u e) q ∙ value_same t (7 * e + 1) x (omega arith) s;
-      others = λ i n. ap (λ (u : List ℕ). kept_at u i) q ∙ value_other t (7 * e + 1) x (7 * i + 1) (λ m. omega arith) (λ m. omega arith) (λ m. n (omega arith));
+      room = subst (λ (k : ℕ). expressions image ≤ k) (sym (length-replicate n Nothing)) h;
+      each = λ e l x q. absurd (let z : ◌≡◌ {A = KeptValue} Nothing (Constant x) = sym (get_or-replicate n e Nothing Nothing (omega arith)) ∙ q in cc);
     }
 
--- no entry is marked in words that are all 0
-pub no_constants : (image : List ℕ) (n : ℕ) → 7 * expressions image ≤ n → ConstantsKept image (replicate n 0)
-no_constants image n h = record { room = subst (λ (k : ℕ). 7 * expressions image ≤ k) (sym (length-replicate n 0)) h; each = λ e l m. absurd (none e l m); sound = λ e l m. absurd (none e l m) }
+unmarked : (k : KeptValue) (x : Value) → known_value false k ≡ Some x → k ≡ Constant x
+unmarked Nothing x q = absurd (cc)
+unmarked (Once y) x q = absurd (cc)
+unmarked (Constant y) x q = let e : y ≡ x = cc in ap Constant e
+
+-- without a mark no value is known but those of constants
+pub keeps_none : (image : List ℕ) (angles : List Value) (n : ℕ) (t : List KeptValue) → expressions image ≤ n → ConstantsKept image t → ValuesKept image angles (replicate n false) t
+keeps_none image angles n t few f =
+    record {
+      constants = f;
+      marks = subst (λ (k : ℕ). expressions image ≤ k) (sym (length-replicate n false)) few;
+      each = λ e l x q. f.each e l x (unmarked _ x (ap (λ (b : Bool). known_value b (get_or t e Nothing)) (sym (get_or-replicate n e false false (omega arith))) ∙ q)) angles;
+    }
+
+-- ---- constants
+
+both_true : (a b : Bool) → (a && b) ≡ true → (a ≡ true) × (b ≡ true)
+both_true true true q = (refl, refl)
+both_true true false q = absurd (cc)
+both_true false b q = absurd (cc)
+
+kept_constant : (k : KeptValue) → is_kept_constant k ≡ true → (x : Value) × (k ≡ Constant x)
+kept_constant Nothing q = absurd (cc)
+kept_constant (Once x) q = absurd (cc)
+kept_constant (Constant x) q = (x, refl)
+
+module _ (image : List ℕ) (e : ℕ) (t : List KeptValue) (k : ConstantsKept image t) where
+  operand_constant : (a : ℕ) → Lower image e a → is_kept_constant (get_or t a Nothing) ≡ true → IsConstant image a
+  operand_constant a l q xs ys =
+      let c = kept_constant (get_or t a Nothing) q in
+      let h = inside image a l.1 in
+      sym (k.each a h c.0 c.1 xs).is ∙ (k.each a h c.0 c.1 ys).is
+
+  same_value : (x : Expr) → EntryFacts image e x → from_constants t x ≡ true → (xs ys : List Value) → value_of xs (evaluate image xs 32) x ≡ value_of ys (evaluate image ys 32) x
+  unfolding value_of
+  same_value Pi f q xs ys = refl
+  same_value (Real b) f q xs ys = refl
+  same_value (Int n) f q xs ys = refl
+  same_value (Var i) f q xs ys = absurd (cc)
+  same_value (Binary o a b) f q xs ys =
+      let h = both_true _ _ q in
+      ap₂ (λ (r s : Evaluation). and_then r λ x. and_then s λ y. binary o x y) (operand_constant a f.0 h.0 xs ys) (operand_constant b f.1 h.1 xs ys)
+  same_value (Unary o a) f q xs ys = ap (λ (r : Evaluation). and_then r (unary o)) (operand_constant a f q xs ys)
+  same_value Expr.Unknown f q xs ys = absurd f
+
+  -- an entry is a constant whose operands are kept as constants
+  pub entry_constant : AcceptedExpression image e → {x : Expr} → x ≡ expression image e → from_constants t x ≡ true → IsConstant image e
+  entry_constant f {x} is q xs ys = value_is image e f is xs ∙ same_value x (facts image e f is) q xs ys ∙ sym (value_is image e f is ys)
+
+-- ---- one more
+
+-- an entry of a list in which one was put in anew: that one, or the one that it was
+put_in : {A : Type 0} (t : List A) (e i : ℕ) (v d : A) (P : A → Type 0) → e < length t → (i ≡ e → P v) → (¬ (i ≡ e) → P (get_or t i d)) → P (get_or (set t e v) i d)
+put_in t e i v d P h same other = go (eqb i e) refl
   where
-    none : (e : ℕ) → e < expressions image → constant_at (replicate n 0) e ≡ 1 → ⊥
-    none e l m = let z : ℕ = 0 in let q : get_or (replicate n 0) (7 * e) 0 ≡ z = get_or-replicate n (7 * e) 0 0 (omega arith) in omega arith
+    go : (b : Bool) → eqb i e ≡ b → P (get_or (set t e v) i d)
+    go true b = let q = eqb-true i e b in rw q (rw (get_or-set_same t e v d h) (same q))
+    go false b = let n = eqb-false i e b in rw (get_or-set_other t e i v d n) (other n)
 
--- what is marked as a constant is one
-pub kept_constant : (image t : List ℕ) (e : ℕ) → ConstantsKept image t → e < expressions image → constant_at t e ≡ 1 → Constant image e
-kept_constant image t e f h m xs ys = f.each e h m xs ∙ sym (f.each e h m ys)
+module _ (image : List ℕ) (angles : List Value) (e : ℕ) (x : Value) (known : List Bool) (t : List KeptValue) (l : e < expressions image) (h : Evaluated image angles e (evaluation.Value x) known t) where
+  k : ValuesKept image angles known t
+  k = h.1
 
-module _ (image : List ℕ) (angles : List Value) where
-  -- nothing is known where no entry is marked
-  pub keeps_none : (n : ℕ) (t : List ℕ) → expressions image ≤ n → ConstantsKept image t → ValuesKept image angles (replicate n false) t
-  keeps_none n t few f = record { constants = f; marks = subst (λ (k : ℕ). expressions image ≤ k) (sym (length-replicate n false)) few; each = λ e l k. absurd (none e l k); sound = λ e l k. absurd (none e l k) }
+  room : e < length t
+  room = omega (arith, l, k.constants.room)
+
+  -- a value that is kept for this evaluation
+  pub keeps_once : Evaluated image angles e (evaluation.Value x) (set known e true) (set t e (Once x))
+  keeps_once = (
+    h.0,
+    record {
+      constants = record { room = subst (λ (n : ℕ). expressions image ≤ n) (sym (length-set t e (Once x))) k.constants.room; each = λ i m. constant i m };
+      marks = subst (λ (n : ℕ). expressions image ≤ n) (sym (length-set known e true)) k.marks;
+      each = λ i m. value i m;
+    },
+  )
     where
-      none : (e : ℕ) → e < expressions image → get_or (replicate n false) e false ≡ true → ⊥
-      none e l k = subst T (sym (sym (get_or-replicate n e false false (omega arith)) ∙ k)) tt
+      constant : (i : ℕ) → i < expressions image → (y : Value) → get_or (set t e (Once x)) i Nothing ≡ Constant y → (xs : List Value) → EvaluatesTo (evaluate image xs 32 i) (evaluation.Value y)
+      constant i m =
+          put_in t e i (Once x) Nothing (λ z. (y : Value) → z ≡ Constant y → (xs : List Value) → EvaluatesTo (evaluate image xs 32 i) (evaluation.Value y)) room
+          (λ q y r. absurd (cc))
+          (λ n. k.constants.each i m)
 
-  -- a value that is known, or a constant's, is an entry's
-  pub known_value : (known : List Bool) (t : List ℕ) (e : ℕ) (x : Value) → ValuesKept image angles known t → e < expressions image → get_or known e false ≡ true → x ≡ kept_at t e → EvaluatesTo (evaluate image angles 32 e) (evaluation.Value x)
-  known_value known t e x k h m q = record { is = ap evaluation.Value q ∙ sym (k.each e h m); sound = rw q (k.sound e h m) }
+      value : (i : ℕ) → i < expressions image → (y : Value) → known_value (get_or (set known e true) i false) (get_or (set t e (Once x)) i Nothing) ≡ Some y → EvaluatesTo (evaluate image angles 32 i) (evaluation.Value y)
+      value i m =
+          put_in t e i (Once x) Nothing (λ z. (y : Value) → known_value (get_or (set known e true) i false) z ≡ Some y → EvaluatesTo (evaluate image angles 32 i) (evaluation.Value y)) room
+          (λ q y r. let s : x ≡ y = this (get_or (set known e true) i false) y r in subst (λ w. EvaluatesTo (evaluate image angles 32 i) (evaluation.Value w)) s (rw q h.0))
+          (λ n. put_in known e i true false (λ b. (y : Value) → known_value b (get_or t i Nothing) ≡ Some y → EvaluatesTo (evaluate image angles 32 i) (evaluation.Value y)) (omega (arith, l, k.marks)) (λ q. absurd (n q)) (λ n. k.each i m))
+        where
+          this : (b : Bool) (y : Value) → known_value b (Once x) ≡ Some y → x ≡ y
+          this true y r = cc
+          this false y r = absurd (cc)
 
-  pub constant_value : (t : List ℕ) (e : ℕ) (x : Value) → ConstantsKept image t → e < expressions image → constant_at t e ≡ 1 → x ≡ kept_at t e → EvaluatesTo (evaluate image angles 32 e) (evaluation.Value x)
-  constant_value t e x f h m q = record { is = ap evaluation.Value q ∙ sym (f.each e h m angles); sound = rw q (f.sound e h m) }
+  -- a value that is kept for the whole run
+  pub keeps_constant : IsConstant image e → Evaluated image angles e (evaluation.Value x) known (set t e (Constant x))
+  keeps_constant c = (
+    h.0,
+    record {
+      constants = record { room = subst (λ (n : ℕ). expressions image ≤ n) (sym (length-set t e (Constant x))) k.constants.room; each = λ i m. constant i m };
+      marks = k.marks;
+      each = λ i m. value i m;
+    },
+  )
+    where
+      constant : (i : ℕ) → i < expressions image → (y : Value) → get_or (set t e (Constant x)) i Nothing ≡ Constant y → (xs : List Value) → EvaluatesTo (evaluate image xs 32 i) (evaluation.Value y)
+      constant i m =
+          put_in t e i (Constant x) Nothing (λ z. (y : Value) → z ≡ Constant y → (xs : List Value) → EvaluatesTo (evaluate image xs 32 i) (evaluation.Value y)) room
+          (λ q y r xs. let s : x ≡ y = cc in subst (λ w. EvaluatesTo (evaluate image xs 32 i) (evaluation.Value w)) s (record { is = h.0.is ∙ c angles xs ∙ ap (evaluate image xs 32) (sym q); sound = h.0.sound }))
+          (λ n. k.constants.each i m)
 
-  module _ (known : List Bool) (t : List ℕ) (e : ℕ) where
-    -- one more value is known
-    pub keeps_more : (x : Value) (known' : List Bool) (t' : List ℕ) (r : Evaluation) → ValuesKept image angles known t → EvaluatesTo (evaluate image angles 32 e) r → r ≡ evaluation.Value x → ValueStored known t e x known' t' → ValuesKept image angles known' t'
-    keeps_more x known' t' r k v q s =
-        record {
-          constants = record { room = subst (λ (n : ℕ). 7 * expressions image ≤ n) (sym s.same) k.constants.room; each = λ i l m. (constant i l m (eqb i e) refl).0; sound = λ i l m. (constant i l m (eqb i e) refl).1 };
-          marks = subst (λ (n : ℕ). expressions image ≤ n) (sym (ap length s.marked ∙ length-set known e true)) k.marks;
-          each = λ i l m. (known_now i l m (eqb i e) refl).0;
-          sound = λ i l m. (known_now i l m (eqb i e) refl).1;
-        }
-      where
-        here : evaluate image angles 32 e ≡ evaluation.Value (kept_at t' e)
-        here = sym v.is ∙ q ∙ ap evaluation.Value (sym s.this)
-
-        good : Sound (kept_at t' e)
-        good = rw s.this (rw q at v.sound)
-
-        constant : (i : ℕ) → i < expressions image → constant_at t' i ≡ 1 → (b : Bool) → eqb i e ≡ b → ((xs : List Value) → evaluate image xs 32 i ≡ evaluation.Value (kept_at t' i)) × Sound (kept_at t' i)
-        constant i l m true b =
-            let j = eqb-true i e b in
-            let before : constant_at t i ≡ 1 = sym (s.constants i) ∙ m in
-            (λ xs. k.constants.each i l before xs ∙ sym (k.constants.each i l before angles) ∙ rw j here, rw j good)
-        constant i l m false b =
-            let n = eqb-false i e b in
-            let before : constant_at t i ≡ 1 = sym (s.constants i) ∙ m in
-            (λ xs. k.constants.each i l before xs ∙ ap evaluation.Value (sym (s.others i n)), rw (s.others i n) (k.constants.sound i l before))
-
-        known_now : (i : ℕ) → i < expressions image → get_or known' i false ≡ true → (b : Bool) → eqb i e ≡ b → (evaluate image angles 32 i ≡ evaluation.Value (kept_at t' i)) × Sound (kept_at t' i)
-        known_now i l m true b = let j = eqb-true i e b in (rw j here, rw j good)
-        known_now i l m false b =
-            let n = eqb-false i e b in
-            let before : get_or known i false ≡ true = sym (get_or-set_other known e i true false n) ∙ ap (λ (u : List Bool). get_or u i false) (sym s.marked) ∙ m in
-            (k.each i l before ∙ ap evaluation.Value (sym (s.others i n)), rw (s.others i n) (k.sound i l before))
-
-    unchanged : (i : ℕ) → kept_at (set t (7 * e) 1) i ≡ kept_at t i
-    unchanged i = value_set t (7 * e) 1 (7 * i + 1) (λ m. omega arith) (λ m. omega arith) (λ m. omega arith) (λ m. omega arith) (λ m. omega arith) (λ m. omega arith)
-
-    -- the value that is kept is marked as a constant's
-    pub keeps_constant : (x : Value) → ValuesKept image angles known t → EvaluatesTo (evaluate image angles 32 e) (evaluation.Value x) → kept_at t e ≡ x → Constant image e → ValuesKept image angles known (set t (7 * e) 1)
-    keeps_constant x k v q c =
-        record {
-          constants = record { room = subst (λ (n : ℕ). 7 * expressions image ≤ n) (sym (length-set t (7 * e) 1)) k.constants.room; each = λ i l m. (constant i l m (eqb i e) refl).0; sound = λ i l m. (constant i l m (eqb i e) refl).1 };
-          marks = k.marks;
-          each = λ i l m. k.each i l m ∙ ap evaluation.Value (sym (unchanged i));
-          sound = λ i l m. rw (unchanged i) (k.sound i l m);
-        }
-      where
-        constant : (i : ℕ) → i < expressions image → constant_at (set t (7 * e) 1) i ≡ 1 → (b : Bool) → eqb i e ≡ b → ((xs : List Value) → evaluate image xs 32 i ≡ evaluation.Value (kept_at (set t (7 * e) 1) i)) × Sound (kept_at (set t (7 * e) 1) i)
-        constant i l m' true b =
-            let j = eqb-true i e b in
-            (λ xs. ap (evaluate image xs 32) j ∙ c xs angles ∙ sym v.is ∙ ap evaluation.Value (sym q) ∙ ap evaluation.Value (sym (ap (kept_at t) j)) ∙ ap evaluation.Value (sym (unchanged i)), rw (unchanged i, j, q) v.sound)
-        constant i l m' false b =
-            let n = eqb-false i e b in
-            let before : constant_at t i ≡ 1 = sym (get_or-set_other t (7 * e) (7 * i) 1 0 (λ q. n (omega arith))) ∙ m' in
-            (λ xs. k.constants.each i l before xs ∙ ap evaluation.Value (sym (unchanged i)), rw (unchanged i) (k.constants.sound i l before))
-
-    -- an entry whose value is kept is evaluated
-    pub keeps_value : (x : Value) (known' : List Bool) (t' : List ℕ) (r : Evaluation) → ValueStored known t e x known' t' → r ≡ evaluation.Value x → Evaluated image angles e r known t → Evaluated image angles e (evaluation.Value x) known' t'
-    keeps_value x known' t' r s q h = (subst (EvaluatesTo _) q h.0, keeps_more x known' t' r h.1 h.0 q s)
-
-  -- and so is a constant whose value is kept and marked
-  pub keeps_constant_value : (known : List Bool) (t : List ℕ) (e : ℕ) (x : Value) (known' : List Bool) (t' : List ℕ) (r : Evaluation) → ValueStored known t e x known' t' → r ≡ evaluation.Value x → Constant image e → Evaluated image angles e r known t
-      → Evaluated image angles e (evaluation.Value x) known' (set t' (7 * e) 1)
-  keeps_constant_value known t e x known' t' r s q c h = let k = keeps_value known t e x known' t' r s q h in (k.0, keeps_constant known' t' e x k.1 k.0 s.this c)
+      value : (i : ℕ) → i < expressions image → (y : Value) → known_value (get_or known i false) (get_or (set t e (Constant x)) i Nothing) ≡ Some y → EvaluatesTo (evaluate image angles 32 i) (evaluation.Value y)
+      value i m =
+          put_in t e i (Constant x) Nothing (λ z. (y : Value) → known_value (get_or known i false) z ≡ Some y → EvaluatesTo (evaluate image angles 32 i) (evaluation.Value y)) room
+          (λ q y r. let s : x ≡ y = cc in subst (λ w. EvaluatesTo (evaluate image angles 32 i) (evaluation.Value w)) s (rw q h.0))
+          (λ n. k.each i m)

@@ -10,6 +10,7 @@ use Rattle.value.specs.declared.Evaluation.TheVariants as evaluation
 use Rattle.value.specs.Value.{and_then}
 use Rattle.model.specs.Image.{Expr, Pi, Real, Int, Var, Binary, Unary, word, expression, expression_at}
 use Rattle.model.specs.Evaluate.{unary, binary, value_of, evaluate, zero_value}
+use Rattle.model.specs.Lists.{all}
 use Rattle.model.specs.Check.{entry_ok, expression_ok}
 use Rattle.model.specs.Steps.{also, parameter_values}
 use Rattle.model.specs.All.{All}
@@ -42,18 +43,18 @@ module _ (image : List ℕ) (v : ℕ) (angles : List Value) where
   values_front [] h = refl
   values_front (e ∷ es) h = ap₂ (λ x y. also x (expression_at image e) y) (evaluate_front 32 e (head-All h)) (values_front es (tail-All h))
 
+  pub accepted_values : (es : List ℕ) → T (all (expression_ok image v 32) es) → parameter_values image (take v angles) es ≡ parameter_values image angles es
+  accepted_values es t = values_front es (all-All _ _ t)
+
   -- expressions that a scope's statement names
   module _ {place n : ℕ} (l : ListedExpressions image v place n) where
-    accepted : All (λ e. T (expression_ok image v 32 e)) (named_at image place n)
-    accepted = all-All _ _ l.each
-
     pub named : NamesExpressions image place n
     named =
         record {
           few = l.few.0;
           near = l.near;
-          each = λ i h. record { variables = v; few = l.few.1; formed = range-All {P = λ i. T (expression_ok image v 32 (word image (place + i)))} 0 n i (of-All _ _ accepted) (omega arith) (omega arith) };
+          each = λ i h. record { variables = v; few = l.few.1; formed = range-All {P = λ i. T (expression_ok image v 32 (word image (place + i)))} 0 n i (of-All _ _ (all-All _ _ l.each)) (omega arith) (omega arith) };
         }
 
     pub listed_values : parameter_values image (take v angles) (named_at image place n) ≡ parameter_values image angles (named_at image place n)
-    listed_values = values_front (named_at image place n) accepted
+    listed_values = accepted_values (named_at image place n) l.each

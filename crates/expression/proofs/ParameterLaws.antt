@@ -1,32 +1,28 @@
 -- The angles of some expressions in turn: those done so far, and the first that has none.
-use Prim.Native.Nat.{ℕ, zero, suc, ◌+◌, ◌≤◌, ◌<◌}
-use native.Mathlib.Nat.{add-zero, le_antisymm}
+use Prim.Native.Nat.{ℕ, zero, suc, ◌+◌, ◌<◌}
+use native.Mathlib.Nat.{add-zero}
 use native.Mathlib.Numerals.{add-one}
 use native.Mathlib.Omega.{arith}
 use mathlib.Core.Path.{◌≡◌, refl, sym, ap, ◌∙◌, subst}
-use mathlib.Core.Logic.{⊎_elim}
 use mathlib.Core.List.{List, [], ◌∷◌, ◌++◌, map}
 use lib.ListN.{set, take}
 use lib.Seq.{take-suc-set}
 use lib.Ieee.{Float}
 use Rattle.float.specs.Float.{float_bits}
-use denote.Enum.Declared.{tag_of}
-use types.Run.{OneOf}
 use Rattle.value.specs.declared.Value.{Value}
 use Rattle.value.specs.declared.Evaluation.{Evaluation}
 use Rattle.value.specs.declared.Evaluation.TheVariants as evaluation
-use Rattle.value.specs.Promise.{EvaluatesTo}
-use Rattle.value.specs.contracts.Evaluation.{the_type}
+use Rattle.value.specs.Value.{Sound}
 use Rattle.model.specs.Lists.{range}
 use Rattle.model.specs.Image.{expression_at}
 use Rattle.model.specs.Evaluate.{evaluate}
 use Rattle.model.specs.Steps.{Values, have, lack, Refusal, DivideByZero, ApproximateFail, NumericalOverflow, FunctionOfFloats, also, parameter_values}
 use Rattle.record_writer.specs.declared.Position.{Position}
 use Rattle.record_writer.specs.declared.LinearizeErrorKind.TheVariants as kind
-use Rattle.record_writer.specs.declared.Linearized.{Linearized}
-use Rattle.record_writer.specs.declared.Linearized.TheVariants as linearized
+use Rattle.record_writer.specs.declared.LinearizeError.{LinearizeError}
+use Rattle.std.specs.Prelude.{Err}
 use Rattle.record_writer.specs.Promise.{SoundAngles}
-use Rattle.expression.specs.Operands.{NoValue, RefusalOf, RefusedAt, ParametersGiven}
+use Rattle.expression.specs.Operands.{RefusalOf, RefusedAt, ParametersGiven}
 use Rattle.expression.proofs.AnglesLaws.{put_sound}
 
 -- ---- the answer that each refusal is
@@ -43,13 +39,9 @@ pub refuses_function : (r : Evaluation) (p : ℕ) → r ≡ evaluation.FunctionO
 unfolding also
 refuses_function r p e = record { why = FunctionOfFloats p; lacks = λ later. rw e refl; answers = λ t. refl }
 
-pub refuses_overflow : (r : Evaluation) (p : ℕ) → OneOf (0 ∷ 2 ∷ []) (tag_of the_type r) → NoValue r → RefusalOf r p (kind.NumericalOverflow p)
+pub refuses_overflow : (r : Evaluation) (p : ℕ) → r ≡ evaluation.Overflow → RefusalOf r p (kind.NumericalOverflow p)
 unfolding also
-refuses_overflow (evaluation.Value x) p k n = absurd (n x refl)
-refuses_overflow evaluation.Overflow p k n = record { why = NumericalOverflow p; lacks = λ later. refl; answers = λ t. refl }
-refuses_overflow evaluation.DivideByZero p k n = absurd (⊎_elim (λ e. omega arith) (λ e. omega arith) k)
-refuses_overflow (evaluation.ApproximateFail f) p k n = absurd (⊎_elim (λ e. omega arith) (λ e. omega arith) k)
-refuses_overflow evaluation.FunctionOfFloats p k n = absurd (⊎_elim (λ e. omega arith) (λ e. omega arith) k)
+refuses_overflow r p e = record { why = NumericalOverflow p; lacks = λ later. rw e refl; answers = λ t. refl }
 
 -- ---- the angles in turn
 
@@ -111,17 +103,13 @@ module _ (image : List ℕ) (angles : List Value) (f : ℕ → ℕ) where
   unfolding parameter_values range
   front_none found h = record { sound = h; front = refl }
 
-  pub front_next : (i e : ℕ) (found : List Value) (r : Evaluation) (x : Value) → i < 16 → Front i found → e ≡ f i → EvaluatesTo (evaluate image angles 32 e) r → r ≡ evaluation.Value x → Front (i + 1) (set found i x)
-  front_next i e found r x l k q t h = record {
-    sound = put_sound found i x l k.sound (rw h at t.sound);
-    front = rw (add-one i) (one_more 0 i i (take i found) x (omega arith) k.front (ap (evaluate image angles 32) (sym q) ∙ sym t.is ∙ h) ∙ ap have (sym (take-suc-set found i x (omega (arith, k.sound.sixteen)))));
+  pub front_next : (i e : ℕ) (found : List Value) (x : Value) → i < 16 → Front i found → e ≡ f i → (evaluate image angles 32 e ≡ evaluation.Value x) × Sound x → Front (i + 1) (set found i x)
+  front_next i e found x l k q h = record {
+    sound = put_sound found i x l k.sound h.1;
+    front = rw (add-one i) (one_more 0 i i (take i found) x (omega arith) k.front (ap (evaluate image angles 32) (sym q) ∙ h.0) ∙ ap have (sym (take-suc-set found i x (omega (arith, k.sound.sixteen)))));
   }
 
-  pub front_done : (i n : ℕ) (found : List Value) (at : Position) → i ≤ n → n ≤ i → Front i found → ParametersGiven (values 0 n) n at (linearized.Done at) found
-  front_done i n found at h l k = record { sound = k.sound; ends = (refl, subst (λ (m : ℕ). values 0 m ≡ have (take m found)) (le_antisymm h l) k.front) }
-
-  pub front_refuses : (i n e : ℕ) (found : List Value) (r : Evaluation) (at : Position) (answer : Linearized) → i < n → Front i found → e ≡ f i → EvaluatesTo (evaluate image angles 32 e) r → RefusedAt r (expression_at image e) at answer
-      → ParametersGiven (values 0 n) n at answer found
-  front_refuses i n e found r at answer l k q t h =
-      let lacks : (later : Values) → also (valued i) (expression_at image (f i)) later ≡ lack h.why.why = λ later. sym (rw (sym q, sym t.is) refl) ∙ h.why.lacks later in
-      rw h.refuses (record { sound = k.sound; ends = (refl, (h.why.why, refuses_next 0 i n i (take i found) h.why.why l (omega arith) k.front lacks, h.why.answers)) })
+  pub front_refuses : (i n e : ℕ) (found : List Value) (at : Position) (x : LinearizeError) → i < n → Front i found → e ≡ f i → RefusedAt (evaluate image angles 32 e) (expression_at image e) at x → ParametersGiven (values 0 n) n at (Err x)
+  front_refuses i n e found at x l k q h =
+      let lacks : (later : Values) → also (valued i) (expression_at image (f i)) later ≡ lack h.why.why = λ later. sym (rw (sym q) refl) ∙ h.why.lacks later in
+      (h.here, (h.why.why, refuses_next 0 i n i (take i found) h.why.why l (omega arith) k.front lacks, h.why.answers))

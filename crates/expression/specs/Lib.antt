@@ -1,4 +1,3 @@
-pub mod Angles
 pub mod KeptValues
 pub mod Operands
 pub mod NamedExpressions

@@ -1,329 +1,210 @@
 // Works out the angles of an accepted image: expressions, and the parameters of a call.
 #![tactic(auto)]
 
-ghost use Rattle.std.specs.Prelude.{◌≡◌, true, ℕ, ◌+◌, ◌*◌, ◌<◌, ◌≤◌, ◌^◌, length, List};
+ghost use Rattle.std.specs.Prelude.{◌≡◌, ℕ, ◌<◌, ◌≤◌, length, get_or, List, false};
 ghost use Rattle.value.specs.Value.{Sound};
 ghost use Rattle.value.specs.Promise.{EvaluatesTo, SoundEvaluation};
-ghost use Rattle.value.specs.declared.Value.{Value};
-ghost use Rattle.model.specs.Evaluate.{evaluate, zero_value};
-ghost use Rattle.model.specs.Image.{expressions, expression_at};
+ghost use Rattle.model.specs.Evaluate.{evaluate, binary, unary, zero_value};
+ghost use Rattle.model.specs.Image.{expression, expression_at};
 ghost use Rattle.model.specs.Steps.{parameter_values};
-ghost use Rattle.record_writer.specs.Promise.{SoundAngles, AnglesGiven};
-ghost use Rattle.model.specs.Limits.{most_parameters, most_levels};
-ghost use Rattle.image.specs.Layout.{few_expressions, WithinLimits, Small, LayoutOf};
-ghost use Rattle.expression.specs.Angles.{denominator_of, fraction_at, sign_word, put_fraction, value_at, put_value, value_words, AngleWords, angles_in};
-ghost use Rattle.expression.specs.KeptValues.{kept_value_words, Constant, ConstantsKept, ValueStored, ValuesKept, AngleContext, Evaluated};
-ghost use Rattle.expression.specs.Operands.{BinaryResult, UnaryResult, NullaryResult, AcceptedExpression, NoValue, RefusalOf, RefusedAt, ParametersGiven};
+ghost use Rattle.model.specs.Limits.{most_levels, most_words};
+ghost use Rattle.image.specs.Entries.{as_binop, as_unop, as_expr};
+ghost use Rattle.image.specs.Layout.{Small};
+ghost use Rattle.record_writer.specs.Promise.{SoundAngles};
+ghost use Rattle.expression.specs.KeptValues.{known_value, operands_within, from_constants, ConstantsKept, ValuesKept, AngleContext, Evaluated};
+ghost use Rattle.expression.specs.Operands.{AcceptedExpression, NoValue, RefusalOf, RefusedAt, AngleGiven, ParametersGiven};
 ghost use Rattle.expression.specs.NamedExpressions.{named_at, NamesExpressions};
+ghost use Rattle.value.specs.declared.Value.{Value};
 
-use image::Layout;
+use image::{Binop, Expr, Image, Unop};
 use rational::Rational64;
-use record_writer::{LinearizeError, LinearizeErrorKind, Linearized, Position};
+use record_writer::{LinearizeError, LinearizeErrorKind, Position};
 use value::{Evaluation, Value};
 
-// ---- angles in words: an array of numbers can be lent, an array of angles cannot
+// ---- operations
 
-// The words of an angle.
-pub const VALUE_WORDS: u64 = 6;
-// The words that are kept of an expression: whether it is a constant, and its angle.
-pub const KEPT_VALUE_WORDS: u64 = 7;
-
-// The words of the angles of a frame.
-pub const FRAME_ANGLE_WORDS: usize = (VALUE_WORDS as usize) * image::FRAME_ANGLES;
-
-// A denominator from its word: 0 stands for 1, so that words that are all 0 are angles 0.
-fn denominator(word: u64) -> u64
-    ensures { result ≡ denominator_of word }
+// An operation on two angles.
+#[tactic(auto, unfolding(model::specs::Evaluate::binary))]
+fn binary(op: Binop, x: Value, y: Value) -> Evaluation
+    requires { Sound x × Sound y }
+    ensures { EvaluatesTo (binary (as_binop op) x y) result }
 {
-    if word == 0 { 1 } else { word }
-}
-
-// The fraction in three words.
-fn fraction_at(words: &[u64], at: u64) -> Rational64
-    requires { at + 2 < length words.now }
-    ensures { result ≡ fraction_at words.now at }
-{
-    let i = at as usize;
-    Rational64 {
-        negative: words[i] == 1,
-        numer: words[i + 1],
-        denom: denominator(words[i + 2]),
+    match op {
+        Binop::Add => x.checked_add(y),
+        Binop::Sub => x.checked_sub(y),
+        Binop::Mul => x.checked_mul(y),
+        Binop::Div => x.checked_div(y),
+        Binop::Pow => x.checked_pow(y),
     }
 }
 
-// The angle in six words.
-pub fn value_at(words: &[u64], at: u64) -> Value
-    requires { at + 5 < length words.now }
-    ensures { result ≡ value_at words.now at }
+// An operation on one angle.
+#[tactic(auto, unfolding(model::specs::Evaluate::unary))]
+fn unary(op: Unop, x: Value) -> Evaluation
+    requires { Sound x }
+    ensures { EvaluatesTo (unary (as_unop op) x) result }
 {
-    let a = fraction_at(words, at);
-    let b = fraction_at(words, at + 3);
-    Value { a, b }
-}
-
-// The first word of a fraction: 1 if it is negative.
-fn sign_word(negative: bool) -> u64
-    ensures { result ≡ sign_word negative }
-{
-    if negative { 1 } else { 0 }
-}
-
-// Puts a fraction into three words.
-fn put_fraction(words: &mut [u64], at: u64, x: Rational64)
-    requires { at + 2 < length words.old }
-    ensures { words.new ≡ put_fraction words.old at x }
-{
-    let i = at as usize;
-    words[i] = sign_word(x.negative);
-    words[i + 1] = x.numer;
-    words[i + 2] = x.denom;
-}
-
-// Puts an angle into six words.
-fn put_value(words: &mut [u64], at: u64, x: Value)
-    requires { at + 5 < length words.old }
-    ensures { words.new ≡ put_value words.old at x }
-{
-    let a = x.a;
-    let b = x.b;
-    put_fraction(words, at, a);
-    put_fraction(words, at + 3, b);
-}
-
-// Puts the first n angles of a frame into words that are angles, so that they can be lent.
-pub fn put_frame_angles(
-    angles: [Value; image::FRAME_ANGLES],
-    n: u64,
-    words: &mut [u64; FRAME_ANGLE_WORDS],
-)
-    requires { AnglesGiven angles n × SoundAngles (angles_in words.old) }
-    ensures { AngleWords angles n words.new }
-{
-    let mut i = 0;
-    while i < n {
-        let x = angles[i as usize];
-        put_value(words, VALUE_WORDS * i, x);
-        i += 1;
-    }
-}
-
-// ---- expressions
-
-// The value of an entry of a kind from 0 to 3, which has no operand.
-fn nullary(angles: &[u64; FRAME_ANGLE_WORDS], kind: u64, a: u64) -> Evaluation
-    requires { SoundAngles (angles_in angles.now) × (kind < 4) × ((kind ≡ 1) → a < 2 ^ 32) × ((kind ≡ 3) → a < most_parameters) }
-    ensures { NullaryResult (angles_in angles.now) kind a result }
-{
-    match kind {
-        0 => Evaluation::Value(Value::pi()),
-        1 => Value::from_float(float::f32_from_bits(a)),
-        2 => Value::int(a),
-        _ => Evaluation::Value(value_at(angles, VALUE_WORDS * a)),
-    }
-}
-
-// The operation of a kind from 4 to 8 on two angles.
-fn binary(kind: u64, x: Value, y: Value) -> Evaluation
-    requires { Sound x × Sound y × (4 ≤ kind) × (kind < 9) }
-    ensures { BinaryResult kind x y result }
-{
-    match kind {
-        4 => x.checked_add(y),
-        5 => x.checked_sub(y),
-        6 => x.checked_mul(y),
-        7 => x.checked_div(y),
-        _ => x.checked_pow(y),
-    }
-}
-
-// The operation of a kind from 9 to 15 on one angle.
-fn unary(kind: u64, x: Value) -> Evaluation
-    requires { Sound x × (9 ≤ kind) × (kind < 16) }
-    ensures { UnaryResult kind x result }
-{
-    match kind {
-        9 => x.checked_neg(),
-        10 => x.checked_sin(),
-        11 => x.checked_cos(),
-        12 => x.checked_tan(),
-        13 => x.checked_exp(),
-        14 => x.checked_ln(),
-        _ => x.checked_sqrt(),
+    match op {
+        Unop::Neg => x.checked_neg(),
+        Unop::Sin => x.checked_sin(),
+        Unop::Cos => x.checked_cos(),
+        Unop::Tan => x.checked_tan(),
+        Unop::Exp => x.checked_exp(),
+        Unop::Ln => x.checked_ln(),
+        Unop::Sqrt => x.checked_sqrt(),
     }
 }
 
 // ---- values that are kept: a constant is worked out once in a run, any other operand once in an expression
 
-// Keeps a value as that of an entry, which is known from then on.
-fn keep_value(known: &mut [bool], kept_values: &mut [u64], e: u64, x: Value)
-    requires { (e < length known.old) × (kept_value_words * e + value_words < length kept_values.old) × Sound x }
-    ensures { ValueStored known.old kept_values.old e x known.new kept_values.new }
+// What is kept of an expression: nothing, the value that it had in the last evaluation that came to it, or the value of a constant.
+#[derive(Clone, Copy)]
+pub enum KeptValue {
+    Nothing,
+    Once(Value),
+    Constant(Value),
+}
+
+// The value that is known of an entry: a constant's, or one that is marked as found in this evaluation. The marks stand beside the values, since only
+// they are cleared for each evaluation: clearing the values too would take as long as many an evaluation.
+fn known_value(known: &[bool], kept_values: &[KeptValue], e: u64) -> Option<Value>
+    requires { (e < length known.now) × (e < length kept_values.now) }
+    ensures { result ≡ known_value (get_or known.now e false) (get_or kept_values.now e KeptValue.Nothing) }
 {
-    put_value(kept_values, KEPT_VALUE_WORDS * e + 1, x);
-    let i = e as usize;
-    known[i] = true;
+    match kept_values[e as usize] {
+        KeptValue::Nothing => None,
+        KeptValue::Once(x) => { if known[e as usize] { Some(x) } else { None } }
+        KeptValue::Constant(x) => Some(x),
+    }
 }
 
 // Whether an entry is a constant for all that is known of its operands: no parameter goes into it.
-fn is_constant(image: &[u64], l: Layout, kept_values: &[u64], e: u64) -> bool
-    requires { LayoutOf image.now l × AcceptedExpression image.now e × ConstantsKept image.now kept_values.now }
-    ensures { (result ≡ true) → Constant image.now e }
+fn is_constant(kept_values: &[KeptValue], entry: Expr) -> bool
+    requires { operands_within (length kept_values.now) (as_expr entry) }
+    ensures { result ≡ from_constants kept_values.now (as_expr entry) }
 {
-    let at = l.expression_at(e);
-    let kind = image::word(image, at);
-    if kind < 4 {
-        return kind != 3;
+    match entry {
+        Expr::Pi | Expr::Real(_) | Expr::Int(_) => true,
+        Expr::Var(_) => false,
+        Expr::Binary(_, a, b) => {
+            matches!(kept_values[a as usize], KeptValue::Constant(_))
+                && matches!(kept_values[b as usize], KeptValue::Constant(_))
+        }
+        Expr::Unary(_, a) => matches!(kept_values[a as usize], KeptValue::Constant(_)),
     }
-    let a = image::word(image, at + 1);
-    if kept_values[(KEPT_VALUE_WORDS * a) as usize] != 1 {
-        return false;
-    }
-    if kind >= 9 {
-        return true;
-    }
-    let b = image::word(image, at + 2);
-    kept_values[(KEPT_VALUE_WORDS * b) as usize] == 1
 }
 
-// Keeps what an entry is evaluated to, if it is a value, marks a constant, and hands the evaluation on.
+// Keeps what an entry is evaluated to, if it is a value, and hands the evaluation on.
 fn keep_evaluation(
-    image: &[u64],
-    l: Layout,
     known: &mut [bool],
-    kept_values: &mut [u64],
+    kept_values: &mut [KeptValue],
     e: u64,
+    entry: Expr,
     r: Evaluation,
 ) -> Evaluation
-    requires { LayoutOf image.now l
-        × AcceptedExpression image.now e
-        × ConstantsKept image.now kept_values.old
-        × SoundEvaluation r
-        × (expressions image.now ≤ length known.old) }
-    ensures { (angles : List Value)
-        → Evaluated image.now angles e r known.old kept_values.old
-        → Evaluated image.now angles e result known.new kept_values.new }
+    requires { (e < length known.old) × (e < length kept_values.old) × operands_within (length kept_values.old) (as_expr entry) }
+    ensures { (image : List ℕ) → AcceptedExpression image e → as_expr entry ≡ expression image e → (angles : List Value)
+        → Evaluated image angles e r known.old kept_values.old
+        → Evaluated image angles e result known.new kept_values.new }
 {
     let Evaluation::Value(x) = r else {
         return r;
     };
-    let constant = is_constant(image, l, kept_values, e);
-    keep_value(known, kept_values, e, x);
-    if constant {
-        kept_values[(KEPT_VALUE_WORDS * e) as usize] = 1;
+    let i = e as usize;
+    if is_constant(kept_values, entry) {
+        kept_values[i] = KeptValue::Constant(x);
+    } else {
+        kept_values[i] = KeptValue::Once(x);
+        known[i] = true;
     }
     r
 }
 
-// The angle of an expression, read back if it is kept, or why it has none. An operand has a smaller number than its user. A refusal ends the whole evaluation, so that only values are kept.
+// ---- expressions
+
+// The angle of an expression, read back if it is known, or why it has none. An operand has a smaller number than its user. A refusal ends the whole evaluation, so that only values are kept.
 fn evaluate(
-    image: &[u64],
-    l: Layout,
-    angles: &[u64; FRAME_ANGLE_WORDS],
+    image: &Image<'_>,
+    angles: &[Value; image::FRAME_ANGLES],
     known: &mut [bool],
-    kept_values: &mut [u64],
+    kept_values: &mut [KeptValue],
     e: u64,
 ) -> Evaluation
-    requires { LayoutOf image.now l
-        × SoundAngles (angles_in angles.now)
-        × AcceptedExpression image.now e
-        × ValuesKept image.now (angles_in angles.now) known.old kept_values.old }
-    ensures { Evaluated image.now (angles_in angles.now) e result known.new kept_values.new }
+    requires { SoundAngles angles.now
+        × AcceptedExpression image.now.words.now e
+        × ValuesKept image.now.words.now angles.now known.old kept_values.old }
+    ensures { Evaluated image.now.words.now angles.now e result known.new kept_values.new }
 {
-    if known[e as usize] {
-        return Evaluation::Value(value_at(kept_values, KEPT_VALUE_WORDS * e + 1));
+    if let Some(x) = known_value(known, kept_values, e) {
+        return Evaluation::Value(x);
     }
-    if kept_values[(KEPT_VALUE_WORDS * e) as usize] == 1 {
-        return Evaluation::Value(value_at(kept_values, KEPT_VALUE_WORDS * e + 1));
-    }
-    let at = l.expression_at(e);
-    let kind = image::word(image, at);
-    let a = image::word(image, at + 1);
-    if kind < 4 {
-        return keep_evaluation(image, l, known, kept_values, e, nullary(angles, kind, a));
-    }
-    let left = evaluate(image, l, angles, known, kept_values, a);
-    let Evaluation::Value(x) = left else {
-        return left;
+    let Some(entry) = image.expression(e) else {
+        unreachable!()
     };
-    if 8 < kind {
-        return keep_evaluation(image, l, known, kept_values, e, unary(kind, x));
-    }
-    let b = image::word(image, at + 2);
-    let right = evaluate(image, l, angles, known, kept_values, b);
-    let Evaluation::Value(y) = right else {
-        return right;
+    let r = match entry {
+        Expr::Pi => Evaluation::Value(Value::pi()),
+        Expr::Real(bits) => Value::from_float(float::f32_from_bits(bits)),
+        Expr::Int(n) => Value::int(n),
+        Expr::Var(i) => Evaluation::Value(angles[i as usize]),
+        Expr::Binary(op, a, b) => {
+            let left = evaluate(image, angles, known, kept_values, a);
+            let Evaluation::Value(x) = left else {
+                return left;
+            };
+            let right = evaluate(image, angles, known, kept_values, b);
+            let Evaluation::Value(y) = right else {
+                return right;
+            };
+            binary(op, x, y)
+        }
+        Expr::Unary(op, a) => {
+            let operand = evaluate(image, angles, known, kept_values, a);
+            let Evaluation::Value(x) = operand else {
+                return operand;
+            };
+            unary(op, x)
+        }
     };
-    keep_evaluation(image, l, known, kept_values, e, binary(kind, x, y))
+    keep_evaluation(known, kept_values, e, entry, r)
 }
 
-// The angle of an expression of a program with few expressions, worked out entry by entry.
-fn evaluate_few_expressions(
-    image: &[u64],
-    l: Layout,
-    angles: &[u64; FRAME_ANGLE_WORDS],
-    kept_values: &mut [u64],
+// The angle of an expression that is worked out entry by entry, with marks for as many expressions as N, where no value is known but those of constants.
+fn evaluate_entries<const N: usize>(
+    image: &Image<'_>,
+    angles: &[Value; image::FRAME_ANGLES],
+    kept_values: &mut [KeptValue],
     e: u64,
 ) -> Evaluation
-    requires { AngleContext image.now l (angles_in angles.now) kept_values.old
-        × AcceptedExpression image.now e
-        × (l.expressions ≤ few_expressions) }
-    ensures { EvaluatesTo (evaluate image.now (angles_in angles.now) most_levels e) result × ConstantsKept image.now kept_values.new }
+    requires { AngleContext image.now.words.now angles.now kept_values.old
+        × AcceptedExpression image.now.words.now e
+        × (image.now.layout.expressions ≤ N)
+        × (N ≤ most_words) }
+    ensures { EvaluatesTo (evaluate image.now.words.now angles.now most_levels e) result × ConstantsKept image.now.words.now kept_values.new }
 {
-    let mut known = [false; image::FEW_EXPRESSIONS];
-    evaluate(image, l, angles, &mut known, kept_values, e)
-}
-
-// The angle of an expression, worked out entry by entry, with marks for as many expressions as an image may have.
-fn evaluate_many_expressions(
-    image: &[u64],
-    l: Layout,
-    angles: &[u64; FRAME_ANGLE_WORDS],
-    kept_values: &mut [u64],
-    e: u64,
-) -> Evaluation
-    requires { AngleContext image.now l (angles_in angles.now) kept_values.old × AcceptedExpression image.now e }
-    ensures { EvaluatesTo (evaluate image.now (angles_in angles.now) most_levels e) result × ConstantsKept image.now kept_values.new }
-{
-    let mut known = [false; image::MOST_EXPRESSIONS];
-    evaluate(image, l, angles, &mut known, kept_values, e)
-}
-
-// The angle of an expression that is worked out entry by entry, where no value is known but those of constants.
-fn evaluate_entries(
-    image: &[u64],
-    l: Layout,
-    angles: &[u64; FRAME_ANGLE_WORDS],
-    kept_values: &mut [u64],
-    e: u64,
-) -> Evaluation
-    requires { AngleContext image.now l (angles_in angles.now) kept_values.old × AcceptedExpression image.now e }
-    ensures { EvaluatesTo (evaluate image.now (angles_in angles.now) most_levels e) result × ConstantsKept image.now kept_values.new }
-{
-    if l.expressions <= image::FEW_EXPRESSIONS as u64 {
-        return evaluate_few_expressions(image, l, angles, kept_values, e);
-    }
-    evaluate_many_expressions(image, l, angles, kept_values, e)
+    let mut known = [false; N];
+    evaluate(image, angles, &mut known, kept_values, e)
 }
 
 // The angle of an expression where no value is known but those of constants. A constant, and a parameter alone, are read straight away.
-pub fn evaluate_anew(
-    image: &[u64],
-    l: Layout,
-    angles: &[u64; FRAME_ANGLE_WORDS],
-    kept_values: &mut [u64],
+fn evaluate_anew(
+    image: &Image<'_>,
+    angles: &[Value; image::FRAME_ANGLES],
+    kept_values: &mut [KeptValue],
     e: u64,
 ) -> Evaluation
-    requires { AngleContext image.now l (angles_in angles.now) kept_values.old × AcceptedExpression image.now e }
-    ensures { EvaluatesTo (evaluate image.now (angles_in angles.now) most_levels e) result × ConstantsKept image.now kept_values.new }
+    requires { AngleContext image.now.words.now angles.now kept_values.old × AcceptedExpression image.now.words.now e }
+    ensures { EvaluatesTo (evaluate image.now.words.now angles.now most_levels e) result × ConstantsKept image.now.words.now kept_values.new }
 {
-    if kept_values[(KEPT_VALUE_WORDS * e) as usize] == 1 {
-        return Evaluation::Value(value_at(kept_values, KEPT_VALUE_WORDS * e + 1));
+    if let KeptValue::Constant(x) = kept_values[e as usize] {
+        return Evaluation::Value(x);
     }
-    let at = l.expression_at(e);
-    if image::word(image, at) == 3 {
-        return nullary(angles, 3, image::word(image, at + 1));
+    if let Some(Expr::Var(i)) = image.expression(e) {
+        return Evaluation::Value(angles[i as usize]);
     }
-    evaluate_entries(image, l, angles, kept_values, e)
+    if image.layout.expressions <= image::FEW_EXPRESSIONS as u64 {
+        return evaluate_entries::<{ image::FEW_EXPRESSIONS }>(image, angles, kept_values, e);
+    }
+    evaluate_entries::<{ image::MOST_EXPRESSIONS }>(image, angles, kept_values, e)
 }
 
 // ---- the parameters of a call
@@ -355,60 +236,56 @@ fn refusal(r: Evaluation, place: u64) -> LinearizeErrorKind
         Evaluation::DivideByZero => LinearizeErrorKind::DivideByZero(place),
         Evaluation::ApproximateFail(f) => LinearizeErrorKind::ApproximateFail(place, f),
         Evaluation::FunctionOfFloats => LinearizeErrorKind::FunctionOfFloats(place),
-        _ => LinearizeErrorKind::NumericalOverflow(place),
+        Evaluation::Overflow => LinearizeErrorKind::NumericalOverflow(place),
+        Evaluation::Value(_) => unreachable!(),
     }
 }
 
-// The answer of a run that ends at an expression, whose evaluation came to no angle.
-pub fn refused(l: Layout, e: u64, r: Evaluation, at: Position) -> Linearized
-    requires { WithinLimits l × Small e × NoValue r }
-    ensures { (image : List ℕ) → LayoutOf image l → RefusedAt r (expression_at image e) at result }
+// The refusal of an expression, whose evaluation came to no angle.
+fn refused(image: &Image<'_>, e: u64, r: Evaluation, at: Position) -> LinearizeError
+    requires { Small e × NoValue r }
+    ensures { RefusedAt r (expression_at image.now.words.now e) at result }
 {
-    let kind = refusal(r, l.expression_at(e));
-    Linearized::Refused(LinearizeError { kind, at })
+    let kind = refusal(r, image.expression_at(e));
+    LinearizeError { kind, at }
 }
 
-// The angles of a call's parameters, the others 0, beside the answer, since an enum cannot hold an array.
-#[derive(Clone, Copy)]
-pub struct ParameterValues {
-    pub angles: [Value; image::FRAME_ANGLES],
-    pub answer: Linearized,
+// The angle of an expression, or the refusal with which a run ends there.
+pub fn angle_of(
+    image: &Image<'_>,
+    angles: &[Value; image::FRAME_ANGLES],
+    kept_values: &mut [KeptValue],
+    e: u64,
+    at: Position,
+) -> Result<Value, LinearizeError>
+    requires { AngleContext image.now.words.now angles.now kept_values.old × AcceptedExpression image.now.words.now e }
+    ensures { AngleGiven (evaluate image.now.words.now angles.now most_levels e) (expression_at image.now.words.now e) at result
+        × ConstantsKept image.now.words.now kept_values.new }
+{
+    let r = evaluate_anew(image, angles, kept_values, e);
+    let Evaluation::Value(x) = r else {
+        return Err(refused(image, e, r, at));
+    };
+    Ok(x)
 }
 
-// The angles of the n expressions that the words from a place on name, or the refusal of the first that has none.
+// The angles of the n expressions that the words from a place on name, the others 0, or the refusal of the first that has none.
 pub fn parameter_values(
-    image: &[u64],
-    l: Layout,
-    angles: &[u64; FRAME_ANGLE_WORDS],
-    kept_values: &mut [u64],
+    image: &Image<'_>,
+    angles: &[Value; image::FRAME_ANGLES],
+    kept_values: &mut [KeptValue],
     place: u64,
     n: u64,
     at: Position,
-) -> ParameterValues
-    requires { AngleContext image.now l (angles_in angles.now) kept_values.old × NamesExpressions image.now place n }
-    ensures { ParametersGiven (parameter_values image.now (angles_in angles.now) (named_at image.now place n)) n at result.answer result.angles
-        × ConstantsKept image.now kept_values.new }
+) -> Result<[Value; image::FRAME_ANGLES], LinearizeError>
+    requires { AngleContext image.now.words.now angles.now kept_values.old × NamesExpressions image.now.words.now place n }
+    ensures { ParametersGiven (parameter_values image.now.words.now angles.now (named_at image.now.words.now place n)) n at result
+        × ConstantsKept image.now.words.now kept_values.new }
 {
-    let none = [zero(); image::FRAME_ANGLES];
-    let done = Linearized::Done(at);
-    let mut given = ParameterValues {
-        angles: none,
-        answer: done,
-    };
-    let mut i = 0;
-    while i < n {
-        let e = image::word(image, place + i);
-        let r = evaluate_anew(image, l, angles, kept_values, e);
-        let Evaluation::Value(x) = r else {
-            let values = given.angles;
-            let answer = refused(l, e, r, at);
-            return ParameterValues {
-                angles: values,
-                answer,
-            };
-        };
-        given.angles[i as usize] = x;
-        i += 1;
+    let mut values = [zero(); image::FRAME_ANGLES];
+    for i in 0..n {
+        let e = image.word(place + i);
+        values[i as usize] = angle_of(image, angles, kept_values, e, at)?;
     }
-    given
+    Ok(values)
 }

@@ -1,7 +1,6 @@
 pub mod PowerOfTwoLaws
 pub mod ApproximateFloatLaws
 pub mod NanLaws
-pub mod OfIntLaws
 pub mod RoundLaws
 pub mod DyadicLaws
 pub mod OfBitsLaws

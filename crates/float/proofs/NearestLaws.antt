@@ -3,13 +3,13 @@
 use mathlib.Core.Path.{◌≡◌, refl, sym, ap, ◌∙◌, subst}
 use mathlib.Core.Bool.{Bool, true, false, ◌&&◌}
 use mathlib.Core.Logic.{◌⊎◌, inl, inr}
-use Prim.Native.Nat.{ℕ, zero, suc, ◌+◌, ◌-◌, ◌*◌, ◌/◌, ◌%◌, ◌^◌, ◌≤◌, ◌<◌, ◌∣◌, compare}
+use Prim.Native.Nat.{ℕ, zero, suc, ◌+◌, ◌-◌, ◌*◌, ◌/◌, ◌%◌, ◌^◌, ◌≤◌, ◌<◌, ◌∣◌, compare, Ordering}
 use native.Mathlib.Nat.{zero-lt-suc, le_refl, le_trans, le_of_eq, le_of_lt, lt_irrefl, le_of_suc-le-suc, lt_of_lt_of_le, lt_of_not-le, mul_assoc, mul-one, mul-pos, mul-le-mul_right, mul-lt-mul_of_pos_right, eq_of_mul-eq-mul_right, mod-lt, div-add-mod', div-mul_cancel, dvd-mul_left, le-div_iff_mul-le}
 use native.Mathlib.Omega.{arith}
 use lib.IntN.{ℤ, pos, negsuc}
-use lib.Dec.{T, ltb, leb, eqb, leb→le, ltb→lt}
+use lib.Dec.{T, ltb, leb, eqb, is_le, compare_is_eq, leb→le, ltb→lt}
 use lib.Pow.{pow-add, pow_pos, pow_mono, pow-lt}
-use borrow.Author.Tests.{ltb-true, ltb-false, leb-true, leb-false}
+use borrow.Author.Tests.{ltb-true, ltb-false, leb-true, leb-false, le-leb, lt-leb, eq-eqb, ne_eqb}
 use lib.Ieee.{Float, nan, inf, fin, Format, prec, emax, low, up, down, size, nearest, fits}
 use lib.Ieee.Digits.{size_reaches}
 use lib.Ieee.Fits.{two, two-le_pos, and_l, and_r, down_pos}
@@ -17,7 +17,31 @@ use lib.Ieee.Exact.{HasValue}
 use lib.Ieee.Nearest.{closest}
 use lib.Ieee.Order.{drop, kept}
 use lib.Ieee.Scale.{grid}
-use Rattle.float.proofs.OfIntLaws.{compare_lt, compare_eq, compare_gt}
+
+-- ---- how two numbers compare
+pub compare_lt : (a b : ℕ) → a < b → compare a b ≡ Ordering.lt
+compare_lt a b h = go (compare a b) (le-leb a b (le_of_lt h)) (ne_eqb a b (omega arith))
+  where
+    go : (o : Ordering) → is_le o ≡ true → compare_is_eq o ≡ false → o ≡ Ordering.lt
+    go Ordering.lt p q = refl
+    go Ordering.eq p q = cc
+    go Ordering.gt p q = cc
+
+pub compare_eq : (a b : ℕ) → a ≡ b → compare a b ≡ Ordering.eq
+compare_eq a b h = go (compare a b) (eq-eqb a b h)
+  where
+    go : (o : Ordering) → compare_is_eq o ≡ true → o ≡ Ordering.eq
+    go Ordering.lt q = cc
+    go Ordering.eq q = refl
+    go Ordering.gt q = cc
+
+pub compare_gt : (a b : ℕ) → b < a → compare a b ≡ Ordering.gt
+compare_gt a b h = go (compare a b) (lt-leb a b h)
+  where
+    go : (o : Ordering) → is_le o ≡ false → o ≡ Ordering.gt
+    go Ordering.lt q = cc
+    go Ordering.eq q = cc
+    go Ordering.gt q = refl
 
 -- How far two numbers are apart. One of the two differences is 0.
 abbrev pub distance : ℕ → ℕ → ℕ

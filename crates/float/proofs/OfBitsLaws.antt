@@ -9,7 +9,7 @@ use lib.Ieee.{Float, nan, inf, fin, binary32, fits, of_bits, of_fields, to_bits,
 use lib.Ieee.Exact.{HasValue, odd_sign}
 use lib.Ieee.Bits.{of_bits-to_bits}
 use Rattle.float.proofs.ApproximateFloatLaws.{own_lowest, value_lowest}
-use Rattle.rational.specs.declared.OptionRational64.TheVariants.{None}
+use Rattle.std.specs.Prelude.{None}
 use Rattle.rational.specs.Rational.{reduced, checked}
 use Rattle.float.specs.Float.{approximate_float}
 

@@ -1,18 +1,19 @@
 -- A capped shift is the capped power of two, and a number over a power of two is reduced once it is odd or whole.
-use mathlib.Core.Path.{◌≡◌, sym, ap, ◌∙◌}
-use Prim.Native.Nat.{ℕ, zero, suc, ◌+◌, ◌-◌, ◌*◌, ◌/◌, ◌%◌, ◌^◌, ◌≤◌, ◌<◌, min}
-use native.Mathlib.Nat.{eq-one_of_dvd-one, mul-one, mul_assoc, pow-suc, zero-lt-suc, le_of_lt}
+use mathlib.Core.Path.{◌≡◌, refl, sym, ap, ◌∙◌}
+use Prim.Native.Nat.{ℕ, zero, suc, ◌+◌, ◌-◌, ◌*◌, ◌/◌, ◌%◌, ◌^◌, ◌≤◌, min}
+use native.Mathlib.Nat.{eq-one_of_dvd-one, mul-one, mul_assoc, pow-suc, zero-lt-suc}
 use native.Mathlib.Omega.{arith}
 use lib.Pow.{pow-add, pow_pos, pow_mono}
 use Rattle.rational.specs.Gcd.{gcd}
 use Rattle.rational.proofs.GcdLaws.{gcd_dvd_right, gcd_step, coprime_mul_right, lowest_is}
 
 -- ---- powers that are capped at the limit
-pub shift_is : (e : ℕ) → e < 63 → 1 * 2 ^ e % 2 ^ 64 ≡ min (2 ^ e) (2 ^ 63)
-shift_is e h = let p : 2 ^ e ≤ 2 ^ 63 = pow_mono (le_of_lt h) in omega arith
-
-pub large_is : (e : ℕ) → 63 ≤ e → 2 ^ 63 ≡ min (2 ^ e) (2 ^ 63)
-large_is e h = let p : 2 ^ 63 ≤ 2 ^ e = pow_mono h in omega arith
+pub capped_shift : (e : ℕ) → 1 * 2 ^ min e 63 % 2 ^ 64 ≡ min (2 ^ e) (2 ^ 63)
+capped_shift e = go (e - 63) refl
+  where
+    go : (d : ℕ) → e - 63 ≡ d → 1 * 2 ^ min e 63 % 2 ^ 64 ≡ min (2 ^ e) (2 ^ 63)
+    go zero h = let m : min e 63 ≡ e = omega arith in let l : e ≤ 63 = omega arith in let p : 2 ^ e ≤ 2 ^ 63 = pow_mono l in rw m (omega arith)
+    go (suc d) h = let m : min e 63 ≡ 63 = omega arith in let l : 63 ≤ e = omega arith in let p : 2 ^ 63 ≤ 2 ^ e = pow_mono l in rw m (omega arith)
 
 -- ---- halving
 pub halved : (m j : ℕ) → m % 2 ≡ 0 → m / 2 * 2 ^ (j + 1) ≡ m * 2 ^ j

@@ -1,10 +1,8 @@
 -- Document 01, "Fractions and angles": what it says of f32. The f32 itself, its rounding to nearest with ties to even and its arithmetic are `lib.Ieee`.
-use Rattle.std.specs.Prelude.{ℕ, ◌*◌, ◌^◌, pos, Float}
+use Rattle.std.specs.Prelude.{Option, None, ℕ, ◌*◌, ◌^◌, pos, Float}
 use Rattle.std.specs.Float.{nan, inf, fin, binary32}
 use Rattle.std.specs.Float.Ieee.{up, down, of_int, to_bits, div}
 use Rattle.rational.specs.declared.Rational64.{Rational64}
-use Rattle.rational.specs.declared.OptionRational64.{OptionRational64}
-use Rattle.rational.specs.declared.OptionRational64.TheVariants.{None}
 use Rattle.rational.specs.Rational.{signed_integer, reduced, checked}
 
 -- The first number that is not the bits of an f32.
@@ -16,7 +14,7 @@ abbrev pub significand_limit : ℕ
 significand_limit = 2 ^ 24
 
 -- The fraction of an f32: "the exact value of a finite f32, reduced; it fails exactly for infinities, NaN and values outside the range". A finite f32 is ±m·2^e.
-unfoldable pub approximate_float : Float → OptionRational64
+unfoldable pub approximate_float : Float → Option Rational64
 approximate_float nan = None
 approximate_float (inf s) = None
 approximate_float (fin s m e) = checked (reduced s (m * up e) (down e))

@@ -1,5 +1,5 @@
 -- What the check accepted of a call, and its steps where its parameters have values and where one is refused.
-use Prim.Native.Nat.{ℕ, zero, suc, ◌+◌, ◌≤◌, ◌<◌}
+use Prim.Native.Nat.{ℕ, zero, suc, ◌+◌, ◌<◌}
 use native.Mathlib.Nat.{add-zero}
 use native.Mathlib.Omega.{arith}
 use mathlib.Core.Path.{◌≡◌, refl, sym, ap, ap₂, subst, ◌∙◌}
@@ -7,22 +7,25 @@ use mathlib.Core.List.{List, [], ◌∷◌, map}
 use lib.Dec.{T, ltb→lt}
 use Rattle.value.specs.declared.Value.{Value}
 use Rattle.model.specs.Lists.{range, all}
-use Rattle.model.specs.Image.{Gate, word, statement, statement_at, parameter_at, parameter, gates, gate_parameters, variables}
+use Rattle.model.specs.Image.{Statement, Gate, word, statement, parameter_at, parameter, gates, gate_parameters, variables}
 use Rattle.model.specs.Check.{expression_ok, downward}
 use Rattle.model.specs.Steps.{Frame, refuse, Refusal, have, lack, given, parameter_values, with_values, qubit_in, write_opaque, push_frame, visit_gate, visit_plain}
 use Rattle.model.proofs.All.{all-All, All-all, All-of}
 use Rattle.model.proofs.Accepted.{few_parameters, few_arguments}
-use Rattle.model.specs.Accepted.{PlainFacts}
+use Rattle.model.specs.Accepted.{Accepted, PlainFacts}
 use Rattle.image.specs.declared.Layout.{Layout}
-use Rattle.model.proofs.StatementOfLaws.{gate_is, words_are}
+use Rattle.image.specs.Layout.{LayoutOf}
+use Rattle.image.specs.declared.statement.Statement as code
+use Rattle.image.specs.Entries.{as_statement, statement_read}
+use Rattle.std.specs.Prelude.{Option, Some}
 use Rattle.statement.specs.declared.Site.{Site}
 use Rattle.statement.specs.declared.Call.{Call}
 use Rattle.argument.specs.Frames.{scope_frame, ScopeContext}
 use Rattle.expression.specs.NamedExpressions.{named_at, ListedExpressions}
 use Rattle.gate.specs.RunContext.{nested}
-use Rattle.gate.specs.PlainStatement.{PlainStatement, IsCall}
+use Rattle.gate.specs.PlainStatement.{PlainStatement}
 use Rattle.gate.specs.RanSteps.{plain_steps}
-use Rattle.gate.specs.CallStatement.{call_of, CallStatement, call_steps}
+use Rattle.gate.specs.CallStatement.{call_of, StatedCall, CallStatement, call_steps}
 use Rattle.expression.proofs.NamedExpressionLaws.{listed_values}
 use Rattle.gate.proofs.PrimitiveStatementLaws.{few_variables}
 
@@ -40,79 +43,75 @@ named_is image p n = parameters_from image p 0 n ∙ ap (λ (m : ℕ). map (para
 
 -- ---- what the check says
 
-module _ {image : List ℕ} {l : Layout} {register-starts : List ℕ} (site : Site) {qubits : List ℕ} (st : ScopeContext image l register-starts site.scope qubits) where
+-- the statement that was read
+pub statement_is : {x : Option code.Statement} {entry : code.Statement} {stated : Statement} → statement_read x ≡ stated → x ≡ Some entry → as_statement entry ≡ stated
+statement_is r u = rw u at r
+
+module _ {image : List ℕ} {l : Layout} (laid : LayoutOf image l) (acc : Accepted image) (site : Site) (f : PlainStatement image site) where
   abbrev scope : ℕ
   scope = site.scope
 
   below : (g : ℕ) → g < gates image → (scope : ℕ) → T (downward scope g) → g < nested scope
   unfolding downward
-  below g h zero d = omega (arith, st.accepted.few_gates)
+  below g h zero d = omega (arith, acc.few_gates)
   below g h (suc k) d = ltb→lt g k d
 
-  module _ (is3 : IsCall image site) where
-    abbrev at : ℕ
-    at = statement_at image site.statement
+  module _ {g p a : ℕ} (stated : statement image site.statement ≡ Gate g p a) where
+    abbrev call_facts : PlainFacts image scope (Gate g p a)
+    call_facts = subst (PlainFacts image scope) stated f.facts
 
-    abbrev gate : ℕ
-    gate = word image (at + 1)
+    pub calls : CallStatement image (call_of image site g p a)
+    calls =
+        record {
+          parameters_are = refl;
+          arguments_are = refl;
+          body_is = refl;
+          listed = f.listed;
+          gate_listed = call_facts.0;
+          downward = below g call_facts.0 scope call_facts.3;
+          few_parameters = few_parameters acc g call_facts.0;
+          arguments_fit = record { few = few_arguments acc g call_facts.0; listed = call_facts.2; each = call_facts.5; match = call_facts.6 };
+        }
 
-    pub is_call : statement image site.statement ≡ Gate gate (word image (at + 2)) (word image (at + 3))
-    is_call = words_are image site.statement at _ _ _ _ _ refl refl refl refl refl refl ∙ gate_is _ _ _ _ (word image (at + 4)) is3
+    pub states : StatedCall image (call_of image site g p a)
+    states = record { accepted = f; parameter = p; stated = stated; expressions_at = refl }
 
-    module _ (f : PlainStatement image l site) where
-      abbrev call_facts : PlainFacts image scope (Gate gate (word image (at + 2)) (word image (at + 3)))
-      call_facts = subst (PlainFacts image scope) is_call f.facts
+module _ {image : List ℕ} {l : Layout} (laid : LayoutOf image l) (acc : Accepted image) {call : Call} (c : CallStatement image call) (s : StatedCall image call) {qubits : List ℕ} (st : ScopeContext image call.site.scope qubits) where
+  abbrev call_scope : ℕ
+  call_scope = call.site.scope
 
-      pub known_gate : (gate < l.gates) × (word image (at + 2) ≤ 8192)
-      known_gate = omega (arith, call_facts.0, call_facts.1, st.laid.gates_is, st.laid.whole, st.laid.short)
+  -- the words that name its parameters
+  named : named_at image call.expressions call.parameters ≡ map (parameter image) (range s.parameter (gate_parameters image call.gate))
+  named = rw (s.expressions_at, c.parameters_are) (named_is image s.parameter (gate_parameters image call.gate))
 
-      module _ {call : Call} (e : call ≡ call_of image site) where
-        pub calls : CallStatement image l call
-        calls =
-            subst (CallStatement image l) (sym e) (record {
-              read = refl;
-              listed = f.listed;
-              gate_listed = known_gate.0;
-              downward = below gate call_facts.0 scope call_facts.3;
-              few_parameters = few_parameters st.accepted gate call_facts.0;
-              arguments_fit = record {
-                few = few_arguments st.accepted gate call_facts.0;
-                listed = omega (arith, call_facts.2, st.laid.arguments_is);
-                each = call_facts.5;
-                match = call_facts.6;
-              };
-            })
+  pub named_listed : ListedExpressions image (variables image call_scope) call.expressions call.parameters
+  named_listed = let k = subst (PlainFacts image call_scope) s.stated s.accepted.facts in
+      record {
+        few = (c.few_parameters, few_variables image acc call_scope _ st.frame);
+        near = omega (arith, s.expressions_at, c.parameters_are, k.1, laid.whole, laid.short);
+        each = subst (λ (es : List ℕ). T (all (expression_ok image (variables image call_scope) 32) es)) (sym named) (All-all _ (All-of (parameter image) (all-All _ _ k.4)));
+      }
 
-        pub named_listed : ListedExpressions image (variables image scope) call.expressions call.parameters
-        named_listed =
-            subst (λ (c : Call). ListedExpressions image (variables image scope) c.expressions c.parameters) (sym e) (record {
-              few = (few_parameters st.accepted gate call_facts.0, few_variables image st.accepted scope _ st.frame);
-              near = omega (arith, call_facts.1, st.laid.whole, st.laid.short);
-              each = subst (λ (es : List ℕ). T (all (expression_ok image (variables image scope) 32) es)) (sym (named_is image (word image (at + 2)) (gate_parameters image gate)))
-                  (All-all _ (All-of (parameter image) (all-All _ _ call_facts.4)));
-            })
+  -- ---- its steps
 
-    -- ---- its steps
+  module _ (angles : List Value) where
+    abbrev frame : Frame
+    frame = scope_frame image call_scope angles qubits
 
-    module _ {call : Call} (e : call ≡ call_of image site) (angles : List Value) where
-      abbrev frame : Frame
-      frame = scope_frame image scope angles qubits
+    gate_steps : plain_steps image call.site.levels_left frame call.site.statement ≡ with_values image frame (named_at image call.expressions call.parameters) (call_steps image frame call)
+    unfolding visit_plain
+    gate_steps = rw (s.stated, named, c.arguments_are) refl
 
-      gate_steps : plain_steps image site.levels_left frame site.statement ≡ with_values image frame (named_at image call.expressions call.parameters) (call_steps image frame call)
-      unfolding visit_plain
-      gate_steps = rw (is_call, e, named_is image (word image (at + 2)) (gate_parameters image gate)) refl
+    -- the caller's angles do not show in the rounds
+    same_call : (xs : List Value) → call_steps image (scope_frame image call.site.scope [] qubits) call xs ≡ call_steps image frame call xs
+    unfolding visit_gate write_opaque push_frame qubit_in
+    same_call xs = refl
 
-      -- the caller's angles do not show in the rounds
-      same_call : (xs : List Value) → call_steps image (scope_frame image call.site.scope [] qubits) call xs ≡ call_steps image frame call xs
-      unfolding visit_gate write_opaque push_frame qubit_in
-      same_call xs = rw e refl
+    pub gate_given : {xs : List Value} → parameter_values image angles (named_at image call.expressions call.parameters) ≡ have xs
+        → call_steps image (scope_frame image call.site.scope [] qubits) call xs ≡ plain_steps image call.site.levels_left frame call.site.statement
+    unfolding with_values given
+    gate_given {xs} h = same_call xs ∙ sym (gate_steps ∙ rw (listed_values image (variables image call_scope) angles named_listed ∙ h) refl)
 
-      module _ (li : ListedExpressions image (variables image scope) call.expressions call.parameters) where
-        pub gate_given : {xs : List Value} → parameter_values image angles (named_at image call.expressions call.parameters) ≡ have xs
-            → call_steps image (scope_frame image call.site.scope [] qubits) call xs ≡ plain_steps image site.levels_left frame site.statement
-        unfolding with_values given
-        gate_given {xs} h = same_call xs ∙ sym (gate_steps ∙ rw (listed_values image (variables image scope) angles li ∙ h) refl)
-
-        pub gate_refused : {x : Refusal} → parameter_values image angles (named_at image call.expressions call.parameters) ≡ lack x → refuse [] x ∷ [] ≡ plain_steps image site.levels_left frame site.statement
-        unfolding with_values given
-        gate_refused h = sym (gate_steps ∙ rw (listed_values image (variables image scope) angles li ∙ h) refl)
+    pub gate_refused : {x : Refusal} → parameter_values image angles (named_at image call.expressions call.parameters) ≡ lack x → refuse [] x ∷ [] ≡ plain_steps image call.site.levels_left frame call.site.statement
+    unfolding with_values given
+    gate_refused h = sym (gate_steps ∙ rw (listed_values image (variables image call_scope) angles named_listed ∙ h) refl)

@@ -4,3 +4,4 @@ pub mod OpenGateLaws
 pub mod RunContextLaws
 pub mod PrimitiveStatementLaws
 pub mod BodiesKeptLaws
+pub mod RunningLaws

@@ -8,17 +8,15 @@ use borrow.Author.Tests.{ne_eqb, eq-eqb}
 use lib.ListN.{take, length-take}
 use Rattle.value.specs.declared.Value.{Value}
 use Rattle.model.specs.Lists.{range}
-use Rattle.model.specs.Image.{Statement, U, CX, Gate, Barrier, Measure, Reset, Conditional, Unknown, statement, statement_at, gates, gate_parameters, gate_arguments, gate_body, variables, scope_statements}
+use Rattle.model.specs.Image.{Statement, U, CX, Gate, Barrier, Measure, Reset, Conditional, Unknown, statement, statement_at, gates, gate_arguments, gate_body, variables, scope_statements}
 use Rattle.model.specs.Steps.{Frame, Step, enter, in_rounds, qubit_in, push_frame, open_gate, write_opaque, visit_gate, visit_plain, visit_statement, visit_body, opening}
 use Rattle.model.proofs.All.{all-All}
 use Rattle.model.specs.Accepted.{Accepted, PlainFacts, Facts, Declared}
 use Rattle.model.proofs.Facts.{run_facts}
 use Rattle.model.proofs.StepsSound.{all_below}
 use Rattle.model.proofs.TraceLaws.{under, opening_under}
-use Rattle.image.specs.declared.Layout.{Layout}
 use Rattle.statement.specs.declared.Call.{Call}
 use Rattle.statement.specs.Statements.{call_rounds, opaque_steps, cut_round, cut_steps}
-use Rattle.expression.specs.Angles.{angles_in, AngleWords}
 use Rattle.argument.specs.Frames.{scope_frame, scope_qubits, ScopeContext, RoundQubits}
 use Rattle.gate.specs.RanSteps.{plain_steps, opened_steps}
 use Rattle.gate.specs.CallStatement.{CallStatement, call_steps, opened_round}
@@ -38,42 +36,29 @@ rounds_under : (u : List ℕ) (h : ℕ → List Step) (n : ℕ) → map (under u
 unfolding in_rounds
 rounds_under u h n = range_under u h (range 0 n)
 
-module _ {image : List ℕ} {l : Layout} {call : Call} (c : CallStatement image l call) where
-  -- what it says of its gate
-  pub arguments_are : call.arguments ≡ gate_arguments image call.gate
-  arguments_are = ap (λ (x : Call). x.arguments) c.read ∙ sym (ap (λ (x : Call). gate_arguments image x.gate) c.read)
-
-  pub parameters_are : call.parameters ≡ gate_parameters image call.gate
-  parameters_are = ap (λ (x : Call). x.parameters) c.read ∙ sym (ap (λ (x : Call). gate_parameters image x.gate) c.read)
-
-  body_is : call.body ≡ gate_body image call.gate
-  body_is = ap (λ (x : Call). x.body) c.read ∙ sym (ap (λ (x : Call). gate_body image x.gate) c.read)
-
+module _ {image : List ℕ} {call : Call} (c : CallStatement image call) where
   -- the frame that it opens a body with
   module _ {qubits : List ℕ} {i : ℕ} {q : List ℕ} (k : RoundQubits image call.site.scope qubits call.argument call.arguments i q) where
     new_qubits : take (gate_arguments image call.gate) q ≡ map (qubit_in image (scope_frame image call.site.scope [] qubits) i) (range call.argument call.arguments)
-    new_qubits = ap (λ (n : ℕ). take n q) (sym arguments_are) ∙ k.front
+    new_qubits = ap (λ (n : ℕ). take n q) (sym c.arguments_are) ∙ k.front
 
-    pub opened_in_scope : {register-starts : List ℕ} → ScopeContext image l register-starts call.site.scope qubits → i < call_rounds image call → ScopeContext image l register-starts (suc call.gate) q
+    pub opened_in_scope : (acc : Accepted image) → ScopeContext image call.site.scope qubits → i < call_rounds image call → ScopeContext image (suc call.gate) q
     unfolding scope_qubits
-    opened_in_scope st h =
+    opened_in_scope acc st h =
         record {
-          laid = st.laid;
-          accepted = st.accepted;
-          starts = st.starts;
           sixteen = k.sixteen;
           frame = (
-            omega (arith, c.gate_listed, st.laid.gates_is),
+            c.gate_listed,
             omega arith,
-            length-take (gate_arguments image call.gate) q ∙ omega (arith, arguments_are, c.arguments_fit.few, k.sixteen),
+            length-take (gate_arguments image call.gate) q ∙ omega (arith, c.arguments_are, c.arguments_fit.few, k.sixteen),
             subst (Declared image) (sym new_qubits)
-                (all_below image st.accepted (scope_frame image call.site.scope [] qubits) st.frame i (range call.argument call.arguments) (all-All _ _ c.arguments_fit.each) c.arguments_fit.match h),
+                (all_below image acc (scope_frame image call.site.scope [] qubits) st.frame i (range call.argument call.arguments) (all-All _ _ c.arguments_fit.each) c.arguments_fit.match h),
           );
         }
 
     pub opened_round_lem : (angles : List Value) → opened_steps image call angles q ≡ opened_round image qubits call (take call.parameters angles) i
     unfolding opened_round scope_qubits variables
-    opened_round_lem angles = rw (new_qubits, parameters_are) refl
+    opened_round_lem angles = rw (new_qubits, c.parameters_are) refl
 
   -- the steps of the rounds inside the call, under the call's pair of words
   module _ (qubits : List ℕ) (angles xs : List Value) where
@@ -89,7 +74,7 @@ module _ {image : List ℕ} {l : Layout} {call : Call} (c : CallStatement image 
         rounds_under pair (opened_round image qubits call xs) (call_rounds image call)
         ∙ ap (in_rounds (call_rounds image call)) (fun_ext λ i.
         sym (opening_under pair image call.site.levels_left (record { scope = suc call.gate; trace = []; values = xs; qubits = map (qubit_in image (scope_frame image call.site.scope [] qubits) i) (range call.argument call.arguments) }) call.gate)
-        ∙ rw (ne_eqb (gate_body image call.gate) 0 (λ e. h (body_is ∙ e))) refl)
+        ∙ rw (ne_eqb (gate_body image call.gate) 0 (λ e. h (c.body_is ∙ e))) refl)
 
     -- no level is left: the gate itself in each round
     pub cut_rounds : ¬ (call.body ≡ 0) → call.site.levels_left ≡ 0 → map (under pair) (cut_steps image qubits call) ≡ call_steps image caller call xs
@@ -100,7 +85,7 @@ module _ {image : List ℕ} {l : Layout} {call : Call} (c : CallStatement image 
     -- an opaque gate's rounds
     pub opaque_rounds : call.body ≡ 0 → opaque_steps image qubits call xs ≡ call_steps image caller call xs
     unfolding visit_gate write_opaque qubit_in
-    opaque_rounds h = ap (in_rounds (call_rounds image call)) (fun_ext λ i. rw (eq-eqb (gate_body image call.gate) 0 (sym body_is ∙ h)) refl)
+    opaque_rounds h = ap (in_rounds (call_rounds image call)) (fun_ext λ i. rw (eq-eqb (gate_body image call.gate) 0 (sym c.body_is ∙ h)) refl)
 
 -- ---- statements in turn
 
@@ -151,20 +136,12 @@ module _ (image : List ℕ) (g levels-left : ℕ) (angles : List Value) (q : Lis
   abbrev opened : Frame
   opened = scope_frame image (suc g) angles q
 
-  abbrev pub body_statement : ℕ → ℕ → List Step
-  body_statement first i = visit_statement image (opening image (levels-left - 1)) opened (first + i)
+  abbrev pub body_statement : ℕ → List Step
+  body_statement s = visit_statement image (opening image (levels-left - 1)) opened s
 
-  pub open_steps : (first n : ℕ) → ¬ (levels-left ≡ 0) → scope_statements image (suc g) ≡ range first n → enter [] g ∷ in_rounds n (body_statement first) ≡ open_gate (opening image levels-left) opened g
+  pub open_steps : (first n : ℕ) → ¬ (levels-left ≡ 0) → scope_statements image (suc g) ≡ range first n → enter [] g ∷ in_rounds n (λ i. body_statement (first + i)) ≡ open_gate (opening image levels-left) opened g
   unfolding open_gate opening visit_body
   open_steps first n h run =
       let e : suc (levels-left - 1) ≡ levels-left = omega arith in
       ap (λ (l : List Step). enter [] g ∷ l) (sym (from_first (visit_statement image (opening image (levels-left - 1)) opened) first n))
       ∙ rw (← run) refl ∙ ap (λ (k : ℕ). open_gate (opening image k) opened g) e
-
--- a frame's angles in words are its angles, as far as its gate has parameters
-pub same_frame : (image : List ℕ) (call : Call) {angles : List Value} {words : List ℕ} → call.parameters ≡ gate_parameters image call.gate → AngleWords angles call.parameters words → (qubits : List ℕ)
-    → scope_frame image (suc call.gate) (angles_in words) qubits ≡ scope_frame image (suc call.gate) angles qubits
-unfolding variables
-same_frame image call {angles} {words} e w qubits =
-    ap (λ (values : List Value). record { scope = suc call.gate; trace = []; values = values; qubits = take (scope_qubits image (suc call.gate)) qubits })
-    (ap (λ (n : ℕ). take n (angles_in words)) (sym e) ∙ w.front ∙ ap (λ (n : ℕ). take n angles) e)

@@ -1,45 +1,52 @@
 -- Calls: what one says of itself and of its gate, what the check accepted of it, and its steps.
-use Rattle.std.specs.Prelude.{ℕ, suc, ◌+◌, ◌≤◌, ◌<◌, ◌≡◌, List, [], map}
+use Rattle.std.specs.Prelude.{ℕ, suc, ◌≤◌, ◌<◌, ◌≡◌, List, [], map}
 use Rattle.value.specs.declared.Value.{Value}
 use Rattle.model.specs.Lists.{range}
-use Rattle.model.specs.Image.{word, statement_at, parameter_at, gate_parameters, gate_arguments, gate_body}
+use Rattle.model.specs.Image.{Gate, statement, all_statements, gates, parameter_at, gate_parameters, gate_arguments, gate_body}
 use Rattle.model.specs.Steps as Steps
 use Rattle.model.specs.Steps.{Step, in_rounds, qubit_in, open_gate, visit_gate, opening}
-use Rattle.image.specs.declared.Layout.{Layout}
 use Rattle.model.specs.Limits.{most_parameters}
 use Rattle.statement.specs.declared.Site.{Site}
 use Rattle.statement.specs.declared.Call.{Call}
 use Rattle.statement.specs.Statements.{call_rounds}
 use Rattle.argument.specs.Frames.{scope_frame, CallArguments}
 use Rattle.gate.specs.RunContext.{nested}
+use Rattle.gate.specs.PlainStatement.{PlainStatement}
 
--- the statement of a site as a call
-abbrev pub call_of : List ℕ → Site → Call
-call_of image site =
-    let p = statement_at image site.statement in
-    let g = word image (p + 1) in
+-- the call of a gate at a site, from its first parameter and its first argument on
+abbrev pub call_of : List ℕ → Site → ℕ → ℕ → ℕ → Call
+call_of image site g p a =
     record {
       site = site;
       gate = g;
-      expressions = parameter_at image (word image (p + 2));
+      expressions = parameter_at image p;
       parameters = gate_parameters image g;
-      argument = word image (p + 3);
+      argument = a;
       arguments = gate_arguments image g;
       body = gate_body image g;
     }
 
--- a call is what its statement says, and the check accepted it in its scope
-pub record CallStatement (image : List ℕ) (l : Layout) (call : Call) : Type 0 where
-  pub read : call ≡ call_of image call.site
-  pub listed : call.site.statement < l.statements
-  pub gate_listed : call.gate < l.gates
+-- a call is what the statement of its site says, which the check accepted
+pub record StatedCall (image : List ℕ) (call : Call) : Type 0 where
+  pub accepted : PlainStatement image call.site
+  pub parameter : ℕ
+  pub stated : statement image call.site.statement ≡ Gate call.gate parameter call.argument
+  pub expressions_at : call.expressions ≡ parameter_at image parameter
+
+-- a call that says of its gate what the image does, and that the check accepted in its scope
+pub record CallStatement (image : List ℕ) (call : Call) : Type 0 where
+  pub parameters_are : call.parameters ≡ gate_parameters image call.gate
+  pub arguments_are : call.arguments ≡ gate_arguments image call.gate
+  pub body_is : call.body ≡ gate_body image call.gate
+  pub listed : call.site.statement < all_statements image
+  pub gate_listed : call.gate < gates image
   pub downward : call.gate < nested call.site.scope
   pub few_parameters : call.parameters ≤ most_parameters
-  pub arguments_fit : CallArguments image l call.site.scope call.argument call.arguments
+  pub arguments_fit : CallArguments image call.site.scope call.argument call.arguments
 
 -- a call whose gate has a body, for which a level is left
-pub record OpenedCall (image : List ℕ) (l : Layout) (call : Call) : Type 0 where
-  pub is_call : CallStatement image l call
+pub record OpenedCall (image : List ℕ) (call : Call) : Type 0 where
+  pub is_call : CallStatement image call
   pub has_body : ¬ (call.body ≡ 0)
   pub has_level : ¬ (call.site.levels_left ≡ 0)
 

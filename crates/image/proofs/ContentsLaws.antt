@@ -7,7 +7,7 @@ use mathlib.Core.List.{List, [], ◌∷◌}
 use lib.ListN.{length}
 use Rattle.model.specs.Image.{word, gates, expressions, expression_at}
 use Rattle.image.specs.declared.Layout.{Layout}
-use Rattle.image.specs.Layout.{contents_with, Small, WithinLimits, LayoutOf, CappedCounts}
+use Rattle.image.specs.Layout.{contents_with, LayoutOf, CappedCounts}
 
 uncapped : (n : ℕ) → min n 8193 ≤ 8192 → min n 8193 ≡ n
 uncapped n h = omega arith
@@ -15,28 +15,10 @@ uncapped n h = omega arith
 small : (n : ℕ) → n ≤ 8192 → min n 8193 ≡ n
 small n h = omega arith
 
-bound : (n r : ℕ) → r ≡ min n 8193 → r ≤ 8193
-bound n r e = omega arith
-
 plus : {x y z w : ℕ} → x ≡ y → z ≡ w → x + z ≡ y + w
 plus i j = cc
 
 module _ (image : List ℕ) (l : Layout) (c : CappedCounts image l) where
-  -- capped counts are within the limits
-  pub capped_limits : WithinLimits l
-  capped_limits =
-      record {
-        small =
-            λ e h. go e (bound _ _ c.quantum_registers_is) (bound _ _ c.classical_registers_is) (bound _ _ c.gates_is)
-            (bound _ _ c.arguments_is) (bound _ _ c.parameters_is) (omega (arith, h, bound (word image 8) _ c.expressions_is));
-      }
-    where
-      statements : l.statements ≤ 16386
-      statements = omega (arith, c.statements_is)
-
-      go : {q k g a p : ℕ} (e : ℕ) → q ≤ 8193 → k ≤ 8193 → g ≤ 8193 → a ≤ 8193 → p ≤ 8193 → e ≤ 8193 → Small (expression_at (0 ∷ q ∷ k ∷ g ∷ l.statements ∷ 0 ∷ a ∷ p ∷ []) e)
-      go e h1 h2 h3 h4 h5 h6 = omega (arith, statements)
-
   -- where the capped counts add up to no more than an image, none was capped
   module _ (n : ℕ) (h : n ≤ 8192) (t : expression_at (contents_with l) l.expressions ≡ n) where
     quantum_are : l.quantum_registers ≡ word image 1
@@ -80,7 +62,6 @@ module _ (image : List ℕ) (l : Layout) (c : CappedCounts image l) where
           whole = whole_is ∙ e;
           short = omega (arith, e, h);
           few_gates = omega (arith, gates_are, few);
-          limits = capped_limits;
         }
 
   -- where the image is as long as its counts say, it is so by the capped ones

@@ -1,6 +1,5 @@
 pub mod ArgumentSizeLaws
 pub mod ContentsLaws
-pub mod PlaceLaws
 pub mod QubitsLaws
 pub mod RegisterStartsLaws
 pub mod StatementsOfLaws

@@ -42,21 +42,21 @@ part_length n xs e f = length-take-le (length xs - n) (drop n xs) (omega (arith,
 
 module _ {image : List ℕ} {l : Layout} (laid : LayoutOf image l) {table : List ℕ} (fit : RegistersFit image table) where
   -- the list of classical registers begins after that of quantum ones
-  classical_at : {at : ℕ} → PlaceIs l classical_register_at 0 at → at ≡ 9 + quantum_registers image
-  classical_at p = p.in_image image laid ∙ add-zero (9 + quantum_registers image)
+  classical_at : {at : ℕ} → PlaceIs (classical_register_at image 0) at → at ≡ 9 + quantum_registers image
+  classical_at p = p.is ∙ add-zero (9 + quantum_registers image)
 
-  pub quantum_fits : {at : ℕ} → PlaceIs l quantum_register_at 0 at
+  pub quantum_fits : {at : ℕ} → PlaceIs (quantum_register_at image 0) at
       → (at ≤ 16384) × (l.quantum_registers ≤ length table) × (sum (map (λ i. word image (at + i)) (range 0 l.quantum_registers)) ≤ 4096)
   unfolding first_qubit
-  quantum_fits p = rw (p.in_image image laid, laid.quantum_registers_is) (omega arith, omega (arith, fit.fits), fit.few_qubits)
+  quantum_fits p = rw (p.is, laid.quantum_registers_is) (omega arith, omega (arith, fit.fits), fit.few_qubits)
 
-  pub classical_fits : {n : ℕ} → n ≡ length table - quantum_registers image → {at : ℕ} → PlaceIs l classical_register_at 0 at
+  pub classical_fits : {n : ℕ} → n ≡ length table - quantum_registers image → {at : ℕ} → PlaceIs (classical_register_at image 0) at
       → (at ≤ 16384) × (l.classical_registers ≤ n) × (sum (map (λ i. word image (at + i)) (range 0 l.classical_registers)) ≤ 4096)
   unfolding first_bit
   classical_fits h p = rw (classical_at p, laid.classical_registers_is) (omega (arith, laid.whole, laid.short), omega (arith, h, fit.fits), fit.few_bits)
 
   -- the starts of the classical registers stand behind those of the quantum ones
-  pub both_starts : (xs ys rest : List ℕ) {quantum-place classical-place : ℕ} → PlaceIs l quantum_register_at 0 quantum-place → PlaceIs l classical_register_at 0 classical-place
+  pub both_starts : (xs ys rest : List ℕ) {quantum-place classical-place : ℕ} → PlaceIs (quantum_register_at image 0) quantum-place → PlaceIs (classical_register_at image 0) classical-place
       → RegisterStarts (λ i. word image (quantum-place + i)) l.quantum_registers xs → RegisterStarts (λ i. word image (classical-place + i)) l.classical_registers ys
       → RegisterTable image (take l.quantum_registers xs ++ (ys ++ rest))
   both_starts xs ys rest {quantum-place} {classical-place} p r q b =
@@ -71,4 +71,4 @@ module _ {image : List ℕ} {l : Layout} (laid : LayoutOf image l) {table : List
         fits = omega (arith, length-append ys rest, b.fits);
         each = λ i h. get_or-append ys rest 0 i (omega (arith, b.fits)) ∙ b.each i h;
       }) in
-      rw laid.quantum_registers_is (record { quantum = rw (p.in_image image laid, laid.quantum_registers_is) at front; classical = rw (classical_at r, laid.quantum_registers_is, laid.classical_registers_is) at later })
+      rw laid.quantum_registers_is (record { quantum = rw (p.is, laid.quantum_registers_is) at front; classical = rw (classical_at r, laid.quantum_registers_is, laid.classical_registers_is) at later })

@@ -1,11 +1,9 @@
 -- What the answers of the check say in document 01's numbers and places.
-use Rattle.std.specs.Prelude.{ℕ}
+use Rattle.std.specs.Prelude.{ℕ, Result, Ok, Err}
 use Rattle.model.specs.Check.{Flaw, fine, bad}
 use Rattle.model.specs.Refusals as number
 use Rattle.image.specs.declared.CheckRefusal.{CheckRefusal}
 use Rattle.image.specs.declared.CheckRefusal.TheVariants as refusal
-use Rattle.image.specs.declared.CheckAnswer.{CheckAnswer}
-use Rattle.image.specs.declared.CheckAnswer.TheVariants as answer
 
 -- the flaw for which an image is refused
 abbrev pub refusal_flaw : CheckRefusal → Flaw
@@ -19,9 +17,9 @@ refusal_flaw (refusal.Sizes p) = bad number.sizes p
 refusal_flaw (refusal.Upward p) = bad number.upward p
 
 -- the flaw that an answer tells, or that there is none
-abbrev pub answer_flaw : CheckAnswer → Flaw
-answer_flaw answer.Accepted = fine
-answer_flaw (answer.Refused r) = refusal_flaw r
+abbrev pub answer_flaw : Result (Unit {0}) CheckRefusal → Flaw
+answer_flaw (Ok done) = fine
+answer_flaw (Err r) = refusal_flaw r
 
 -- the number of a flaw, 0 where there is none
 abbrev pub number_in : Flaw → ℕ

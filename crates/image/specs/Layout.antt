@@ -1,13 +1,9 @@
--- What is known of an image that was read: its counts where its contents add up, where its entries stand, and a scope's statements.
-use Rattle.std.specs.Prelude.{ℕ, ◌+◌, ◌≤◌, ◌<◌, min, ◌≡◌, true, false, List, [], ◌∷◌, length, T}
-use Rattle.model.specs.Lists.{range}
-use Rattle.model.specs.Image.{word, quantum_registers, classical_registers, gates, main_statements, all_statements, arguments, parameters, expressions, expression_at, scope_statements}
-use Rattle.model.specs.Check.{contents_ok, gate_ok}
+-- What is known of an image that was read: its counts where its contents add up, and where its entries stand.
+use Rattle.std.specs.Prelude.{ℕ, ◌+◌, ◌≤◌, ◌<◌, min, ◌≡◌, List, [], ◌∷◌, length, T}
+use Rattle.model.specs.Image.{word, quantum_registers, classical_registers, gates, main_statements, all_statements, arguments, parameters, expressions, expression_at}
+use Rattle.model.specs.Check.{gate_ok}
 use Rattle.model.specs.Limits.{most_gates, most_words}
 use Rattle.image.specs.declared.Layout.{Layout}
-use Rattle.image.specs.declared.Span.{Span}
-use Rattle.image.specs.declared.Contents.{Contents}
-use Rattle.image.specs.declared.Contents.TheVariants as contents
 
 -- the contents of an image with these counts, as if all statements were main's, since no place depends on that; its length is left out
 abbrev pub contents_with : Layout → List ℕ
@@ -27,10 +23,6 @@ Small n = n ≤ 262144
 abbrev pub SmallPlace : ℕ → Type 0
 SmallPlace at = at ≤ 4294967296
 
--- counts with which each place up to the image's end is a small number
-pub record WithinLimits (l : Layout) : Type 0 where
-  pub small : (e : ℕ) → e ≤ l.expressions → Small (expression_at (contents_with l) e)
-
 -- the layout has the image's counts, and the image is as long as they say
 pub record LayoutOf (image : List ℕ) (l : Layout) : Type 0 where
   pub quantum_registers_is : l.quantum_registers ≡ quantum_registers image
@@ -44,15 +36,21 @@ pub record LayoutOf (image : List ℕ) (l : Layout) : Type 0 where
   pub whole : expression_at image (expressions image) ≡ length image
   pub short : length image ≤ most_words
   pub few_gates : gates image ≤ most_gates
-  pub limits : WithinLimits l
 
--- r is the place of entry i: `at` says of which list, as gate_at
-pub record PlaceIs (l : Layout) (at : List ℕ → ℕ → ℕ) (i r : ℕ) : Type 0 where
+-- r is a place, and so small that no place near it wraps
+pub record PlaceIs (place r : ℕ) : Type 0 where
   pub small : SmallPlace r
-  -- by the counts alone
-  pub counted : (w : List ℕ) → w ≡ contents_with l → r ≡ at w i
-  -- in each image that has them
-  pub in_image : (image : List ℕ) → LayoutOf image l → r ≡ at image i
+  pub is : r ≡ place
+
+-- counts so small that what they come to cannot wrap
+pub record FewEntries (l : Layout) : Type 0 where
+  pub few_quantum_registers : Small l.quantum_registers
+  pub few_classical_registers : Small l.classical_registers
+  pub few_gates : Small l.gates
+  pub few_statements : Small l.statements
+  pub few_arguments : Small l.arguments
+  pub few_parameters : Small l.parameters
+  pub few_expressions : Small l.expressions
 
 -- the counts as the contents have them, each capped where it passes any image's length
 pub record CappedCounts (image : List ℕ) (l : Layout) : Type 0 where
@@ -65,16 +63,6 @@ pub record CappedCounts (image : List ℕ) (l : Layout) : Type 0 where
   pub parameters_is : l.parameters ≡ min (parameters image) 8193
   pub expressions_is : l.expressions ≡ min (expressions image) 8193
 
--- the layout of an image whose contents add up
-abbrev pub ReadAs : List ℕ → Contents → Type 0
-ReadAs image contents.DoNotAddUp = contents_ok image ≡ false
-ReadAs image (contents.AddUp l) = (contents_ok image ≡ true) × LayoutOf image l
-
 -- every gate entry is well formed
 pub record GatesAccepted (image : List ℕ) : Type 0 where
   pub each : (g : ℕ) → g < gates image → T (gate_ok image g)
-
--- the statements of a scope, each of which the image has
-pub record StatementsOf (image : List ℕ) (l : Layout) (scope : ℕ) (r : Span) : Type 0 where
-  pub statements_are : scope_statements image scope ≡ range r.first r.count
-  pub listed : r.first + r.count ≤ l.statements

@@ -1,16 +1,23 @@
 // The program image: the widths and limits of its format, its counts, where its entries stand, sizes, the statements of a scope, and what the check answers.
 #![tactic(auto)]
 
-ghost use Rattle.std.specs.Prelude.{◌≡◌, map, length, set, ◌+◌, ◌*◌, ◌<◌, ◌≤◌, min, max};
+ghost use Rattle.std.specs.Prelude.{◌≡◌, map, length, ◌+◌, ◌*◌, ◌≤◌, min};
 ghost use Rattle.model.specs.Lists.{range, sum};
 ghost use Rattle.model.specs.Image.{word, quantum_register_at, classical_register_at, gate_at, statement_at, argument_at, parameter_at, expression_at, argument_size, classical_argument_size, rounds};
 ghost use Rattle.model.specs.Limits.{most_elements, most_words};
-ghost use Rattle.image.specs.Answer.{refusal_flaw, answer_flaw, number_in, place_in};
-ghost use Rattle.image.specs.Layout.{CappedCounts, LayoutOf, WithinLimits, Small, SmallPlace, PlaceIs, ReadAs, GatesAccepted, StatementsOf};
+ghost use Rattle.image.specs.Answer.{refusal_flaw, number_in, place_in};
+ghost use Rattle.image.specs.Layout.{CappedCounts, FewEntries, contents_with, LayoutOf, Small, SmallPlace, PlaceIs, GatesAccepted};
 ghost use Rattle.image.specs.RegisterStarts.{RegisterStarts, RegisterTable, RegistersFit};
 
-// The numbers of refusals.
-pub mod refusal;
+mod expression;
+mod reading;
+mod refusal_number;
+mod statement;
+
+pub use expression::{Binop, Expr, Unop};
+pub use reading::read;
+pub use refusal_number::RefusalNumber;
+pub use statement::Statement;
 
 // ---- the format
 
@@ -73,262 +80,219 @@ pub struct Layout {
     pub expressions: u64,
 }
 
-// Where the entry of a number stands in an image with these counts. Each list follows the one before it.
 impl Layout {
-    pub fn quantum_register_at(self, r: u64) -> u64
-        requires { WithinLimits self × Small r }
-        ensures { PlaceIs self quantum_register_at r result }
+    // How many words an image with these counts has.
+    fn words(self) -> u64
+        requires { FewEntries self }
+        ensures { result ≡ expression_at (contents_with self) self.expressions }
+    {
+        CONTENTS_WORDS
+            + REGISTER_WORDS * self.quantum_registers
+            + REGISTER_WORDS * self.classical_registers
+            + GATE_WORDS * self.gates
+            + STATEMENT_WORDS * self.statements
+            + ARGUMENT_WORDS * self.arguments
+            + PARAMETER_WORDS * self.parameters
+            + EXPRESSION_WORDS * self.expressions
+    }
+}
+
+// The word at a place of some words, 0 past their end.
+fn word_of(words: &[u64], place: u64) -> u64
+    ensures { result ≡ word words.now place }
+{
+    let i = place as usize;
+    if i < words.len() { words[i] } else { 0 }
+}
+
+// A count of the contents, capped where it passes any image's length.
+fn capped_count(words: &[u64], place: u64) -> u64
+    ensures { result ≡ min (word words.now place) 8193 }
+{
+    word_of(words, place).min(MOST_WORDS + 1)
+}
+
+// The counts as they stand in the contents, each capped.
+fn capped_counts(words: &[u64]) -> Layout
+    ensures { CappedCounts words.now result }
+{
+    let main = capped_count(words, 4);
+    Layout {
+        quantum_registers: capped_count(words, 1),
+        classical_registers: capped_count(words, 2),
+        gates: capped_count(words, 3),
+        main_statements: main,
+        statements: main + capped_count(words, 5),
+        arguments: capped_count(words, 6),
+        parameters: capped_count(words, 7),
+        expressions: capped_count(words, 8),
+    }
+}
+
+// ---- the image
+
+// An image whose contents add up: its words, and the counts that they begin with.
+#[derive(Clone, Copy)]
+pub struct Image<'a> {
+    pub words: &'a [u64],
+    pub layout: Layout,
+    pub ghost laid: { LayoutOf words.now layout },
+}
+
+// Where entries stand, by their numbers. Each list follows the one before it.
+impl Image<'_> {
+    pub fn quantum_register_at(&self, r: u64) -> u64
+        requires { Small r }
+        ensures { PlaceIs (quantum_register_at self.now.words.now r) result }
     {
         CONTENTS_WORDS + REGISTER_WORDS * r
     }
 
-    pub fn classical_register_at(self, r: u64) -> u64
-        requires { WithinLimits self × Small r }
-        ensures { PlaceIs self classical_register_at r result }
+    pub fn classical_register_at(&self, r: u64) -> u64
+        requires { Small r }
+        ensures { PlaceIs (classical_register_at self.now.words.now r) result }
     {
-        self.quantum_register_at(self.quantum_registers) + REGISTER_WORDS * r
+        self.quantum_register_at(self.layout.quantum_registers) + REGISTER_WORDS * r
     }
 
-    pub fn gate_at(self, g: u64) -> u64
-        requires { WithinLimits self × Small g }
-        ensures { PlaceIs self gate_at g result }
+    pub fn gate_at(&self, g: u64) -> u64
+        requires { Small g }
+        ensures { PlaceIs (gate_at self.now.words.now g) result }
     {
-        self.classical_register_at(self.classical_registers) + GATE_WORDS * g
+        self.classical_register_at(self.layout.classical_registers) + GATE_WORDS * g
     }
 
-    pub fn statement_at(self, s: u64) -> u64
-        requires { WithinLimits self × Small s }
-        ensures { PlaceIs self statement_at s result }
+    pub fn statement_at(&self, s: u64) -> u64
+        requires { Small s }
+        ensures { PlaceIs (statement_at self.now.words.now s) result }
     {
-        self.gate_at(self.gates) + STATEMENT_WORDS * s
+        self.gate_at(self.layout.gates) + STATEMENT_WORDS * s
     }
 
-    pub fn argument_at(self, a: u64) -> u64
-        requires { WithinLimits self × Small a }
-        ensures { PlaceIs self argument_at a result }
+    pub fn argument_at(&self, a: u64) -> u64
+        requires { Small a }
+        ensures { PlaceIs (argument_at self.now.words.now a) result }
     {
-        self.statement_at(self.statements) + ARGUMENT_WORDS * a
+        self.statement_at(self.layout.statements) + ARGUMENT_WORDS * a
     }
 
-    pub fn parameter_at(self, p: u64) -> u64
-        requires { WithinLimits self × Small p }
-        ensures { PlaceIs self parameter_at p result }
+    pub fn parameter_at(&self, p: u64) -> u64
+        requires { Small p }
+        ensures { PlaceIs (parameter_at self.now.words.now p) result }
     {
-        self.argument_at(self.arguments) + PARAMETER_WORDS * p
+        self.argument_at(self.layout.arguments) + PARAMETER_WORDS * p
     }
 
-    pub fn expression_at(self, e: u64) -> u64
-        requires { WithinLimits self × Small e }
-        ensures { PlaceIs self expression_at e result }
+    pub fn expression_at(&self, e: u64) -> u64
+        requires { Small e }
+        ensures { PlaceIs (expression_at self.now.words.now e) result }
     {
-        self.parameter_at(self.parameters) + EXPRESSION_WORDS * e
+        self.parameter_at(self.layout.parameters) + EXPRESSION_WORDS * e
     }
 }
 
-#[derive(Clone, Copy)]
-pub enum Contents {
-    AddUp(Layout),
-    DoNotAddUp,
-}
+// ---- words and registers
 
-// The word at a place, 0 past the end.
-pub fn word(image: &[u64], place: u64) -> u64
-    ensures { result ≡ word image.now place }
-{
-    let i = place as usize;
-    if i < image.len() { image[i] } else { 0 }
-}
-
-// The word i behind a place, for any i.
-pub fn word_after(image: &[u64], place: u64, i: u64) -> u64
-    ensures { result ≡ word image.now (place + i) }
-{
-    if i <= 18446744073709551615 - place {
-        word(image, place + i)
-    } else {
-        0
+impl Image<'_> {
+    // The word at a place, 0 past the end.
+    pub fn word(&self, place: u64) -> u64
+        ensures { result ≡ word self.now.words.now place }
+    {
+        word_of(self.words, place)
     }
-}
 
-// A count of the contents, capped where it passes any image's length.
-fn capped_count(image: &[u64], place: u64) -> u64
-    ensures { result ≡ min (word image.now place) 8193 }
-{
-    let n = word(image, place);
-    if n <= MOST_WORDS { n } else { MOST_WORDS + 1 }
-}
-
-// The counts as they stand in the contents, each capped.
-fn counts(image: &[u64]) -> Layout
-    ensures { CappedCounts image.now result }
-{
-    let main = capped_count(image, 4);
-    Layout {
-        quantum_registers: capped_count(image, 1),
-        classical_registers: capped_count(image, 2),
-        gates: capped_count(image, 3),
-        main_statements: main,
-        statements: main + capped_count(image, 5),
-        arguments: capped_count(image, 6),
-        parameters: capped_count(image, 7),
-        expressions: capped_count(image, 8),
-    }
-}
-
-// The counts, if they add up to the image.
-pub fn read_contents(image: &[u64]) -> Contents
-    ensures { ReadAs image.now result }
-{
-    let n = image.len() as u64;
-    if n < CONTENTS_WORDS {
-        return Contents::DoNotAddUp;
-    }
-    if MOST_WORDS < n {
-        return Contents::DoNotAddUp;
-    }
-    if word(image, 0) != n {
-        return Contents::DoNotAddUp;
-    }
-    let l = counts(image);
-    if l.expression_at(l.expressions) != n {
-        return Contents::DoNotAddUp;
-    }
-    if MOST_GATES < l.gates {
-        return Contents::DoNotAddUp;
-    }
-    Contents::AddUp(l)
-}
-
-// ---- tables
-
-// Stores a word of a table.
-pub fn store(table: &mut [u64], i: usize, x: u64)
-    requires { i < length table.old }
-    ensures { table.new ≡ set table.old i x }
-{
-    table[i] = x;
-}
-
-// Where each of n registers starts whose sizes stand from a place on: the first qubit, or bit, of each in one pass.
-pub fn first_of_each(image: &[u64], at: u64, n: u64, firsts: &mut [u64])
-    requires { (at ≤ 2 * most_words) × (n ≤ length firsts.old) × (sum (map (λ i. word image.now (at + i)) (range 0 n)) ≤ most_elements) }
-    ensures { RegisterStarts (λ i. word image.now (at + i)) n firsts.new }
-{
-    let mut total = 0u64;
-    let mut r = 0u64;
-    while r < n {
-        store(firsts, r as usize, total);
-        total = total + word(image, at + r);
-        r += 1;
-    }
-}
-
-// Where each register starts, in one table: the first qubit of each quantum register, then the first bit of each classical one.
-pub fn put_register_starts(image: &[u64], l: Layout, starts: &mut [u64])
-    requires { LayoutOf image.now l × RegistersFit image.now starts.old }
-    ensures { RegisterTable image.now starts.new }
-{
-    let n = l.quantum_registers as usize;
-    first_of_each(image, l.quantum_register_at(0), l.quantum_registers, starts);
-    first_of_each(
-        image,
-        l.classical_register_at(0),
-        l.classical_registers,
-        &mut starts[n..],
-    );
-}
-
-// ---- sizes
-
-// The sizes of n registers added up, which stand from a place on.
-pub fn size_in_all(image: &[u64], at: u64, n: u64) -> u64
-    requires { SmallPlace at × (n ≤ most_words) × (sum (map (λ i. word image.now (at + i)) (range 0 n)) ≤ most_elements) }
-    ensures { result ≡ sum (map (λ i. word image.now (at + i)) (range 0 n)) }
-{
-    let mut total = 0u64;
-    let mut r = 0u64;
-    while r < n {
-        total = total + word(image, at + r);
-        r += 1;
-    }
-    total
-}
-
-// The size of an argument: 1 for an index, and for a formal argument in a body; else its register's.
-pub fn argument_size(image: &[u64], l: Layout, scope: u64, a: u64) -> u64
-    requires { LayoutOf image.now l × (a ≤ most_words) }
-    ensures { result ≡ argument_size image.now scope a }
-{
-    if scope != 0 {
-        return 1;
-    }
-    let at = l.argument_at(a);
-    if word(image, at + 1) != 0 {
-        return 1;
-    }
-    word_after(image, l.quantum_register_at(0), word(image, at))
-}
-
-// The size of a classical argument, which main alone has.
-pub fn classical_argument_size(image: &[u64], l: Layout, a: u64) -> u64
-    requires { LayoutOf image.now l × (a ≤ most_words) }
-    ensures { result ≡ classical_argument_size image.now a }
-{
-    let at = l.argument_at(a);
-    if word(image, at + 1) != 0 {
-        return 1;
-    }
-    word_after(image, l.classical_register_at(0), word(image, at))
-}
-
-// The larger of two numbers.
-pub fn larger(x: u64, y: u64) -> u64
-    ensures { result ≡ max x y }
-{
-    if x < y { y } else { x }
-}
-
-// The largest size of some arguments, 0 of none: the rounds of a statement.
-pub fn rounds_of(image: &[u64], l: Layout, scope: u64, a: u64, n: u64) -> u64
-    requires { LayoutOf image.now l × (a + n ≤ most_words) }
-    ensures { result ≡ rounds image.now scope (range a n) }
-{
-    let mut most = 0u64;
-    let mut i = 0u64;
-    while i < n {
-        let size = argument_size(image, l, scope, a + i);
-        if most < size {
-            most = size;
+    // The word i behind a place, for any i.
+    pub fn word_after(&self, place: u64, i: u64) -> u64
+        ensures { result ≡ word self.now.words.now (place + i) }
+    {
+        match place.checked_add(i) {
+            Some(at) => self.word(at),
+            None => 0,
         }
-        i += 1;
     }
-    most
+
+    // The sizes of n registers added up, which stand from a place on.
+    pub fn size_in_all(&self, at: u64, n: u64) -> u64
+        requires { SmallPlace at × (n ≤ most_words) × (sum (map (λ i. word self.now.words.now (at + i)) (range 0 n)) ≤ most_elements) }
+        ensures { result ≡ sum (map (λ i. word self.now.words.now (at + i)) (range 0 n)) }
+    {
+        let mut total = 0;
+        for r in 0..n {
+            total += self.word(at + r);
+        }
+        total
+    }
+
+    // Where each of n registers starts whose sizes stand from a place on: the first qubit, or bit, of each in one pass.
+    pub fn first_of_each(&self, at: u64, n: u64, firsts: &mut [u64])
+        requires { (at ≤ 2 * most_words)
+            × (n ≤ length firsts.old)
+            × (sum (map (λ i. word self.now.words.now (at + i)) (range 0 n)) ≤ most_elements) }
+        ensures { RegisterStarts (λ i. word self.now.words.now (at + i)) n firsts.new }
+    {
+        let mut total = 0;
+        for r in 0..n {
+            firsts[r as usize] = total;
+            total += self.word(at + r);
+        }
+    }
+
+    // Where each register starts, in one table: the first qubit of each quantum register, then the first bit of each classical one.
+    pub fn put_register_starts(&self, starts: &mut [u64])
+        requires { RegistersFit self.now.words.now starts.old }
+        ensures { RegisterTable self.now.words.now starts.new }
+    {
+        let quantum = self.layout.quantum_registers;
+        self.first_of_each(self.quantum_register_at(0), quantum, starts);
+        self.first_of_each(
+            self.classical_register_at(0),
+            self.layout.classical_registers,
+            &mut starts[quantum as usize..],
+        );
+    }
 }
 
-// ---- statements
+// ---- arguments and statements
 
-// Some statements in a row: the first one's number, and how many.
-#[derive(Clone, Copy)]
-pub struct Span {
-    pub first: u64,
-    pub count: u64,
-}
-
-// The statements of a scope.
-pub fn statements_of(image: &[u64], l: Layout, scope: u64) -> Span
-    requires { LayoutOf image.now l × GatesAccepted image.now × (scope ≤ l.gates) }
-    ensures { StatementsOf image.now l scope result }
-{
-    if scope == 0 {
-        return Span {
-            first: 0,
-            count: l.main_statements,
-        };
+impl Image<'_> {
+    // The size of an argument: 1 for an index, and for a formal argument in a body; else its register's.
+    pub fn argument_size(&self, scope: u64, a: u64) -> u64
+        requires { a ≤ most_words }
+        ensures { result ≡ argument_size self.now.words.now scope a }
+    {
+        if scope != 0 {
+            return 1;
+        }
+        let at = self.argument_at(a);
+        if self.word(at + 1) != 0 {
+            return 1;
+        }
+        self.word_after(self.quantum_register_at(0), self.word(at))
     }
-    let at = l.gate_at(scope - 1);
-    let first = word(image, at + 3);
-    let count = word(image, at + 4);
-    Span { first, count }
+
+    // The size of a classical argument, which main alone has.
+    pub fn classical_argument_size(&self, a: u64) -> u64
+        requires { a ≤ most_words }
+        ensures { result ≡ classical_argument_size self.now.words.now a }
+    {
+        let at = self.argument_at(a);
+        if self.word(at + 1) != 0 {
+            return 1;
+        }
+        self.word_after(self.classical_register_at(0), self.word(at))
+    }
+
+    // The largest size of some arguments, 0 of none: the rounds of a statement.
+    pub fn rounds_of(&self, scope: u64, a: u64, n: u64) -> u64
+        requires { a + n ≤ most_words }
+        ensures { result ≡ rounds self.now.words.now scope (range a n) }
+    {
+        let mut most = 0;
+        for i in 0..n {
+            most = self.argument_size(scope, a + i).max(most);
+        }
+        most
+    }
 }
 
 // ---- answers
@@ -346,61 +310,36 @@ pub enum CheckRefusal {
     Upward(u64),
 }
 
-// What the check answers.
-#[derive(Clone, Copy)]
-pub enum CheckAnswer {
-    Accepted,
-    Refused(CheckRefusal),
-}
-
-// The number of a refusal.
-pub fn refusal_number(refused: CheckRefusal) -> u64
-    ensures { result ≡ number_in (refusal_flaw refused) }
-{
-    match refused {
-        CheckRefusal::Contents => refusal::CONTENTS,
-        CheckRefusal::Register(_) => refusal::REGISTER,
-        CheckRefusal::GateEntry(_) => refusal::GATE_ENTRY,
-        CheckRefusal::Form(_) => refusal::FORM,
-        CheckRefusal::Argument(_) => refusal::ARGUMENT,
-        CheckRefusal::Expression(_) => refusal::EXPRESSION,
-        CheckRefusal::Sizes(_) => refusal::SIZES,
-        CheckRefusal::Upward(_) => refusal::UPWARD,
+impl CheckRefusal {
+    // The number of a refusal.
+    pub fn number(self) -> u64
+        ensures { result ≡ number_in (refusal_flaw self) }
+    {
+        match self {
+            CheckRefusal::Contents => RefusalNumber::Contents as u64,
+            CheckRefusal::Register(_) => RefusalNumber::Register as u64,
+            CheckRefusal::GateEntry(_) => RefusalNumber::GateEntry as u64,
+            CheckRefusal::Form(_) => RefusalNumber::Form as u64,
+            CheckRefusal::Argument(_) => RefusalNumber::Argument as u64,
+            CheckRefusal::Expression(_) => RefusalNumber::Expression as u64,
+            CheckRefusal::Sizes(_) => RefusalNumber::Sizes as u64,
+            CheckRefusal::Upward(_) => RefusalNumber::Upward as u64,
+        }
     }
-}
 
-// The place of a refusal; 0 where the whole image is refused.
-pub fn refusal_place(refused: CheckRefusal) -> u64
-    ensures { result ≡ place_in (refusal_flaw refused) }
-{
-    match refused {
-        CheckRefusal::Contents => 0,
-        CheckRefusal::Register(place) => place,
-        CheckRefusal::GateEntry(place) => place,
-        CheckRefusal::Form(place) => place,
-        CheckRefusal::Argument(place) => place,
-        CheckRefusal::Expression(place) => place,
-        CheckRefusal::Sizes(place) => place,
-        CheckRefusal::Upward(place) => place,
-    }
-}
-
-// The number of an answer; 0 is an accepted image.
-pub fn number_of(answer: CheckAnswer) -> u64
-    ensures { result ≡ number_in (answer_flaw answer) }
-{
-    match answer {
-        CheckAnswer::Accepted => 0,
-        CheckAnswer::Refused(refused) => refusal_number(refused),
-    }
-}
-
-// The place of an answer; 0 where it has none.
-pub fn place_of(answer: CheckAnswer) -> u64
-    ensures { result ≡ place_in (answer_flaw answer) }
-{
-    match answer {
-        CheckAnswer::Accepted => 0,
-        CheckAnswer::Refused(refused) => refusal_place(refused),
+    // The place of a refusal; 0 where the whole image is refused.
+    pub fn place(self) -> u64
+        ensures { result ≡ place_in (refusal_flaw self) }
+    {
+        match self {
+            CheckRefusal::Contents => 0,
+            CheckRefusal::Register(place)
+            | CheckRefusal::GateEntry(place)
+            | CheckRefusal::Form(place)
+            | CheckRefusal::Argument(place)
+            | CheckRefusal::Expression(place)
+            | CheckRefusal::Sizes(place)
+            | CheckRefusal::Upward(place) => place,
+        }
     }
 }

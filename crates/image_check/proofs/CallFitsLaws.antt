@@ -11,7 +11,7 @@ use Rattle.image.specs.declared.Layout.{Layout}
 use Rattle.image.specs.Layout.{LayoutOf}
 use Rattle.image_check.specs.Statements.{call_fits}
 
-module _ (image : List ℕ) (l : Layout) (s g p a : ℕ) (laid : LayoutOf image l) (ok : call_fits image s g p a ≡ true) where
+module _ (image : List ℕ) {l : Layout} (s g p a : ℕ) (laid : LayoutOf image l) (ok : call_fits image s g p a ≡ true) where
   fitting : T (call_fits image s g p a)
   fitting = subst T (sym ok) tt
 

@@ -5,34 +5,38 @@ use mathlib.Core.Path.{◌≡◌, refl, sym, ap, ◌∙◌}
 use mathlib.Core.Bool.{Bool, true, false, cond}
 use mathlib.Core.List.{List, [], ◌∷◌, ◌++◌, map, flat_map}
 use lib.Dec.{eqb}
-use borrow.Author.Tests.{ne_eqb}
 use Rattle.model.specs.Lists.{range}
 use Rattle.model.specs.Image.{gates, statement_at, scope_statements}
 use Rattle.model.specs.Check.{Flaw, fine, bad, first_bad, or_else, flaw, every_statement, statement_entries}
 use Rattle.model.proofs.Ranges.{one_more, bad_next, bad_here, bad_none}
-use Rattle.image_entries.specs.declared.Flaw as code
-use Rattle.image_entries.specs.Flaws.{flaw_of}
-use Rattle.image_check.proofs.FlawOfLaws.{flaw_none}
+use Rattle.image.specs.declared.CheckRefusal.{CheckRefusal}
+use Rattle.image.specs.Answer.{refusal_flaw}
+use Rattle.image_check.specs.declared.StatementFlaw.{StatementFlaw}
+use Rattle.image_check.specs.declared.StatementFlaw.TheVariants as flaws
+use Rattle.image_check.specs.Answer.{number_of}
+use Rattle.image_check.proofs.CheckLaws.{flaw_first}
 
--- ---- a number that is not 0 is a flaw
-pub flaw_is : (k p : ℕ) → ¬ (k ≡ 0) → cond (eqb k 0) fine (bad k p) ≡ bad k p
-flaw_is k p n = rw (ne_eqb k 0 n) refl
+-- ---- what is wrong with a statement has a number
+pub number_some : (f : StatementFlaw) → ¬ (number_of f ≡ 0)
+number_some flaws.Form e = absurd (omega arith)
+number_some flaws.Upward e = absurd (omega arith)
+number_some flaws.Expression e = absurd (omega arith)
+number_some flaws.Argument e = absurd (omega arith)
+number_some flaws.Sizes e = absurd (omega arith)
 
 -- ---- the first bad statement of a scope, from s on
 module _ (number place : ℕ → ℕ) (v : Flaw) where
   abbrev pub From : ℕ → ℕ → Type 0
   From s n = first_bad number place (range s (n - s)) ≡ v
 
-  pub from_start : (l : List ℕ) (s n e : ℕ) → l ≡ range s n → e ≡ s + n → first_bad number place l ≡ v → From s e
-  from_start l s n e same sum h =
-      let size : e - s ≡ n = omega arith in
-      ap (λ (k : ℕ). first_bad number place (range s k)) size ∙ ap (first_bad number place) (sym same) ∙ h
+  pub from_start : (l : List ℕ) (s n : ℕ) → l ≡ range s (n - s) → first_bad number place l ≡ v → From s n
+  from_start l s n same h = ap (first_bad number place) (sym same) ∙ h
 
-  pub from_next : (s n k : ℕ) → From s n → s < n → k ≡ number s → k ≡ 0 → From (s + 1) n
-  from_next s n k h j e z = sym (bad_next number place s n j (sym e ∙ z)) ∙ h
+  pub from_next : (s n : ℕ) → From s n → s < n → 0 ≡ number s → From (s + 1) n
+  from_next s n h j e = sym (bad_next number place s n j (sym e)) ∙ h
 
-  pub from_here : (s n k p : ℕ) → From s n → s < n → k ≡ number s → ¬ (k ≡ 0) → p ≡ place s → cond (eqb k 0) fine (bad k p) ≡ v
-  from_here s n k p h j e z ep = flaw_is k p z ∙ ap (bad k) ep ∙ sym (bad_here number place s n k j (sym e) z) ∙ h
+  pub from_here : (s n k p : ℕ) → From s n → s < n → k ≡ number s → ¬ (k ≡ 0) → p ≡ place s → bad k p ≡ v
+  from_here s n k p h j e z ep = ap (bad k) ep ∙ sym (bad_here number place s n k j (sym e) z) ∙ h
 
   pub from_end : (s n : ℕ) → From s n → n ≤ s → fine ≡ v
   from_end s n h j = sym (bad_none number place s n j) ∙ h
@@ -88,14 +92,13 @@ module _ (image : List ℕ) where
       let size : n + 1 - 0 ≡ suc (gates image) = omega arith in
       ap (λ (k : ℕ). first_bad number_at place_at (flat_map entries_of (range 0 k))) size
 
-  pub scopes_next : (i n : ℕ) (f : code.Flaw) → Scopes i n → i ≤ n → flaw_of f ≡ scope_flaw i → f.number ≡ 0 → Scopes (i + 1) n
-  scopes_next i n f h j e z =
-      sym (step i (n + 1) (omega arith) ∙ ap (λ (v : Flaw). or_else v (scopes_from (i + 1) (n + 1))) (flaw_none f (scope_flaw i) e z)) ∙ h
+  pub scopes_next : (i n : ℕ) → Scopes i n → i ≤ n → fine ≡ scope_flaw i → Scopes (i + 1) n
+  scopes_next i n h j e =
+      sym (step i (n + 1) (omega arith) ∙ ap (λ (v : Flaw). or_else v (scopes_from (i + 1) (n + 1))) (sym e)) ∙ h
 
-  pub scopes_here : (i n : ℕ) (f : code.Flaw) → Scopes i n → i ≤ n → flaw_of f ≡ scope_flaw i → ¬ (f.number ≡ 0) → flaw_of f ≡ statement_entries image
-  scopes_here i n f h j e z =
-      let b = flaw_is f.number f.place z in
-      b ∙ sym (step i (n + 1) (omega arith) ∙ ap (λ (v : Flaw). or_else v (scopes_from (i + 1) (n + 1))) (sym e ∙ b)) ∙ h
+  pub scopes_here : (i n : ℕ) (r : CheckRefusal) → Scopes i n → i ≤ n → refusal_flaw r ≡ scope_flaw i → refusal_flaw r ≡ statement_entries image
+  scopes_here i n r h j e =
+      flaw_first r (scope_flaw i) (scopes_from (i + 1) (n + 1)) e ∙ sym (step i (n + 1) (omega arith)) ∙ h
 
   pub scopes_end : (i n : ℕ) → Scopes i n → n < i → fine ≡ statement_entries image
   unfolding flat_map first_bad range

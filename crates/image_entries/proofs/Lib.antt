@@ -1,5 +1,5 @@
-pub mod ArgumentOkLaws
 pub mod JudgementLaws
 pub mod MatchingLaws
 pub mod RegisterFlawLaws
+pub mod ScopeLaws
 pub mod UnusedLaws

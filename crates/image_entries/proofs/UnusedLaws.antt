@@ -1,29 +1,13 @@
--- Whether entries lie in a list is asked without a sum, and whether words are 0 is asked one after another.
+-- Whether words are 0 is asked one after another.
 use Prim.Native.Nat.{ℕ, ◌+◌, ◌-◌, ◌≤◌, ◌<◌}
 use native.Mathlib.Omega.{arith}
-use mathlib.Core.Path.{◌≡◌, refl, sym, ap, ◌∙◌}
+use mathlib.Core.Path.{◌≡◌, ap, ◌∙◌}
 use mathlib.Core.Bool.{Bool, true, false}
 use mathlib.Core.List.{List}
-use lib.Dec.{leb, eqb}
-use borrow.Author.Tests.{leb-true, leb-false, le-leb, lt-leb}
+use lib.Dec.{eqb}
 use Rattle.model.specs.Lists.{range, all}
 use Rattle.model.specs.Image.{word}
 use Rattle.model.proofs.Ranges.{all_start, all_next, all_fails}
-
--- ---- entries in a list
-pub fits_is : (a n m : ℕ) → n ≤ m → leb a (m - n) ≡ leb (a + n) m
-fits_is a n m h = go (leb (a + n) m) refl
-  where
-    go : (t : Bool) → leb (a + n) m ≡ t → leb a (m - n) ≡ t
-    go true e = let p = leb-true (a + n) m e in le-leb a (m - n) (omega arith)
-    go false e = let p = leb-false (a + n) m e in lt-leb a (m - n) (omega arith)
-
-pub fits_not : (a n m : ℕ) → m < n → false ≡ leb (a + n) m
-fits_not a n m h = sym (lt-leb (a + n) m (omega arith))
-
--- ---- a test at each of some numbers, once all are passed
-pub all_done : (p : ℕ → Bool) (a i n : ℕ) → i ≤ n → n ≤ i → all p (range a i) ≡ true → true ≡ all p (range a n)
-all_done p a i n h k e = let same : i ≡ n = omega arith in sym (ap (λ (m : ℕ). all p (range a m)) (sym same) ∙ e)
 
 -- ---- the words from n on, where those from i on are left
 -- whether the word i of the entry at a place is 0
@@ -45,5 +29,6 @@ module _ (p : ℕ → Bool) where
   pub words_start : (n : ℕ) → all p (range n (n - n)) ≡ true
   words_start n = let none : n - n ≡ 0 = omega arith in ap (λ (k : ℕ). all p (range n k)) none ∙ all_start p n
 
-  pub words_done : (n i m : ℕ) → i ≤ m → m ≤ i → all p (range n (i - n)) ≡ true → true ≡ all p (range n (m - n))
-  words_done n i m h k e = let same : i ≡ m = omega arith in sym (ap (λ (j : ℕ). all p (range n (j - n))) (sym same) ∙ e)
+-- the words behind a place that is a statement's
+pub zeros_are : (image : List ℕ) (at p n : ℕ) → at ≡ p → all (zero_at image at) (range n (5 - n)) ≡ all (zero_at image p) (range n (5 - n))
+zeros_are image at p n e = ap (λ (k : ℕ). all (zero_at image k) (range n (5 - n))) e

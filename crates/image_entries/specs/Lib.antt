@@ -1,2 +1,2 @@
-pub mod Flaws
+pub mod Gates
 pub mod Judging

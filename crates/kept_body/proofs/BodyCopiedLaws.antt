@@ -6,9 +6,9 @@ use mathlib.Core.Logic.{◌⊎◌, inl, inr}
 use mathlib.Core.List.{List, [], flat_map}
 use mathlib.Core.Bool.{Bool, true, false}
 use lib.Dec.{T, ltb}
-use borrow.Author.Tests.{ltb-true, ltb-false, eq-eqb, ne_eqb, le-leb, lt-leb}
+use borrow.Author.Tests.{ltb-false, eq-eqb, ne_eqb, le-leb}
 use lib.ListN.{length, take, drop, length-drop}
-use lib.Seq.{sets, length-take-le, take-take}
+use lib.Seq.{sets, length-take-le}
 use Rattle.value.specs.declared.Value.{Value}
 use Rattle.model.specs.Limits.{most_arguments}
 use Rattle.model.specs.Image.{gate_parameters, gate_arguments}
@@ -19,20 +19,18 @@ use Rattle.model.specs.Playing.{OutputState, Plays}
 use Rattle.model.proofs.Accepted.{few_parameters, few_arguments}
 use Rattle.record_writer.specs.declared.Position.{Position}
 use Rattle.record_writer.specs.Promise.{state_at, WroteStepsTo}
-use Rattle.expression.specs.Angles.{angles_in}
 use Rattle.statement.specs.declared.Call.{Call}
 use Rattle.copy.specs.Renaming.{renaming}
-use Rattle.copy.specs.CopiedRecord.{renamed_qubit}
 use Rattle.copy.specs.CopiedRecords.{RecordsCopied}
 use Rattle.copy.specs.BodyKept.{body_steps}
 use Rattle.copy.proofs.Renamed.{Levels}
 use Rattle.copy.proofs.BodyKeptLaws.{distinct_formals, renamed_shorter, kept_records, copied_place, kept_copies, kept_silent}
 use Rattle.copy.proofs.CopiedRecordsLaws.{copied_once}
-use Rattle.kept_body.specs.declared.BodyCopy.TheVariants as bodyCopy
+use Rattle.std.specs.Prelude.{Some, None}
 use Rattle.kept_body.specs.Slot.{slot_need, slot_width, slot_of, slot_levels, slot_start, slot_words, slot_records, slot_qubits, slot_angles, same_body, SlotStands}
 use Rattle.kept_body.specs.KeptBodies.{SlotKept, BodiesKept, CalledGate, called_steps, SlotGiven, CopyGiven, copies, BodyCopied}
-use Rattle.kept_body.proofs.SlotLaws.{OpenedAlike, body_alike, body_angles}
-use Rattle.kept_body.proofs.KeptBodiesLaws.{angles_same, kept_each}
+use Rattle.kept_body.proofs.SlotLaws.{OpenedAlike, body_alike, body_angles, angles_same}
+use Rattle.kept_body.proofs.KeptBodiesLaws.{kept_each}
 
 module _ {image : List ℕ} {call : Call} (c : CalledGate image call) where
   few_values : call.parameters ≤ 16
@@ -41,9 +39,9 @@ module _ {image : List ℕ} {call : Call} (c : CalledGate image call) where
   few_qubits : call.arguments ≤ 16
   few_qubits = omega (arith, c.arguments_are, few_arguments c.accepted call.gate c.listed)
 
-  module _ (slot angles : List ℕ) (s : T (same_body slot call angles)) where
-    values_are : slot_angles slot (gate_parameters image call.gate) ≡ take call.parameters (angles_in angles)
-    values_are = ap (slot_angles slot) (sym c.parameters_are) ∙ angles_same slot angles call.parameters few_values (body_angles slot call angles s)
+  module _ (slot : List ℕ) (angles : List Value) (sixteen-angles : length angles ≡ 16) (s : T (same_body slot call angles)) where
+    values_are : slot_angles slot (gate_parameters image call.gate) ≡ take call.parameters angles
+    values_are = ap (slot_angles slot) (sym c.parameters_are) ∙ angles_same slot angles call.parameters (omega (arith, few_values, sixteen-angles)) (body_angles slot call angles s)
 
     module _ {out : List ℕ} (at : Position) (wide : slot_need call.parameters call.arguments ≤ length slot) (k : SlotKept image slot out at.words call.gate) (qubits : List ℕ) where
       abbrev old : List ℕ
@@ -53,7 +51,7 @@ module _ {image : List ℕ} {call : Call} (c : CalledGate image call) where
       old_qubits = length-take-le (gate_arguments image call.gate) (drop (4 + 6 * gate_parameters image call.gate) slot) (omega (arith, length-drop (4 + 6 * gate_parameters image call.gate) slot, wide, c.arguments_are, c.parameters_are))
 
       -- a body that wrote nothing
-      pub silent_copied : slot_words slot ≡ 0 → at.words ≤ length out → WroteStepsTo (called_steps image call (angles_in angles) qubits) out at at out
+      pub silent_copied : slot_words slot ≡ 0 → at.words ≤ length out → WroteStepsTo (called_steps image call angles qubits) out at at out
       silent_copied e inside =
           record {
             plays = subst (λ (vs : List Value). Plays (body_steps image call.site.levels_left [] call.gate vs (take call.arguments qubits)) (state_at out at) (state_at out at) done) values_are
@@ -67,15 +65,16 @@ module _ {image : List ℕ} {call : Call} (c : CalledGate image call) where
           levels (inr (inr d)) = inr d
 
       -- a body whose records were copied
-      pub records_copied : (n : ℕ) {written : ℕ} {out' : List ℕ} → ¬ (slot_words slot ≡ 0) → call.arguments ≤ n → T (differ (take call.arguments qubits)) → length qubits ≡ most_arguments
-          → at.words + slot_words slot ≤ length out → RecordsCopied (renamed_qubit (take n (drop (4 + 6 * call.parameters) slot)) qubits call.arguments) out (slot_start slot) (slot_words slot) at.words written out'
-          → WroteStepsTo (called_steps image call (angles_in angles) qubits) out at (record { records = at.records + slot_records slot; words = at.words + written; trace = at.trace }) out'
+      pub records_copied : (n m : ℕ) {written : ℕ} {out' : List ℕ} → ¬ (slot_words slot ≡ 0) → n ≡ call.arguments → m ≡ call.arguments → T (differ (take call.arguments qubits)) → length qubits ≡ most_arguments
+          → at.words + slot_words slot ≤ length out → RecordsCopied (renaming (take n (drop (4 + 6 * call.parameters) slot)) (take m qubits)) out (slot_start slot) (slot_words slot) at.words written out'
+          → WroteStepsTo (called_steps image call angles qubits) out at (record { records = at.records + slot_records slot; words = at.words + written; trace = at.trace }) out'
       unfolding output
-      records_copied n {written} {out'} some long d sixteen fits r =
+      records_copied n m {written} {out'} some n-is m-is d sixteen fits r =
           let new : List ℕ = take call.arguments qubits in
-          let e : take call.arguments (take n (drop (4 + 6 * call.parameters) slot)) ≡ old = take-take call.arguments n (drop (4 + 6 * call.parameters) slot) long ∙ ap₂ (slot_qubits slot) c.parameters_are c.arguments_are in
+          let e : take n (drop (4 + 6 * call.parameters) slot) ≡ old = ap (λ (k : ℕ). take k (drop (4 + 6 * call.parameters) slot)) n-is ∙ ap₂ (slot_qubits slot) c.parameters_are c.arguments_are in
+          let f : take m qubits ≡ new = ap (λ (k : ℕ). take k qubits) m-is in
           let many : length new ≡ gate_arguments image call.gate = length-take-le call.arguments qubits (omega (arith, few_qubits, sixteen)) ∙ c.arguments_are in
-          let v : RecordsCopied (renaming old new) out (slot_start slot) (slot_words slot) at.words written out' = subst (λ (l : List ℕ). RecordsCopied (renaming l new) out (slot_start slot) (slot_words slot) at.words written out') e r in
+          let v : RecordsCopied (renaming old new) out (slot_start slot) (slot_words slot) at.words written out' = subst (λ (g : ℕ → ℕ). RecordsCopied g out (slot_start slot) (slot_words slot) at.words written out') (ap₂ renaming e f) r in
           let same = copied_once (renaming old new) v.each (kept_each slot c.accepted c.listed k) (sym v.stands ∙ k.body.stands) in
           let formals = distinct_formals (gate_arguments image call.gate) old new old_qubits many (k.distinct some) d in
           let place : copied_place (renaming old new) (kept_records k.body) (state_at out at) ≡ state_at out' (record { records = at.records + slot_records slot; words = at.words + written; trace = at.trace }) =
@@ -107,10 +106,6 @@ slot_whole {table} {call = call} g e = ap length e ∙ length-take-le (slot_widt
 pub slot_wide : {table slot qubits : List ℕ} {call : Call} → SlotGiven table call qubits → slot ≡ slot_of table call.gate → slot_need call.parameters call.arguments ≤ length slot
 slot_wide g e = omega (arith, slot_whole g e, g.wide)
 
--- the qubits behind its angles
-pub qubits_behind : (slot : List ℕ) (n m : ℕ) → slot_need n m ≤ length slot → m ≤ length (take (length slot - (4 + 6 * n)) (drop (4 + 6 * n) slot))
-qubits_behind slot n m h = omega (arith, length-take-le (length slot - (4 + 6 * n)) (drop (4 + 6 * n) slot) (omega (arith, length-drop (4 + 6 * n) slot)))
-
 -- the test for room
 pub room_left : (out slot : List ℕ) (at : Position) {full : Bool} → full ≡ ltb (length out) (at.words + slot_words slot) → full ≡ false → at.words + slot_words slot ≤ length out
 room_left out slot at e f = ltb-false (length out) (at.words + slot_words slot) (sym e ∙ f)
@@ -135,7 +130,7 @@ pub record Asked : Type 0 where
   pub slot : List ℕ
   pub out : List ℕ
   pub call : Call
-  pub angles : List ℕ
+  pub angles : List Value
   pub qubits : List ℕ
   pub at : Position
 
@@ -157,20 +152,17 @@ module _ (a : Asked) {same : Bool} (e : same ≡ same_body a.slot a.call a.angle
     pub silent_copies : slot_words a.slot ≡ 0 → a.at.words ≤ length a.out → true ≡ answer a
     silent_copies z h = rw (sym e ∙ t, le-leb end (length a.out) (omega arith), eq-eqb (slot_words a.slot) 0 z) refl
 
-    pub no_room : {full : Bool} → full ≡ ltb (length a.out) end → full ≡ true → false ≡ answer a
-    no_room f g = rw (sym e ∙ t, lt-leb end (length a.out) (ltb-true (length a.out) end (sym f ∙ g))) refl
-
     pub distinct_copies : ¬ (slot_words a.slot ≡ 0) → end ≤ length a.out → {distinct : Bool} → distinct ≡ differ (take a.call.arguments a.qubits) → distinct ≡ answer a
     distinct_copies n fits d = rw (sym e ∙ t, le-leb end (length a.out) fits, ne_eqb (slot_words a.slot) 0 n) d
 
 -- ---- the answer
 
 module _ {image : List ℕ} {call : Call} {angles : List Value} {qubits out : List ℕ} {at : Position} where
-  pub not_copied : BodyCopied image call angles qubits out at bodyCopy.NotCopied out
+  pub not_copied : BodyCopied image call angles qubits out at None out
   not_copied = record { wrote = λ next e. absurd (let z : ◌≡◌ {A = ℕ} 0 1 = cc in omega arith); untouched = λ e. refl }
 
-  pub was_copied : {next : Position} {out' : List ℕ} → WroteStepsTo (called_steps image call angles qubits) out at next out' → BodyCopied image call angles qubits out at (bodyCopy.Copied next) out'
+  pub was_copied : {next : Position} {out' : List ℕ} → WroteStepsTo (called_steps image call angles qubits) out at next out' → BodyCopied image call angles qubits out at (Some next) out'
   was_copied {next} {out'} w = record { wrote = λ p e. subst (λ (q : Position). WroteStepsTo (called_steps image call angles qubits) out at q out') (which e) w; untouched = λ e. absurd (let z : ◌≡◌ {A = ℕ} 0 1 = cc in omega arith) }
     where
-      which : {p : Position} → bodyCopy.Copied next ≡ bodyCopy.Copied p → next ≡ p
+      which : {p : Position} → Some next ≡ Some p → next ≡ p
       which e = cc

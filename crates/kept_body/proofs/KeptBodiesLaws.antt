@@ -9,29 +9,25 @@ use lib.Dec.{T, eqb, ltb}
 use borrow.Author.Tests.{eqb-true, eqb-false, ltb-true, ltb-false}
 use borrow.Rule.Slice.PartMut.{put_mid, post_of, same_len_mid, mid_len, take_put, drop_put}
 use lib.ListN.{length, get_or, set, take, drop, length-set, replicate, length-replicate, get_or-replicate}
-use lib.Seq.{length-take-le, take_at, drop_at, take-take, drop-drop, get_or-take, get_or-drop, get_or-set_same, get_or-set_other, ext_get_or}
-use Rattle.rational.specs.declared.Rational64.{Rational64}
+use lib.Seq.{length-take-le, take_at, drop_at, take-take, drop-drop, get_or-take, get_or-drop, get_or-set_same, get_or-set_other}
 use Rattle.model.specs.Image.{gates, gate_parameters, gate_arguments}
 use Rattle.model.specs.Accepted.{Accepted}
 use Rattle.model.specs.Claims.{differ}
-use Rattle.model.specs.Evaluate.{zero_value}
 use Rattle.model.specs.Run.{Answer, play, output}
 use Rattle.model.specs.Playing.{OutputState, room, Plays}
 use Rattle.model.specs.Steps.{Step}
 use Rattle.model.proofs.ListLaws.{drop_take}
-use Rattle.model.proofs.Accepted.{few_parameters}
 use Rattle.record_writer.specs.declared.Position.{Position}
-use Rattle.expression.specs.Angles.{fraction_at, value_at, angles_in}
-use Rattle.expression.proofs.AnglesLaws.{angle_at, sixteen}
+use Rattle.value.specs.declared.Value.{Value}
 use Rattle.statement.specs.declared.Call.{Call}
 use Rattle.model.proofs.ReadBack.{words_enough}
 use Rattle.model.specs.All.{All}
 use Rattle.copy.specs.BodyRecord.{BodyRecord}
 use Rattle.copy.proofs.BodyRecords.{openings_bodily, bodily_plays}
 use Rattle.copy.proofs.BodyKeptLaws.{kept_records, kept_later, kept_new}
-use Rattle.kept_body.specs.Slot.{slot_width, slot_of, WideEnough, slot_levels, slot_qubits, slot_angles, same_angles, may_be_copied, SlotStands, SlotFilled}
+use Rattle.kept_body.specs.Slot.{slot_width, slot_of, WideEnough, slot_levels, slot_qubits, slot_angles, may_be_copied, SlotStands, SlotFilled}
 use Rattle.kept_body.specs.KeptBodies.{SlotKept, BodiesKept, BodyPut, BodyRun}
-use Rattle.kept_body.proofs.SlotLaws.{told, word_same, written_distinct}
+use Rattle.kept_body.proofs.SlotLaws.{told, written_distinct}
 
 -- ---- slots of a table in which one was put anew
 
@@ -88,27 +84,6 @@ module _ (table slot : List ℕ) (g : ℕ) (whole : length slot ≡ slot_width t
       go true e = slot_before h (ltb-true h g e)
       go false e = slot_after h (let k = ltb-false h g e in omega arith)
 
--- ---- the angles of a slot
-
-fraction_same : (v w : List ℕ) (p q : ℕ) → get_or v p 0 ≡ get_or w q 0 → get_or v (p + 1) 0 ≡ get_or w (q + 1) 0 → get_or v (p + 2) 0 ≡ get_or w (q + 2) 0 → fraction_at v p ≡ fraction_at w q
-fraction_same v w p q e f g = rw (e, f, g) refl
-
-pub angles_same : (slot angles : List ℕ) (n : ℕ) → n ≤ 16 → T (same_angles slot angles (6 * n)) → slot_angles slot n ≡ take n (angles_in angles)
-angles_same slot angles n few s =
-    let long : (w : List ℕ) → length (take n (angles_in w)) ≡ n = λ w. length-take-le n (angles_in w) (omega (arith, sixteen w)) in
-    ext_get_or zero_value (slot_angles slot n) (take n (angles_in angles)) (long (drop 4 slot) ∙ sym (long angles)) (λ i h.
-    let k : i < n = omega (arith, long (drop 4 slot)) in
-    get_or-take n (angles_in (drop 4 slot)) i zero_value k ∙ angle_at (drop 4 slot) i zero_value (omega arith) ∙ value i k ∙ sym (get_or-take n (angles_in angles) i zero_value k ∙ angle_at angles i zero_value (omega arith)))
-  where
-    word_is : (j : ℕ) → j < 6 * n → get_or (drop 4 slot) j 0 ≡ get_or angles j 0
-    word_is j h = get_or-drop 4 slot j 0 ∙ word_same slot angles (6 * n) s j h
-
-    value : (i : ℕ) → i < n → value_at (drop 4 slot) (6 * i) ≡ value_at angles (6 * i)
-    value i h =
-        ap₂ (λ (a b : Rational64). record { a = a; b = b })
-        (fraction_same (drop 4 slot) angles (6 * i) (6 * i) (word_is (6 * i) (omega arith)) (word_is (6 * i + 1) (omega arith)) (word_is (6 * i + 2) (omega arith)))
-        (fraction_same (drop 4 slot) angles (6 * i + 3) (6 * i + 3) (word_is (6 * i + 3) (omega arith)) (word_is (6 * i + 3 + 1) (omega arith)) (word_is (6 * i + 3 + 2) (omega arith)))
-
 -- ---- what is written later leaves what is kept
 
 pub bodies_later : {image table : List ℕ} {ss : List Step} {p q : OutputState} {a : Answer} → Plays ss p q a → BodiesKept image table p.out p.words → BodiesKept image table q.out q.words
@@ -117,15 +92,14 @@ bodies_later {image} {table} {ss} {p} {q} w b =
 
 -- ---- a body that was run is put into its slot
 
-module _ {image : List ℕ} {call : Call} {angles qubits out out' : List ℕ} {at next : Position} (r : BodyRun image call (angles_in angles) qubits out at next out') where
+module _ {image : List ℕ} {call : Call} {angles : List Value} {qubits out out' : List ℕ} {at next : Position} (r : BodyRun image call angles qubits out at next out') where
   slot_kept : {slot : List ℕ} → SlotFilled slot call.site.levels_left at.words (next.words - at.words) (next.records - at.records) call angles qubits → T (may_be_copied (next.words - at.words) (take call.arguments qubits)) → SlotKept image slot out' next.words call.gate
   slot_kept {slot} f d =
       let c = r.called in
-      let few : call.parameters ≤ 16 = omega (arith, c.parameters_are, few_parameters c.accepted call.gate c.listed) in
-      let vs : slot_angles slot (gate_parameters image call.gate) ≡ take call.parameters (angles_in angles) = ap (slot_angles slot) (sym c.parameters_are) ∙ angles_same slot angles call.parameters few f.angles_are in
+      let vs : slot_angles slot (gate_parameters image call.gate) ≡ take call.parameters angles = ap (slot_angles slot) (sym c.parameters_are) ∙ f.angles_are in
       let qs : slot_qubits slot (gate_parameters image call.gate) (gate_arguments image call.gate) ≡ take call.arguments qubits = ap₂ (slot_qubits slot) (sym c.parameters_are) (sym c.arguments_are) ∙ f.qubits_are in
       record {
-        body = rw (vs, qs, f.levels_are, f.start_is, f.words_are, f.records_are) (kept_new image call.gate call.site.levels_left [] (take call.parameters (angles_in angles)) (take call.arguments qubits) r.wrote.plays r.inside);
+        body = rw (vs, qs, f.levels_are, f.start_is, f.words_are, f.records_are) (kept_new image call.gate call.site.levels_left [] (take call.parameters angles) (take call.arguments qubits) r.wrote.plays r.inside);
         distinct = λ n. subst (λ (l : List ℕ). T (differ l)) (sym qs) (written_distinct _ _ d (λ e. n (f.words_are ∙ e)));
       }
 
@@ -150,11 +124,7 @@ module _ {image : List ℕ} {call : Call} {angles qubits out out' : List ℕ} {a
 
 -- ---- what keeping a body changes
 
-module _ {table angles qubits : List ℕ} {call : Call} {at next : Position} {r : Bool} (e : r ≡ may_be_copied (next.words - at.words) (take call.arguments qubits)) where
-  -- a body that may not be copied is not kept
-  pub body_left : r ≡ false → BodyPut table call angles qubits at next table
-  body_left f = record { filled = λ t. absurd (subst T (sym e ∙ f) t); untouched = λ _. refl; others = λ g n. refl }
-
+module _ {table : List ℕ} {angles : List Value} {qubits : List ℕ} {call : Call} {at next : Position} {r : Bool} (e : r ≡ may_be_copied (next.words - at.words) (take call.arguments qubits)) where
   -- a body that may be copied is put into the slot of its gate
   pub body_put : r ≡ true → (slot : List ℕ) → length slot ≡ slot_width table → 1 + slot_width table * call.gate + slot_width table ≤ length table
       → SlotFilled slot call.site.levels_left at.words (next.words - at.words) (next.records - at.records) call angles qubits → BodyPut table call angles qubits at next (put_into table slot call.gate)

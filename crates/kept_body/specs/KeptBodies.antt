@@ -1,5 +1,5 @@
 -- The table of bodies that were run to their end, a slot for each gate, and what it says of a later call.
-use Rattle.std.specs.Prelude.{ℕ, ◌+◌, ◌-◌, ◌*◌, ◌≤◌, ◌<◌, ◌≡◌, Bool, true, false, ◌&&◌, List, [], T, leb, length, take}
+use Rattle.std.specs.Prelude.{ℕ, ◌+◌, ◌-◌, ◌*◌, ◌≤◌, ◌<◌, ◌≡◌, Bool, false, ◌&&◌, List, [], T, leb, length, take, Option, Some, None}
 use Rattle.value.specs.declared.Value.{Value}
 use Rattle.model.specs.Limits.{most_gates, most_parameters}
 use Rattle.model.specs.Image.{gates, gate_parameters, gate_arguments}
@@ -10,8 +10,6 @@ use Rattle.record_writer.specs.declared.Position.{Position}
 use Rattle.record_writer.specs.Promise.{InOutput, QubitsGiven, WroteStepsTo}
 use Rattle.statement.specs.declared.Call.{Call}
 use Rattle.copy.specs.BodyKept.{body_steps, BodyKept}
-use Rattle.kept_body.specs.declared.BodyCopy.{BodyCopy}
-use Rattle.kept_body.specs.declared.BodyCopy.TheVariants as bodyCopy
 use Rattle.kept_body.specs.Slot.{slot_need, most_slot_words, slot_width, slot_of, WideEnough, slot_levels, slot_start, slot_words, slot_records, slot_qubits, slot_angles, same_body, may_be_copied, SlotStands, SlotFilled}
 
 -- a slot keeps a body of gate g: it was run to its end, its records stand in the output, and if there are any it was run with different qubits
@@ -52,24 +50,19 @@ pub record CopyGiven (table out : List ℕ) (call : Call) (qubits : List ℕ) (a
   pub in_output : InOutput out at
 
 -- the slot of a call's gate keeps the call's body, there is room for its words, and it may be copied for the call's qubits
-abbrev pub copies : List ℕ → List ℕ → Call → List ℕ → List ℕ → Position → Bool
+abbrev pub copies : List ℕ → List ℕ → Call → List Value → List ℕ → Position → Bool
 copies slot out call angles qubits at =
     same_body slot call angles
     && (leb (at.words + slot_words slot) (length out)
     && may_be_copied (slot_words slot) (take call.arguments qubits))
 
--- an answer says that a body was copied
-abbrev pub is_copied : BodyCopy → Bool
-is_copied (bodyCopy.Copied next) = true
-is_copied bodyCopy.NotCopied = false
-
 -- a body was copied, and to do so was to play its steps; or it was not, and nothing was written
-pub record BodyCopied (image : List ℕ) (call : Call) (angles : List Value) (qubits out : List ℕ) (at : Position) (r : BodyCopy) (out' : List ℕ) : Type 0 where
-  pub wrote : (next : Position) → r ≡ bodyCopy.Copied next → WroteStepsTo (called_steps image call angles qubits) out at next out'
-  pub untouched : r ≡ bodyCopy.NotCopied → out' ≡ out
+pub record BodyCopied (image : List ℕ) (call : Call) (angles : List Value) (qubits out : List ℕ) (at : Position) (r : Option Position) (out' : List ℕ) : Type 0 where
+  pub wrote : (next : Position) → r ≡ Some next → WroteStepsTo (called_steps image call angles qubits) out at next out'
+  pub untouched : r ≡ None → out' ≡ out
 
 -- a body that was run between two positions is put into the slot of its gate if it may be copied, and nothing else changes
-pub record BodyPut (table : List ℕ) (call : Call) (angles qubits : List ℕ) (at next : Position) (table' : List ℕ) : Type 0 where
+pub record BodyPut (table : List ℕ) (call : Call) (angles : List Value) (qubits : List ℕ) (at next : Position) (table' : List ℕ) : Type 0 where
   pub filled : T (may_be_copied (next.words - at.words) (take call.arguments qubits)) → SlotFilled (slot_of table' call.gate) call.site.levels_left at.words (next.words - at.words) (next.records - at.records) call angles qubits
   pub untouched : may_be_copied (next.words - at.words) (take call.arguments qubits) ≡ false → table' ≡ table
   pub others : (g : ℕ) → ¬ (g ≡ call.gate) → slot_of table' g ≡ slot_of table g

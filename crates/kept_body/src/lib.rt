@@ -1,54 +1,88 @@
 // Keeps where the records of a gate's body stand that was run to its end, so that a later call of the gate copies them.
 #![tactic(auto)]
 
-ghost use Rattle.std.specs.Prelude.{◌≡◌, List, ℕ, ◌+◌, ◌-◌, ◌*◌, ◌≤◌, length, take};
+ghost use Rattle.std.specs.Prelude.{◌≡◌, List, ℕ, ◌+◌, ◌-◌, ◌*◌, ◌≤◌, ◌<◌, length, take, is_some};
+ghost use mathlib.Core.List.{flat_map};
 ghost use Rattle.std.proofs.lemmas.List.Edits.{sets};
 ghost use Rattle.model.specs.Limits.{most_parameters};
 ghost use Rattle.model.specs.Accepted.{Accepted};
 ghost use Rattle.model.specs.Claims.{differ};
-ghost use Rattle.image.specs.Layout.{LayoutOf};
 ghost use Rattle.record_writer.specs.Promise.{QubitsGiven};
-ghost use Rattle.expression.specs.Angles.{angles_in, value_words};
-ghost use Rattle.kept_body.specs.Slot.{angles_at, slot_need, slot_of, WideEnough, opened_alike, same_angles, same_body, may_be_copied, first_words, SlotFilled};
-ghost use Rattle.kept_body.specs.KeptBodies.{BodiesKept, CalledGate, SlotGiven, CopyGiven, copies, is_copied, BodyCopied, BodyPut, BodyRun};
+ghost use Rattle.kept_body.specs.Slot.{angles_at, value_words, fraction_at, value_at, words_of_value, slot_need, slot_of, WideEnough, opened_alike, same_angles, same_body, may_be_copied, SlotFilled};
+ghost use Rattle.kept_body.specs.KeptBodies.{BodiesKept, CalledGate, SlotGiven, CopyGiven, copies, BodyCopied, BodyPut, BodyRun};
 
-use image::Layout;
+use copy::Renaming;
+use image::Image;
+use rational::Rational64;
 use record_writer::Position;
-use statement::{Call, Overlap};
+use statement::Call;
+use value::Value;
 
 // Where a slot holds the words of its angles, behind four numbers: the levels left, the first output word, the words and the records of the body. Its
 // qubits stand behind the angles.
 const ANGLES_AT: usize = 4;
 
-// The most words that a slot may have.
-pub const MOST_SLOT_WORDS: usize = ANGLES_AT + expression::FRAME_ANGLE_WORDS + image::FRAME_QUBITS;
+// The words of an angle: sign, numerator and denominator of both parts. A slot has as many as its gate has parameters, so that the slots of a small
+// program are few words to clear: a slot of sixteen angles and sixteen qubits for each gate would be many more.
+const VALUE_WORDS: usize = 6;
 
-// Whether a body was copied, and where the run stands then.
-#[derive(Clone, Copy)]
-pub enum BodyCopy {
-    Copied(Position),
-    NotCopied,
-}
+// The most words that a slot may have.
+pub const MOST_SLOT_WORDS: usize = ANGLES_AT
+    + VALUE_WORDS * image::FRAME_ANGLES
+    + image::FRAME_QUBITS;
 
 // ---- the width of slots
 
 // How many words a slot has: what the gate needs that needs most.
-pub fn slot_width(image: &[u64], l: Layout) -> u64
-    requires { LayoutOf image.now l × Accepted image.now }
-    ensures { WideEnough image.now result }
+pub fn slot_width(image: &Image<'_>) -> u64
+    requires { Accepted image.now.words.now }
+    ensures { WideEnough image.now.words.now result }
 {
-    let mut width = 0u64;
-    let mut g = 0u64;
-    while g < l.gates {
-        let at = l.gate_at(g);
-        let angle_words = expression::VALUE_WORDS * image::word(image, at);
-        width = image::larger(
-            width,
-            ANGLES_AT as u64 + angle_words + image::word(image, at + 1),
-        );
-        g += 1;
+    let mut width = 0;
+    for g in 0..image.layout.gates {
+        let at = image.gate_at(g);
+        let angle_words = VALUE_WORDS as u64 * image.word(at);
+        width = (ANGLES_AT as u64 + angle_words + image.word(at + 1)).max(width);
     }
     width
+}
+
+// ---- angles in words
+
+// The fraction in three words: 1 for a negative one, the numerator, the denominator.
+fn fraction_at(words: &[u64], at: usize) -> Rational64
+    requires { at + 2 < length words.now }
+    ensures { result ≡ fraction_at words.now at }
+{
+    Rational64 {
+        negative: words[at] == 1,
+        numer: words[at + 1],
+        denom: words[at + 2],
+    }
+}
+
+// The angle in six words.
+fn value_at(words: &[u64], at: usize) -> Value
+    requires { at + 5 < length words.now }
+    ensures { result ≡ value_at words.now at }
+{
+    Value {
+        a: fraction_at(words, at),
+        b: fraction_at(words, at + 3),
+    }
+}
+
+// Puts an angle into six words.
+fn put_value(words: &mut [u64], at: usize, x: Value)
+    requires { at + 5 < length words.old }
+    ensures { words.new ≡ sets words.old at (words_of_value x) }
+{
+    words[at] = x.a.negative as u64;
+    words[at + 1] = x.a.numer;
+    words[at + 2] = x.a.denom;
+    words[at + 3] = x.b.negative as u64;
+    words[at + 4] = x.b.numer;
+    words[at + 5] = x.b.denom;
 }
 
 // ---- whether a body is the one that is kept
@@ -73,23 +107,22 @@ fn is_opened_alike(levels: u64, body_words: u64, call: Call) -> bool
     false
 }
 
-// Whether the first n words of the kept angles are those of others.
-fn same_angles(slot: &[u64], angles: &[u64; expression::FRAME_ANGLE_WORDS], n: usize) -> bool
-    requires { (angles_at + n ≤ length slot.now) × (n ≤ value_words * most_parameters) }
+// Whether the first n of the kept angles are those of others.
+fn same_angles(slot: &[u64], angles: &[Value; image::FRAME_ANGLES], n: usize) -> bool
+    requires { (angles_at + value_words * n ≤ length slot.now) × (n ≤ most_parameters) }
     ensures { result ≡ same_angles slot.now angles.now n }
 {
-    let mut i = 0;
-    while i < n {
-        if slot[ANGLES_AT + i] != angles[i] {
+    for i in 0..n {
+        let kept = value_at(slot, ANGLES_AT + VALUE_WORDS * i);
+        if kept != angles[i] {
             return false;
         }
-        i += 1;
     }
     true
 }
 
 // Whether what is kept is the body of a call with these angles.
-fn is_same_body(slot: &[u64], call: Call, angles: &[u64; expression::FRAME_ANGLE_WORDS]) -> bool
+fn is_same_body(slot: &[u64], call: Call, angles: &[Value; image::FRAME_ANGLES]) -> bool
     requires { (angles_at + value_words * call.parameters ≤ length slot.now) × (call.parameters ≤ most_parameters) }
     ensures { result ≡ same_body slot.now call angles.now }
 {
@@ -100,11 +133,7 @@ fn is_same_body(slot: &[u64], call: Call, angles: &[u64; expression::FRAME_ANGLE
     if !is_opened_alike(levels, slot[2], call) {
         return false;
     }
-    same_angles(
-        slot,
-        angles,
-        (expression::VALUE_WORDS * call.parameters) as usize,
-    )
+    same_angles(slot, angles, call.parameters as usize)
 }
 
 // Whether the first n of sixteen qubits are n different ones.
@@ -112,10 +141,7 @@ fn are_distinct(qubits: &[u64; image::FRAME_QUBITS], n: u64) -> bool
     requires { QubitsGiven qubits.now n }
     ensures { result ≡ differ (take n qubits.now) }
 {
-    match statement::first_overlap(qubits, n) {
-        Overlap::Apart => true,
-        Overlap::Pair(_, _) => false,
-    }
+    statement::first_overlap(qubits, n).is_none()
 }
 
 // ---- copying
@@ -126,44 +152,41 @@ fn are_distinct(qubits: &[u64; image::FRAME_QUBITS], n: u64) -> bool
 pub fn copy_body(
     kept_bodies: &[u64],
     call: Call,
-    angles: &[u64; expression::FRAME_ANGLE_WORDS],
+    angles: &[Value; image::FRAME_ANGLES],
     qubits: &[u64; image::FRAME_QUBITS],
     out: &mut [u64],
     at: Position,
-) -> BodyCopy
+) -> Option<Position>
     requires { CopyGiven kept_bodies.now out.old call qubits.now at }
-    ensures { (is_copied result ≡ copies (slot_of kept_bodies.now call.gate) out.old call angles.now qubits.now at)
+    ensures { (is_some result ≡ copies (slot_of kept_bodies.now call.gate) out.old call angles.now qubits.now at)
         × ((image : List ℕ) → CalledGate image call → BodiesKept image kept_bodies.now out.old at.words
-        → BodyCopied image call (angles_in angles.now) qubits.now out.old at result out.new) }
+        → BodyCopied image call angles.now qubits.now out.old at result out.new) }
 {
     let width = kept_bodies[0] as usize;
     let first = 1 + width * call.gate as usize;
     let end = first + width;
     let slot = &kept_bodies[first..end];
     if !is_same_body(slot, call, angles) {
-        return BodyCopy::NotCopied;
+        return None;
     }
     let words = slot[2] as usize;
     if words == 0 {
-        return BodyCopy::Copied(at);
+        return Some(at);
     }
     if record_writer::is_full(out, at, words) {
-        return BodyCopy::NotCopied;
+        return None;
     }
     if !are_distinct(qubits, call.arguments) {
-        return BodyCopy::NotCopied;
+        return None;
     }
-    let behind_angles = ANGLES_AT + (expression::VALUE_WORDS * call.parameters) as usize;
-    let written = copy::copy_records(
-        out,
-        &slot[behind_angles..],
-        qubits,
-        call.arguments as usize,
-        slot[1] as usize,
-        words,
-        at.words as usize,
-    );
-    BodyCopy::Copied(Position {
+    let behind_angles = ANGLES_AT + VALUE_WORDS * call.parameters as usize;
+    let behind_qubits = behind_angles + call.arguments as usize;
+    let renaming = Renaming {
+        old: &slot[behind_angles..behind_qubits],
+        new: &qubits[..call.arguments as usize],
+    };
+    let written = copy::copy_records(out, renaming, slot[1] as usize, words, at.words as usize);
+    Some(Position {
         records: at.records + slot[3],
         words: at.words + written as u64,
         trace: at.trace,
@@ -172,15 +195,13 @@ pub fn copy_body(
 
 // ---- keeping
 
-// Puts the first n words of angles into a slot.
-fn put_angle_words(slot: &mut [u64], angles: &[u64; expression::FRAME_ANGLE_WORDS], n: usize)
-    requires { (angles_at + n ≤ length slot.old) × (n ≤ value_words * most_parameters) }
-    ensures { slot.new ≡ sets slot.old angles_at (first_words angles.now n) }
+// Puts the first n of some angles into a slot.
+fn put_angles(slot: &mut [u64], angles: &[Value; image::FRAME_ANGLES], n: usize)
+    requires { (angles_at + value_words * n ≤ length slot.old) × (n ≤ most_parameters) }
+    ensures { slot.new ≡ sets slot.old angles_at (flat_map words_of_value (take n angles.now)) }
 {
-    let mut i = 0;
-    while i < n {
-        slot[ANGLES_AT + i] = angles[i];
-        i += 1;
+    for i in 0..n {
+        put_value(slot, ANGLES_AT + VALUE_WORDS * i, angles[i]);
     }
 }
 
@@ -189,10 +210,8 @@ fn put_qubits(slot: &mut [u64], start: usize, qubits: &[u64; image::FRAME_QUBITS
     requires { (start + n ≤ length slot.old) × QubitsGiven qubits.now n }
     ensures { slot.new ≡ sets slot.old start (take n qubits.now) }
 {
-    let mut i = 0;
-    while i < n {
+    for i in 0..n {
         slot[start + i] = qubits[i];
-        i += 1;
     }
 }
 
@@ -200,7 +219,7 @@ fn put_qubits(slot: &mut [u64], start: usize, qubits: &[u64; image::FRAME_QUBITS
 fn put_body(
     slot: &mut [u64],
     call: Call,
-    angles: &[u64; expression::FRAME_ANGLE_WORDS],
+    angles: &[Value; image::FRAME_ANGLES],
     qubits: &[u64; image::FRAME_QUBITS],
     at: Position,
     next: Position,
@@ -215,9 +234,10 @@ fn put_body(
     slot[1] = at.words;
     slot[2] = next.words - at.words;
     slot[3] = next.records - at.records;
-    let n = (expression::VALUE_WORDS * call.parameters) as usize;
-    put_angle_words(slot, angles, n);
-    put_qubits(slot, ANGLES_AT + n, qubits, call.arguments as usize);
+    let n = call.parameters as usize;
+    put_angles(slot, angles, n);
+    let behind_angles = ANGLES_AT + VALUE_WORDS * n;
+    put_qubits(slot, behind_angles, qubits, call.arguments as usize);
 }
 
 // Whether a body that wrote so many words with these qubits may be copied for others: with a qubit twice it may do something else than with two
@@ -236,14 +256,14 @@ fn may_be_copied(written: u64, qubits: &[u64; image::FRAME_QUBITS], n: u64) -> b
 pub fn keep_body(
     kept_bodies: &mut [u64],
     call: Call,
-    angles: &[u64; expression::FRAME_ANGLE_WORDS],
+    angles: &[Value; image::FRAME_ANGLES],
     qubits: &[u64; image::FRAME_QUBITS],
     at: Position,
     next: Position,
 )
     requires { SlotGiven kept_bodies.old call qubits.now × ((at.words ≤ next.words) × (at.records ≤ next.records)) }
     ensures { BodyPut kept_bodies.old call angles.now qubits.now at next kept_bodies.new
-        × ((image out out' : List ℕ) → BodyRun image call (angles_in angles.now) qubits.now out at next out'
+        × ((image out out' : List ℕ) → BodyRun image call angles.now qubits.now out at next out'
         → BodiesKept image kept_bodies.old out' next.words → BodiesKept image kept_bodies.new out' next.words) }
 {
     if !may_be_copied(next.words - at.words, qubits, call.arguments) {

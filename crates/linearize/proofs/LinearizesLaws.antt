@@ -19,15 +19,14 @@ use Rattle.image.specs.Answer.{refusal_flaw, number_in, place_in}
 use Rattle.record_writer.specs.declared.Position.{Position}
 use Rattle.record_writer.specs.declared.LinearizeErrorKind.{LinearizeErrorKind}
 use Rattle.record_writer.specs.declared.LinearizeErrorKind.TheVariants as kind
-use Rattle.record_writer.specs.declared.Linearized.{Linearized}
-use Rattle.record_writer.specs.declared.Linearized.TheVariants as linearized
-use Rattle.record_writer.specs.Promise.{refusal_answer, run_answer_of, position_of}
+use Rattle.std.specs.Prelude.{Ok, Err}
+use Rattle.record_writer.specs.Promise.{RunResult, refusal_answer, run_answer_of, position_of}
 use Rattle.gate.specs.RanSteps.{RanSteps}
 use Rattle.linearize.specs.Linearizes as promise
 use Rattle.linearize.specs.Linearizes.{refused_with, Linearizes}
 
 -- the claims of every run, said of the slices as they are left
-module _ (image : List ℕ) (depth : ℕ) (out trace : List ℕ) {r : Linearized} {out' trace' : List ℕ} where
+module _ (image : List ℕ) (depth : ℕ) (out trace : List ℕ) {r : RunResult} {out' trace' : List ℕ} where
   pub linearizes : promise.answer_outcome r out' trace' ≡ linearize image depth out trace → Linearizes image depth out trace r out' trace'
   linearizes e = record { outcome = e; claims = subst (Claims image depth out trace) (sym e) (claims image depth out trace) }
 
@@ -43,10 +42,10 @@ refusal_trace kind.OutputFull c = refl
 refusal_trace (kind.Flawed v) c = refl
 refusal_trace kind.ShortTrace c = refl
 
-answer_trace : (r : Linearized) (calls : List ℕ) → run_answer_of r (trace_of (run_answer_of r calls)) ≡ run_answer_of r calls
+answer_trace : (r : RunResult) (calls : List ℕ) → run_answer_of r (trace_of (run_answer_of r calls)) ≡ run_answer_of r calls
 unfolding trace_of
-answer_trace (linearized.Done p) c = refl
-answer_trace (linearized.Refused e) c = refusal_trace e.kind c
+answer_trace (Ok p) c = refl
+answer_trace (Err e) c = refusal_trace e.kind c
 
 -- the flaw for which an image is refused is one
 is_bad : (c : CheckRefusal) → refusal_flaw c ≡ bad (number_in (refusal_flaw c)) (place_in (refusal_flaw c))
@@ -65,7 +64,7 @@ module _ (image : List ℕ) (depth : ℕ) (out trace : List ℕ) where
   unfolding runs accepted
   plays_steps e h = rw (le-ltb (length trace) 256 h, e) refl
 
-  pub accepted_run : {r : Linearized} {out' trace' : List ℕ} {at : Position} → check image ≡ fine → 256 ≤ length trace → at ≡ record { records = 0; words = 0; trace = 0 } → RanSteps (steps image depth) out at trace r out' trace'
+  pub accepted_run : {r : RunResult} {out' trace' : List ℕ} {at : Position} → check image ≡ fine → 256 ≤ length trace → at ≡ record { records = 0; words = 0; trace = 0 } → RanSteps (steps image depth) out at trace r out' trace'
       → Linearizes image depth out trace r out' trace'
   unfolding linearize
   accepted_run {r} {out'} {trace'} {at} e h z w =
@@ -90,11 +89,11 @@ module _ (image : List ℕ) (depth : ℕ) (out trace : List ℕ) where
       }
 
   -- a refusal before the first record
-  pub short_trace_lem : length trace < 256 → Linearizes image depth out trace (refused_with kind.ShortTrace) out trace
+  pub short_trace_lem : length trace < 256 → Linearizes image depth out trace (Err (refused_with kind.ShortTrace)) out trace
   unfolding linearize runs output flat_map trace_of
   short_trace_lem h = linearizes image depth out trace (sym (rw (lt-ltb (length trace) 256 h) refl))
 
-  pub not_accepted : (c : CheckRefusal) → 256 ≤ length trace → refusal_flaw c ≡ check image → Linearizes image depth out trace (refused_with (kind.Flawed c)) out trace
+  pub not_accepted : (c : CheckRefusal) → 256 ≤ length trace → refusal_flaw c ≡ check image → Linearizes image depth out trace (Err (refused_with (kind.Flawed c))) out trace
   unfolding linearize runs accepted output flat_map trace_of
   not_accepted c h e = linearizes image depth out trace (sym (rw (le-ltb (length trace) 256 h, ← e) (go (refusal_flaw c) (is_bad c))))
     where

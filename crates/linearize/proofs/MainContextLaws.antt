@@ -5,114 +5,103 @@ use native.Mathlib.Omega.{arith}
 use mathlib.Core.Path.{◌≡◌, refl, sym, ap, subst, ◌∙◌}
 use mathlib.Core.List.{List, [], ◌∷◌, ◌++◌}
 use borrow.Author.Tests.{eq-eqb, ne_eqb}
-use lib.ListN.{length, get_or, drop, length-drop}
+use lib.ListN.{length, get_or, drop}
 use lib.Seq.{get_or-drop}
 use Rattle.value.specs.declared.Value.{Value}
-use Rattle.model.specs.Image.{Conditional, word, quantum_registers, statement, statement_at, main_statements, classical_size, first_bit, variables, scope_statements, classical_register_at}
+use Rattle.model.specs.Image as model
+use Rattle.model.specs.Image.{word, quantum_registers, statement, main_statements, classical_size, first_bit, variables, scope_statements, classical_register_at}
 use Rattle.model.specs.Records.{Record}
 use Rattle.model.specs.Steps.{Step, write, in_rounds, visit_plain, visit_conditional, visit_statement, visit_body, opening, main_frame, head_record, steps}
 use Rattle.model.proofs.Facts.{run_facts}
-use Rattle.model.specs.Accepted.{PlainFacts, Facts}
+use Rattle.model.specs.Accepted.{Accepted, PlainFacts, Facts}
 use Rattle.image.specs.declared.Layout.{Layout}
-use Rattle.image.specs.RegisterStarts.{RegistersFit}
-use Rattle.record_writer.specs.declared.Linearized.{Linearized}
-use Rattle.record_writer.specs.declared.Linearized.TheVariants as linearized
+use Rattle.image.specs.declared.statement.Statement.{Statement}
+use Rattle.image.specs.declared.statement.Statement.TheVariants.{U, CX, Gate, Barrier, Measure, Reset, Conditional}
+use Rattle.image.specs.Entries.{as_statement}
+use Rattle.image.specs.Layout.{LayoutOf}
+use Rattle.image.specs.RegisterStarts.{RegisterTable, RegistersFit}
+use Rattle.std.specs.Prelude.{Ok}
 use Rattle.record_writer.proofs.WroteStepsLaws.{wrote_open}
-use Rattle.model.proofs.StatementOfLaws.{if_at, plain_facts_at}
-use Rattle.argument.specs.Frames.{scope_frame, scope_qubits, BitContext}
+use Rattle.argument.specs.Frames.{scope_frame, scope_qubits}
+use Rattle.expression.specs.declared.KeptValue.{KeptValue}
 use Rattle.expression.specs.KeptValues.{ConstantsKept}
 use Rattle.record_writer.specs.declared.Position.{Position}
-use Rattle.record_writer.specs.Promise.{WroteSteps}
+use Rattle.record_writer.specs.Promise.{RunResult, WroteSteps}
 use Rattle.kept_body.specs.KeptBodies.{BodiesKept}
 use Rattle.gate.specs.RunContext.{RunContext}
 use Rattle.gate.specs.PlainStatement.{PlainStatement}
 use Rattle.gate.specs.RanSteps.{plain_steps}
 use Rattle.gate.proofs.OpenGateLaws.{statement_steps_lem}
 use Rattle.statement.specs.declared.Site.{Site}
-use Rattle.linearize.specs.MainContext.{StartContext, MainContext}
-use Rattle.linearize.specs.MainStatement.{MainStatement, IsConditional}
-use Rattle.argument.proofs.ArgumentLaws.{few_classical}
+use Rattle.linearize.specs.MainContext.{StartContext}
+use Rattle.linearize.specs.MainStatement.{MainStatement}
 
 -- ---- a main statement by its kind
 
-module _ (image : List ℕ) (site : Site) where
+-- what the check accepted of a statement that is no conditional
+plain_facts : (image : List ℕ) (scope : ℕ) (x : Statement) → ((r v t : ℕ) → x ≡ Conditional r v t → ⊥) → Facts image scope (as_statement x) → PlainFacts image scope (as_statement x)
+plain_facts image scope (U a b c d) h f = f
+plain_facts image scope (CX a b) h f = f
+plain_facts image scope (Gate g p a) h f = f
+plain_facts image scope (Barrier a n) h f = f
+plain_facts image scope (Measure q c) h f = f
+plain_facts image scope (Reset q) h f = f
+plain_facts image scope (Conditional r v t) h f = absurd (h r v t refl)
+
+module _ (image : List ℕ) (site : Site) (m : MainStatement image site) where
   abbrev s : ℕ
   s = site.statement
 
-  is_if : IsConditional image site → statement image s ≡ Conditional (word image (statement_at image s + 1)) (word image (statement_at image s + 2)) (word image (statement_at image s + 3))
-  is_if e = if_at image 0 s (statement_at image s) (word image (statement_at image s)) refl refl (word image (statement_at image s + 3)) e refl
+  -- a statement that is no conditional
+  module _ {x : Statement} (e : as_statement x ≡ statement image s) (h : (r v t : ℕ) → x ≡ Conditional r v t → ⊥) where
+    facts_in_main : PlainFacts image 0 (statement image s)
+    facts_in_main = rw (← e) (plain_facts image 0 x h (rw e m.facts))
 
-  pub if_facts : IsConditional image site → Facts image 0 (statement image s) → Facts image 0 (Conditional (word image (statement_at image s + 1)) (word image (statement_at image s + 2)) (word image (statement_at image s + 3)))
-  if_facts e f = subst (Facts image 0) (is_if e) f
+    pub plain_in_main : PlainStatement image site
+    plain_in_main = record { listed = m.listed; facts = rw m.in_main facts_in_main }
 
-  pub plain_in_main : {l : Layout} → ¬ IsConditional image site → MainStatement image l site → PlainStatement image l site
-  plain_in_main h m = record { listed = m.listed; facts = rw m.in_main (plain_facts_at image 0 s (statement_at image s) (word image (statement_at image s)) refl refl h m.facts) }
-
-  -- the steps of one that is no conditional
-  pub plain_steps_lem : {l : Layout} (angles : List Value) (qubits : List ℕ) → ¬ IsConditional image site → MainStatement image l site
-      → plain_steps image site.levels_left (scope_frame image site.scope angles qubits) s ≡ visit_statement image (opening image site.levels_left) (scope_frame image 0 angles qubits) s
-  plain_steps_lem angles qubits h m =
-      rw m.in_main (statement_steps_lem image 0 site.levels_left (scope_frame image 0 angles qubits) s (plain_facts_at image 0 s (statement_at image s) (word image (statement_at image s)) refl refl h m.facts))
+    pub plain_steps_lem : (angles : List Value) (qubits : List ℕ)
+        → plain_steps image site.levels_left (scope_frame image site.scope angles qubits) s ≡ visit_statement image (opening image site.levels_left) (scope_frame image 0 angles qubits) s
+    plain_steps_lem angles qubits = rw m.in_main (statement_steps_lem image 0 site.levels_left (scope_frame image 0 angles qubits) s facts_in_main)
 
   -- a conditional's steps: its start, its inner statement, its end
-  module _ {l : Layout} {register-starts : List ℕ} (bits : BitContext image l register-starts) (e : IsConditional image site) (m : MainStatement image l site)
-      {p r t v : ℕ} (ep : p ≡ statement_at image s) (er : r ≡ word image (p + 1)) (ev : v ≡ word image (p + 2)) (et : t ≡ word image (p + 3)) where
-    register_is : r ≡ word image (statement_at image s + 1)
-    register_is = er ∙ ap (λ (n : ℕ). word image (n + 1)) ep
+  module _ {r v t : ℕ} (is : statement image s ≡ model.Conditional r v t) where
+    pub if_facts : Facts image 0 (model.Conditional r v t)
+    if_facts = subst (Facts image 0) is m.facts
 
-    pub register_listed : r < 4096
-    register_listed = omega (arith, (if_facts e m.facts).1, few_classical bits.accepted, register_is)
+    pub inner_listed : (levels-left : ℕ) → PlainStatement image (record { scope = 0; statement = t; levels_left = levels-left })
+    inner_listed levels-left = record { listed = if_facts.3; facts = if_facts.5 }
 
-    pub register_in_table : l.quantum_registers + r < length register-starts
-    register_in_table =
-        omega (arith, (if_facts e m.facts).1, bits.starts.classical.fits, length-drop (quantum_registers image) register-starts, bits.starts.quantum.fits, bits.laid.quantum_registers_is, register_is)
-
-    pub inner_listed : {inner : Site} (levels-left : ℕ) → inner ≡ record { scope = 0; statement = t; levels_left = levels-left } → PlainStatement image l inner
-    inner_listed levels-left f =
-        let h : t ≡ word image (statement_at image s + 3) = et ∙ ap (λ (n : ℕ). word image (n + 3)) ep in
-        rw f (record {
-          listed = omega (arith, (if_facts e m.facts).3, h, bits.laid.statements_is);
-          facts = subst (λ (n : ℕ). PlainFacts image 0 (statement image n)) (sym h) (if_facts e m.facts).5;
-        })
-
-    pub conditional_steps : {inner : Site} → inner ≡ record { scope = 0; statement = t; levels_left = site.levels_left } → (angles : List Value) (qubits : List ℕ) {first size : ℕ} → first ≡ get_or register-starts (l.quantum_registers + r) 0 → {at : ℕ} → size ≡ word image at → at ≡ classical_register_at image r
-        → (write [] (Record.ConditionalStart first size v) ∷ []) ++ (plain_steps image inner.levels_left (scope_frame image inner.scope angles qubits) inner.statement ++ write [] Record.ConditionalEnd ∷ [])
-        ≡ visit_statement image (opening image site.levels_left) (scope_frame image 0 angles qubits) s
-    unfolding visit_statement visit_plain visit_conditional first_bit
-    conditional_steps f angles qubits {first} {size} ef ez ea =
-        let here : get_or register-starts (l.quantum_registers + r) 0 ≡ get_or (drop (quantum_registers image) register-starts) r 0 = ap (λ (n : ℕ). get_or register-starts (n + r) 0) bits.laid.quantum_registers_is ∙ sym (get_or-drop (quantum_registers image) register-starts r 0) in
-        let a : first ≡ first_bit image (word image (statement_at image s + 1)) = ef ∙ here ∙ ap (λ (n : ℕ). get_or (drop (quantum_registers image) register-starts) n 0) register_is ∙ bits.starts.classical.each _ (if_facts e m.facts).1 in
-        let b : size ≡ classical_size image (word image (statement_at image s + 1)) = ez ∙ ap (word image) (ea ∙ ap (classical_register_at image) register_is) in
-        let c : v ≡ word image (statement_at image s + 2) = ev ∙ ap (λ (n : ℕ). word image (n + 2)) ep in
-        let d : t ≡ word image (statement_at image s + 3) = et ∙ ap (λ (n : ℕ). word image (n + 3)) ep in
-        rw f (sym (rw (is_if e, ← a, ← b, ← c, ← d) refl))
+    module _ {register-starts : List ℕ} (starts : RegisterTable image register-starts) {n : ℕ} (en : n ≡ quantum_registers image) where
+      pub conditional_steps : (angles : List Value) (qubits : List ℕ) {size at : ℕ} → size ≡ word image at → at ≡ classical_register_at image r
+          → (write [] (Record.ConditionalStart (get_or register-starts (n + r) 0) size v) ∷ []) ++ (plain_steps image site.levels_left (scope_frame image 0 angles qubits) t ++ write [] Record.ConditionalEnd ∷ [])
+          ≡ visit_statement image (opening image site.levels_left) (scope_frame image 0 angles qubits) s
+      unfolding visit_statement visit_plain visit_conditional first_bit
+      conditional_steps angles qubits {size} ez ea =
+          let here : get_or register-starts (n + r) 0 ≡ get_or (drop (quantum_registers image) register-starts) r 0 = ap (λ (k : ℕ). get_or register-starts (k + r) 0) en ∙ sym (get_or-drop (quantum_registers image) register-starts r 0) in
+          let first : get_or register-starts (n + r) 0 ≡ first_bit image r = here ∙ starts.classical.each _ if_facts.1 in
+          let b : size ≡ classical_size image r = ez ∙ ap (word image) ea in
+          sym (rw (is, ← first, ← b) refl)
 
 -- ---- the statements of main
 
-module _ {image : List ℕ} {l : Layout} {register-starts out trace : List ℕ} {at : Position} (m : MainContext image l register-starts out trace at) where
-  -- where main's statements are run
-  pub main_context : {kept-values kept-bodies qubits : List ℕ} → ConstantsKept image kept-values → BodiesKept image kept-bodies out at.words → length qubits ≡ 16 → RunContext image l register-starts kept-values kept-bodies 0 qubits out trace at
-  main_context f b h =
-      record {
-        context = record {
-          in_scope = record { laid = m.start.laid; accepted = m.start.accepted; starts = m.starts.quantum; sixteen = h; frame = refl };
-          with_bits = record { laid = m.start.laid; accepted = m.start.accepted; starts = m.starts };
-          constants = f;
-          in_output = m.start.in_output;
-        };
-        bodies = b;
-        trace_length = m.start.trace_length;
-      }
+-- where main's statements are run
+pub main_context : {image : List ℕ} {kept-values : List KeptValue} {kept-bodies qubits out trace : List ℕ} {at : Position} → StartContext out trace at → ConstantsKept image kept-values → BodiesKept image kept-bodies out at.words → length qubits ≡ 16 → RunContext image kept-values kept-bodies 0 qubits out trace at
+main_context m f b h =
+    record {
+      context = record { in_scope = record { sixteen = h; frame = refl }; constants = f; in_output = m.in_output };
+      bodies = b;
+      trace_length = m.trace_length;
+    }
 
-  pub main_statement : {n levels-left : ℕ} → n < l.main_statements → MainStatement image l (record { scope = 0; statement = n; levels_left = levels-left })
-  unfolding scope_statements
-  main_statement {n} h =
-      let laid = m.start.laid in
-      record {
-        in_main = refl;
-        listed = omega (arith, h, laid.main_statements_is, laid.statements_is);
-        facts = subst (λ (k : ℕ). Facts image 0 (statement image k)) (zero-add n) (run_facts image m.start.accepted 0 0 (main_statements image) n zero-le refl (omega (arith, h, laid.main_statements_is)));
-      }
+pub main_statement : {image : List ℕ} (acc : Accepted image) {s levels-left : ℕ} → s < main_statements image → MainStatement image (record { scope = 0; statement = s; levels_left = levels-left })
+unfolding scope_statements
+main_statement {image} acc {s} h =
+    record {
+      in_main = refl;
+      listed = omega (arith, h);
+      facts = subst (λ (k : ℕ). Facts image 0 (statement image k)) (zero-add s) (run_facts image acc 0 0 (main_statements image) s zero-le refl h);
+    }
 
 pub main_steps_lem : (image : List ℕ) (levels-left : ℕ) (angles : List Value) (qubits : List ℕ) {n : ℕ} → n ≡ main_statements image
     → in_rounds n (visit_statement image (opening image levels-left) (scope_frame image 0 angles qubits)) ≡ visit_body image (opening image levels-left) main_frame
@@ -132,17 +121,17 @@ head_steps image depth e h d = sym (rw (ne_eqb (main_statements image) 0 (λ z. 
 
 -- ---- the table of where registers start
 
-module _ {image : List ℕ} {l : Layout} {out trace : List ℕ} {at : Position} (start : StartContext image l out trace at) where
+module _ {image : List ℕ} {l : Layout} (laid : LayoutOf image l) where
   -- a table that has a word for each register
-  pub registers_fit : (table : List ℕ) → l.quantum_registers + l.classical_registers ≤ length table → RegistersFit image table
-  registers_fit table h = record { fits = omega (arith, h, start.laid.quantum_registers_is, start.laid.classical_registers_is); few_qubits = start.accepted.few_qubits; few_bits = start.accepted.few_bits }
+  pub registers_fit : Accepted image → (table : List ℕ) → l.quantum_registers + l.classical_registers ≤ length table → RegistersFit image table
+  registers_fit acc table h = record { fits = omega (arith, h, laid.quantum_registers_is, laid.classical_registers_is); few_qubits = acc.few_qubits; few_bits = acc.few_bits }
 
   -- an image has a word for each register
   pub registers_few : l.quantum_registers + l.classical_registers ≤ 8192
-  registers_few = omega (arith, start.laid.quantum_registers_is, start.laid.classical_registers_is, start.laid.whole, start.laid.short)
+  registers_few = omega (arith, laid.quantum_registers_is, laid.classical_registers_is, laid.whole, laid.short)
 
 -- the head is written
-pub start_wrote : {image : List ℕ} {l : Layout} {ss : List Step} {out out' trace : List ℕ} {at p : Position} {r : Linearized} → StartContext image l out trace at → WroteSteps ss out at r out' → r ≡ linearized.Done p → StartContext image l out' trace p
-start_wrote {ss = ss} {out} {out'} {at = at} {p} start w e =
-    let v : WroteSteps ss out at (linearized.Done p) out' = rw e at w in
-    record { laid = start.laid; accepted = start.accepted; in_output = wrote_open start.in_output v; trace_length = start.trace_length; no_calls = v.level ∙ start.no_calls }
+pub start_wrote : {ss : List Step} {out out' trace : List ℕ} {at p : Position} {r : RunResult} → StartContext out trace at → WroteSteps ss out at r out' → r ≡ Ok p → StartContext out' trace p
+start_wrote {ss} {out} {out'} {at = at} {p} start w e =
+    let v : WroteSteps ss out at (Ok p) out' = rw e at w in
+    record { in_output = wrote_open start.in_output v; trace_length = start.trace_length; no_calls = v.level ∙ start.no_calls }

@@ -1,31 +1,26 @@
 -- Main statements and their steps.
 use Rattle.std.specs.Prelude.{ℕ, ◌<◌, ◌≡◌, List, [], ◌∷◌, ◌++◌}
-use Rattle.model.specs.Image.{word, statement, statement_at}
+use Rattle.model.specs.Image.{all_statements, statement}
 use Rattle.model.specs.Records.{Record}
 use Rattle.model.specs.Steps.{Step, write, visit_statement, visit_body, opening, main_frame}
 use Rattle.model.specs.Accepted.{Facts}
-use Rattle.image.specs.declared.Layout.{Layout}
-use Rattle.expression.specs.Angles.{angles_in}
+use Rattle.value.specs.declared.Value.{Value}
 use Rattle.argument.specs.Frames.{scope_frame}
 use Rattle.statement.specs.declared.Site.{Site}
 use Rattle.gate.specs.RanSteps.{statement_steps}
 
 -- the site is in main, and the image has its statement, which the check accepted
-pub record MainStatement (image : List ℕ) (l : Layout) (site : Site) : Type 0 where
+pub record MainStatement (image : List ℕ) (site : Site) : Type 0 where
   pub in_main : site.scope ≡ 0
-  pub listed : site.statement < l.statements
+  pub listed : site.statement < all_statements image
   pub facts : Facts image 0 (statement image site.statement)
 
--- the statement of a site is a conditional: its kind is 7
-abbrev pub IsConditional : List ℕ → Site → Type 0
-IsConditional image site = word image (statement_at image site.statement) ≡ 7
-
 -- the steps of a main statement; no statement of main reads the angles and qubits that are lent
-abbrev pub main_statement_steps : List ℕ → List ℕ → List ℕ → Site → List Step
-main_statement_steps image angles qubits site = visit_statement image (opening image site.levels_left) (scope_frame image 0 (angles_in angles) qubits) site.statement
+abbrev pub main_statement_steps : List ℕ → List Value → List ℕ → Site → List Step
+main_statement_steps image angles qubits site = visit_statement image (opening image site.levels_left) (scope_frame image 0 angles qubits) site.statement
 
 -- what a conditional does after its start: its inner statement, and its end
-abbrev pub inner_steps : List ℕ → List ℕ → List ℕ → Site → List Step
+abbrev pub inner_steps : List ℕ → List Value → List ℕ → Site → List Step
 inner_steps image angles qubits inner = statement_steps image angles qubits inner ++ write [] Record.ConditionalEnd ∷ []
 
 -- the steps of all main statements

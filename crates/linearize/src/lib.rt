@@ -2,23 +2,26 @@
 #![tactic(auto)]
 
 ghost use Rattle.std.specs.Prelude.{◌≡◌, ◌+◌, ◌-◌, ◌*◌, ◌≤◌};
+ghost use Rattle.model.specs.Image.{Conditional, expressions, statement};
 ghost use Rattle.model.specs.Steps.{steps};
-ghost use Rattle.image.specs.Layout.{few_expressions};
 ghost use Rattle.expression.specs.KeptValues.{ConstantsKept};
-ghost use Rattle.record_writer.specs.Promise.{position_of};
 ghost use Rattle.kept_body.specs.Slot.{WideEnough};
 ghost use Rattle.kept_body.specs.KeptBodies.{BodiesKept};
-ghost use Rattle.gate.specs.RunContext.{SiteContext};
+ghost use Rattle.gate.specs.Running.{AtSite, Ran};
 ghost use Rattle.gate.specs.PlainStatement.{PlainStatement};
 ghost use Rattle.gate.specs.RanSteps.{RanSteps};
-ghost use Rattle.linearize.specs.MainContext.{few_registers, few_body_words, StartContext, MainContext};
-ghost use Rattle.linearize.specs.MainStatement.{MainStatement, IsConditional, main_statement_steps, inner_steps, main_steps};
+ghost use Rattle.linearize.specs.MainContext.{most_table_entries, StartContext};
+ghost use Rattle.linearize.specs.MainStatement.{MainStatement, main_statement_steps, inner_steps, main_steps};
 ghost use Rattle.linearize.specs.Linearizes.{refused_with, Linearizes};
 
-use image::Layout;
-use image_check::LayoutAnswer;
+use argument::Program;
+use expression::KeptValue;
+use gate::Run;
+use image::{Image, Statement};
+use image_check::AcceptedImage;
 use record_writer::{LinearizeError, LinearizeErrorKind, Linearized, Position};
 use statement::Site;
+use value::Value;
 
 // The words of a trace that is long enough for any run: two for each call, and a call goes to a gate of smaller number.
 pub const TRACE_WORDS: usize = 2 * (image::MOST_GATES as usize);
@@ -26,14 +29,14 @@ pub const TRACE_WORDS: usize = 2 * (image::MOST_GATES as usize);
 // The most registers of a program that has few.
 const FEW_REGISTERS: usize = 128;
 
+// The most registers of any program: each has a word of the image.
+const MOST_REGISTERS: usize = image::MOST_WORDS as usize;
+
 // The words that are kept of the bodies of a small program: the width of a slot, and a slot for each gate.
 const FEW_BODY_WORDS: usize = 1024;
 
 // The words that are kept of the bodies of any program.
 const MOST_BODY_WORDS: usize = 1 + kept_body::MOST_SLOT_WORDS * (image::MOST_GATES as usize);
-
-// The most registers of any program: each has a word of the image.
-const MOST_REGISTERS: usize = image::MOST_WORDS as usize;
 
 // Where a statement of main stands, or the inner statement of a conditional.
 fn main_site(statement: u64, levels_left: u64) -> Site
@@ -48,296 +51,150 @@ fn main_site(statement: u64, levels_left: u64) -> Site
 
 // The inner statement of a conditional, and the conditional's end.
 fn visit_inner_statement(
-    image: &[u64],
-    l: Layout,
-    register_starts: &[u64],
-    kept_values: &mut [u64],
-    kept_bodies: &mut [u64],
-    angles: &[u64; expression::FRAME_ANGLE_WORDS],
+    program: &Program<'_>,
+    run: &mut Run<'_>,
+    angles: &[Value; image::FRAME_ANGLES],
     qubits: &[u64; image::FRAME_QUBITS],
     site: Site,
-    out: &mut [u64],
-    trace: &mut [u64],
     at: Position,
 ) -> Linearized
-    requires { SiteContext image.now l register_starts.now kept_values.old kept_bodies.old angles.now qubits.now site out.old trace.old at
-        × PlainStatement image.now l site }
-    ensures { RanSteps (inner_steps image.now angles.now qubits.now site)
-        out.old at trace.old result out.new trace.new
-        × ConstantsKept image.now kept_values.new
-        × BodiesKept image.now kept_bodies.new out.new (position_of result).words }
+    requires { AtSite program.now.image.words.now run.old angles.now qubits.now site at × PlainStatement program.now.image.words.now site }
+    ensures { Ran (inner_steps program.now.image.words.now angles.now qubits.now site) program.now.image.words.now run.old at result run.new }
 {
-    match gate::visit_statement(
-        image,
-        l,
-        register_starts,
-        kept_values,
-        kept_bodies,
-        angles,
-        qubits,
-        site,
-        out,
-        trace,
-        at,
-    ) {
-        Linearized::Done(next) => record_writer::write_conditional_end(out, next),
-        Linearized::Refused(e) => Linearized::Refused(e),
-    }
+    let next = gate::visit_statement(program, run, angles, qubits, site, at)?;
+    record_writer::write_conditional_end(run.out, next)
 }
 
-// A conditional: its start, its inner statement, its end.
+// A conditional over a register: its start, its inner statement, its end.
 fn visit_conditional(
-    image: &[u64],
-    l: Layout,
-    register_starts: &[u64],
-    kept_values: &mut [u64],
-    kept_bodies: &mut [u64],
-    angles: &[u64; expression::FRAME_ANGLE_WORDS],
+    program: &Program<'_>,
+    run: &mut Run<'_>,
+    angles: &[Value; image::FRAME_ANGLES],
     qubits: &[u64; image::FRAME_QUBITS],
     site: Site,
-    out: &mut [u64],
-    trace: &mut [u64],
+    register: u64,
+    value: u64,
+    inner: u64,
     at: Position,
 ) -> Linearized
-    requires { SiteContext image.now l register_starts.now kept_values.old kept_bodies.old angles.now qubits.now site out.old trace.old at
-        × MainStatement image.now l site
-        × IsConditional image.now site }
-    ensures { RanSteps (main_statement_steps image.now angles.now qubits.now site)
-        out.old at trace.old result out.new trace.new
-        × ConstantsKept image.now kept_values.new
-        × BodiesKept image.now kept_bodies.new out.new (position_of result).words }
+    requires { AtSite program.now.image.words.now run.old angles.now qubits.now site at
+        × MainStatement program.now.image.words.now site
+        × (statement program.now.image.words.now site.statement ≡ Conditional register value inner) }
+    ensures { Ran (main_statement_steps program.now.image.words.now angles.now qubits.now site) program.now.image.words.now run.old at result run.new }
 {
-    let place = l.statement_at(site.statement);
-    let register = image::word(image, place + 1);
-    let size = image::word(image, l.classical_register_at(register));
-    let first = register_starts[(l.quantum_registers + register) as usize];
-    let inner = main_site(image::word(image, place + 3), site.levels_left);
-    match record_writer::write_conditional_start(
-        out,
-        at,
-        first,
-        size,
-        image::word(image, place + 2),
-    ) {
-        Linearized::Done(next) => visit_inner_statement(
-            image,
-            l,
-            register_starts,
-            kept_values,
-            kept_bodies,
-            angles,
-            qubits,
-            inner,
-            out,
-            trace,
-            next,
-        ),
-        Linearized::Refused(e) => Linearized::Refused(e),
-    }
+    let image = &program.image;
+    let size = image.word(image.classical_register_at(register));
+    let first = program.register_starts[(image.layout.quantum_registers + register) as usize];
+    let next = record_writer::write_conditional_start(run.out, at, first, size, value)?;
+    let site = main_site(inner, site.levels_left);
+    visit_inner_statement(program, run, angles, qubits, site, next)
 }
 
 // A main statement, which may be a conditional.
 fn visit_main(
-    image: &[u64],
-    l: Layout,
-    register_starts: &[u64],
-    kept_values: &mut [u64],
-    kept_bodies: &mut [u64],
-    angles: &[u64; expression::FRAME_ANGLE_WORDS],
+    program: &Program<'_>,
+    run: &mut Run<'_>,
+    angles: &[Value; image::FRAME_ANGLES],
     qubits: &[u64; image::FRAME_QUBITS],
     site: Site,
-    out: &mut [u64],
-    trace: &mut [u64],
     at: Position,
 ) -> Linearized
-    requires { SiteContext image.now l register_starts.now kept_values.old kept_bodies.old angles.now qubits.now site out.old trace.old at
-        × MainStatement image.now l site }
-    ensures { RanSteps (main_statement_steps image.now angles.now qubits.now site)
-        out.old at trace.old result out.new trace.new
-        × ConstantsKept image.now kept_values.new
-        × BodiesKept image.now kept_bodies.new out.new (position_of result).words }
+    requires { AtSite program.now.image.words.now run.old angles.now qubits.now site at × MainStatement program.now.image.words.now site }
+    ensures { Ran (main_statement_steps program.now.image.words.now angles.now qubits.now site) program.now.image.words.now run.old at result run.new }
 {
-    if image::word(image, l.statement_at(site.statement)) == 7 {
-        return visit_conditional(
-            image,
-            l,
-            register_starts,
-            kept_values,
-            kept_bodies,
-            angles,
-            qubits,
-            site,
-            out,
-            trace,
-            at,
-        );
+    let entry = program.image.statement(site.statement).unwrap();
+    match entry {
+        Statement::Conditional {
+            register,
+            value,
+            statement,
+        } => visit_conditional(
+            program, run, angles, qubits, site, register, value, statement, at,
+        ),
+        _ => gate::visit_statement(program, run, angles, qubits, site, at),
     }
-    gate::visit_statement(
-        image,
-        l,
-        register_starts,
-        kept_values,
-        kept_bodies,
-        angles,
-        qubits,
-        site,
-        out,
-        trace,
-        at,
-    )
 }
 
 // The main statements in turn, with bodies opened so many levels deep.
 fn visit_program(
-    image: &[u64],
-    l: Layout,
-    register_starts: &[u64],
-    kept_values: &mut [u64],
-    kept_bodies: &mut [u64],
+    program: &Program<'_>,
+    run: &mut Run<'_>,
     levels_left: u64,
-    out: &mut [u64],
-    trace: &mut [u64],
     at: Position,
 ) -> Linearized
-    requires { MainContext image.now l register_starts.now out.old trace.old at
-        × ConstantsKept image.now kept_values.old
-        × BodiesKept image.now kept_bodies.old out.old at.words }
-    ensures { RanSteps (main_steps image.now levels_left)
-        out.old at trace.old result out.new trace.new }
+    requires { StartContext run.old.out.now run.old.trace.now at
+        × ConstantsKept program.now.image.words.now run.old.kept_values.now
+        × BodiesKept program.now.image.words.now run.old.kept_bodies.now run.old.out.now at.words }
+    ensures { Ran (main_steps program.now.image.words.now levels_left) program.now.image.words.now run.old at result run.new }
 {
-    let angles = [0u64; expression::FRAME_ANGLE_WORDS];
-    let qubits = [0u64; image::FRAME_QUBITS];
-    let n = l.main_statements;
+    let angles = [expression::zero(); image::FRAME_ANGLES];
+    let qubits = [0; image::FRAME_QUBITS];
     let mut position = at;
-    let mut s = 0u64;
-    while s < n {
-        match visit_main(
-            image,
-            l,
-            register_starts,
-            kept_values,
-            kept_bodies,
-            &angles,
-            &qubits,
-            main_site(s, levels_left),
-            out,
-            trace,
-            position,
-        ) {
-            Linearized::Done(next) => {
-                position = next;
-            }
-            Linearized::Refused(e) => {
-                return Linearized::Refused(e);
-            }
-        }
-        s += 1;
+    for s in 0..program.image.layout.main_statements {
+        let site = main_site(s, levels_left);
+        position = visit_main(program, run, &angles, &qubits, site, position)?;
     }
-    Linearized::Done(position)
+    Ok(position)
 }
 
-// The main statements, with short room for what is kept of bodies.
-fn visit_few_bodies(
-    image: &[u64],
-    l: Layout,
-    register_starts: &[u64],
-    kept_values: &mut [u64],
+// ---- the tables of a run. Each has one of two lengths: a small program should not pay for clearing the tables of a large one.
+
+// The main statements, with a table of N words for what is kept of bodies: the width of a slot, and a slot for each gate.
+fn visit_with_kept_bodies<const N: usize>(
+    program: &Program<'_>,
+    kept_values: &mut [KeptValue],
     slot_width: u64,
     levels_left: u64,
     out: &mut [u64],
     trace: &mut [u64],
     at: Position,
 ) -> Linearized
-    requires { MainContext image.now l register_starts.now out.old trace.old at
-        × ConstantsKept image.now kept_values.old
-        × WideEnough image.now slot_width
-        × (1 + slot_width * l.gates ≤ few_body_words) }
-    ensures { RanSteps (main_steps image.now levels_left)
-        out.old at trace.old result out.new trace.new }
+    requires { StartContext out.old trace.old at
+        × ConstantsKept program.now.image.words.now kept_values.old
+        × WideEnough program.now.image.words.now slot_width
+        × (1 + slot_width * program.now.image.layout.gates ≤ N)
+        × (N ≤ most_table_entries) }
+    ensures { RanSteps (main_steps program.now.image.words.now levels_left) out.old at trace.old result out.new trace.new }
 {
-    let mut kept_bodies = [0u64; FEW_BODY_WORDS];
+    let mut kept_bodies = [0; N];
     kept_bodies[0] = slot_width;
-    visit_program(
-        image,
-        l,
-        register_starts,
+    let mut run = Run {
         kept_values,
-        &mut kept_bodies,
-        levels_left,
+        kept_bodies: &mut kept_bodies,
         out,
         trace,
-        at,
-    )
+    };
+    visit_program(program, &mut run, levels_left, at)
 }
 
-// The main statements, with room for the bodies of as many gates as an image may have.
-fn visit_many_bodies(
-    image: &[u64],
-    l: Layout,
-    register_starts: &[u64],
-    kept_values: &mut [u64],
-    slot_width: u64,
+// The main statements, with a table for what is kept of bodies.
+fn visit_keeping_bodies(
+    program: &Program<'_>,
+    kept_values: &mut [KeptValue],
     levels_left: u64,
     out: &mut [u64],
     trace: &mut [u64],
     at: Position,
 ) -> Linearized
-    requires { MainContext image.now l register_starts.now out.old trace.old at
-        × ConstantsKept image.now kept_values.old
-        × WideEnough image.now slot_width }
-    ensures { RanSteps (main_steps image.now levels_left)
-        out.old at trace.old result out.new trace.new }
+    requires { StartContext out.old trace.old at × ConstantsKept program.now.image.words.now kept_values.old }
+    ensures { RanSteps (main_steps program.now.image.words.now levels_left) out.old at trace.old result out.new trace.new }
 {
-    let mut kept_bodies = [0u64; MOST_BODY_WORDS];
-    kept_bodies[0] = slot_width;
-    visit_program(
-        image,
-        l,
-        register_starts,
-        kept_values,
-        &mut kept_bodies,
-        levels_left,
-        out,
-        trace,
-        at,
-    )
-}
-
-// The main statements, with room for what is kept of bodies: a small program should not pay for clearing the room of a large one.
-fn visit_with_kept_bodies(
-    image: &[u64],
-    l: Layout,
-    register_starts: &[u64],
-    kept_values: &mut [u64],
-    levels_left: u64,
-    out: &mut [u64],
-    trace: &mut [u64],
-    at: Position,
-) -> Linearized
-    requires { MainContext image.now l register_starts.now out.old trace.old at × ConstantsKept image.now kept_values.old }
-    ensures { RanSteps (main_steps image.now levels_left)
-        out.old at trace.old result out.new trace.new }
-{
-    let slot_width = kept_body::slot_width(image, l);
-    if 1 + slot_width * l.gates <= FEW_BODY_WORDS as u64 {
-        return visit_few_bodies(
-            image,
-            l,
-            register_starts,
+    let width = kept_body::slot_width(&program.image);
+    if 1 + width * program.image.layout.gates <= FEW_BODY_WORDS as u64 {
+        return visit_with_kept_bodies::<FEW_BODY_WORDS>(
+            program,
             kept_values,
-            slot_width,
+            width,
             levels_left,
             out,
             trace,
             at,
         );
     }
-    visit_many_bodies(
-        image,
-        l,
-        register_starts,
+    visit_with_kept_bodies::<MOST_BODY_WORDS>(
+        program,
         kept_values,
-        slot_width,
+        width,
         levels_left,
         out,
         trace,
@@ -345,169 +202,104 @@ fn visit_with_kept_bodies(
     )
 }
 
-// The main statements of a program with few expressions.
-fn visit_few_expressions(
-    image: &[u64],
-    l: Layout,
-    register_starts: &[u64],
+// The main statements, with a table of N values that are kept of expressions.
+fn visit_with_kept_values<const N: usize>(
+    program: &Program<'_>,
     levels_left: u64,
     out: &mut [u64],
     trace: &mut [u64],
     at: Position,
 ) -> Linearized
-    requires { MainContext image.now l register_starts.now out.old trace.old at × (l.expressions ≤ few_expressions) }
-    ensures { RanSteps (main_steps image.now levels_left)
-        out.old at trace.old result out.new trace.new }
+    requires { StartContext out.old trace.old at
+        × (expressions program.now.image.words.now ≤ N)
+        × (N ≤ most_table_entries) }
+    ensures { RanSteps (main_steps program.now.image.words.now levels_left) out.old at trace.old result out.new trace.new }
 {
-    let mut kept_values = [0u64; (expression::KEPT_VALUE_WORDS as usize) * image::FEW_EXPRESSIONS];
-    visit_with_kept_bodies(
-        image,
-        l,
-        register_starts,
-        &mut kept_values,
-        levels_left,
-        out,
-        trace,
-        at,
-    )
+    let mut kept_values = [KeptValue::Nothing; N];
+    visit_keeping_bodies(program, &mut kept_values, levels_left, out, trace, at)
 }
 
-// The main statements, with room for the values of as many expressions as an image may have.
-fn visit_many_expressions(
-    image: &[u64],
-    l: Layout,
-    register_starts: &[u64],
+// The main statements, with a table for the values that are kept of expressions.
+fn visit_keeping_values(
+    program: &Program<'_>,
     levels_left: u64,
     out: &mut [u64],
     trace: &mut [u64],
     at: Position,
 ) -> Linearized
-    requires { MainContext image.now l register_starts.now out.old trace.old at }
-    ensures { RanSteps (main_steps image.now levels_left)
-        out.old at trace.old result out.new trace.new }
+    requires { StartContext out.old trace.old at }
+    ensures { RanSteps (main_steps program.now.image.words.now levels_left) out.old at trace.old result out.new trace.new }
 {
-    let mut kept_values = [0u64; (expression::KEPT_VALUE_WORDS as usize) * image::MOST_EXPRESSIONS];
-    visit_with_kept_bodies(
-        image,
-        l,
-        register_starts,
-        &mut kept_values,
-        levels_left,
-        out,
-        trace,
-        at,
-    )
-}
-
-// The main statements, with room for the values of expressions: a small program should not pay for clearing the room of a large one.
-fn visit_with_kept_values(
-    image: &[u64],
-    l: Layout,
-    register_starts: &[u64],
-    levels_left: u64,
-    out: &mut [u64],
-    trace: &mut [u64],
-    at: Position,
-) -> Linearized
-    requires { MainContext image.now l register_starts.now out.old trace.old at }
-    ensures { RanSteps (main_steps image.now levels_left)
-        out.old at trace.old result out.new trace.new }
-{
-    if l.expressions <= image::FEW_EXPRESSIONS as u64 {
-        return visit_few_expressions(image, l, register_starts, levels_left, out, trace, at);
+    if program.image.layout.expressions <= image::FEW_EXPRESSIONS as u64 {
+        return visit_with_kept_values::<{ image::FEW_EXPRESSIONS }>(
+            program,
+            levels_left,
+            out,
+            trace,
+            at,
+        );
     }
-    visit_many_expressions(image, l, register_starts, levels_left, out, trace, at)
+    visit_with_kept_values::<{ image::MOST_EXPRESSIONS }>(program, levels_left, out, trace, at)
 }
 
-// The levels that are opened at a depth: depths 0 and 1 open none.
-fn levels_to_open(depth: u64) -> u64
-    ensures { result ≡ depth - 1 }
-{
-    if depth == 0 { 0 } else { depth - 1 }
-}
-
-// The main statements of a program with few registers.
-fn visit_few_registers(
-    image: &[u64],
-    l: Layout,
+// The main statements, with a table of N entries for where registers start.
+fn visit_with_register_starts<const N: usize>(
+    accepted: &AcceptedImage<'_>,
     levels_left: u64,
     out: &mut [u64],
     trace: &mut [u64],
     at: Position,
 ) -> Linearized
-    requires { StartContext image.now l out.old trace.old at × (l.quantum_registers + l.classical_registers ≤ few_registers) }
-    ensures { RanSteps (main_steps image.now levels_left)
-        out.old at trace.old result out.new trace.new }
+    requires { StartContext out.old trace.old at
+        × (accepted.now.image.layout.quantum_registers + accepted.now.image.layout.classical_registers ≤ N)
+        × (N ≤ most_table_entries) }
+    ensures { RanSteps (main_steps accepted.now.image.words.now levels_left) out.old at trace.old result out.new trace.new }
 {
-    let mut register_starts = [0u64; FEW_REGISTERS];
-    image::put_register_starts(image, l, &mut register_starts);
-    visit_with_kept_values(image, l, &register_starts, levels_left, out, trace, at)
+    let mut register_starts = [0; N];
+    accepted.image.put_register_starts(&mut register_starts);
+    let program = Program {
+        image: accepted.image,
+        register_starts: &register_starts,
+    };
+    visit_keeping_values(&program, levels_left, out, trace, at)
 }
 
-// The main statements, with tables of the starts of as many registers as an image may have.
-fn visit_many_registers(
-    image: &[u64],
-    l: Layout,
+// The main statements, with a table for where registers start.
+fn visit_all(
+    accepted: &AcceptedImage<'_>,
     levels_left: u64,
     out: &mut [u64],
     trace: &mut [u64],
     at: Position,
 ) -> Linearized
-    requires { StartContext image.now l out.old trace.old at }
-    ensures { RanSteps (main_steps image.now levels_left)
-        out.old at trace.old result out.new trace.new }
+    requires { StartContext out.old trace.old at }
+    ensures { RanSteps (main_steps accepted.now.image.words.now levels_left) out.old at trace.old result out.new trace.new }
 {
-    let mut register_starts = [0u64; MOST_REGISTERS];
-    image::put_register_starts(image, l, &mut register_starts);
-    visit_with_kept_values(image, l, &register_starts, levels_left, out, trace, at)
-}
-
-// The main statements, with tables of where registers start: a small program should not pay for clearing the tables of a large one.
-fn visit_with_register_starts(
-    image: &[u64],
-    l: Layout,
-    levels_left: u64,
-    out: &mut [u64],
-    trace: &mut [u64],
-    at: Position,
-) -> Linearized
-    requires { StartContext image.now l out.old trace.old at }
-    ensures { RanSteps (main_steps image.now levels_left)
-        out.old at trace.old result out.new trace.new }
-{
-    if l.quantum_registers + l.classical_registers <= FEW_REGISTERS as u64 {
-        return visit_few_registers(image, l, levels_left, out, trace, at);
+    let layout = accepted.image.layout;
+    if layout.quantum_registers + layout.classical_registers <= FEW_REGISTERS as u64 {
+        return visit_with_register_starts::<FEW_REGISTERS>(accepted, levels_left, out, trace, at);
     }
-    visit_many_registers(image, l, levels_left, out, trace, at)
+    visit_with_register_starts::<MOST_REGISTERS>(accepted, levels_left, out, trace, at)
 }
 
-// The run of an accepted image: the head comes with the first main statement.
+// ---- the run
+
+// The run of an accepted image: the head comes with the first main statement. Depths 0 and 1 open no level.
 fn run_accepted(
-    image: &[u64],
-    l: Layout,
+    accepted: &AcceptedImage<'_>,
     depth: u64,
     out: &mut [u64],
     trace: &mut [u64],
     at: Position,
 ) -> Linearized
-    requires { StartContext image.now l out.old trace.old at }
-    ensures { RanSteps (steps image.now depth)
-        out.old at trace.old result out.new trace.new }
+    requires { StartContext out.old trace.old at }
+    ensures { RanSteps (steps accepted.now.image.words.now depth) out.old at trace.old result out.new trace.new }
 {
-    if l.main_statements == 0 {
-        return Linearized::Done(at);
+    if accepted.image.layout.main_statements == 0 {
+        return Ok(at);
     }
-    match long_record::write_head(out, at, image, l) {
-        Linearized::Done(next) => visit_with_register_starts(
-            image,
-            l,
-            levels_to_open(depth),
-            out,
-            trace,
-            next,
-        ),
-        Linearized::Refused(e) => Linearized::Refused(e),
-    }
+    let next = long_record::write_head(out, at, &accepted.image)?;
+    visit_all(accepted, depth.saturating_sub(1), out, trace, next)
 }
 
 // The position where nothing is written yet.
@@ -522,10 +314,10 @@ fn start() -> Position
 }
 
 // A refusal before the first record.
-fn refused(kind: LinearizeErrorKind) -> Linearized
+fn refused(kind: LinearizeErrorKind) -> LinearizeError
     ensures { result ≡ refused_with kind }
 {
-    Linearized::Refused(LinearizeError { kind, at: start() })
+    LinearizeError { kind, at: start() }
 }
 
 // Writes the finished operations of an image at a depth into the output, or says why not; a refusal's calls stand in the trace.
@@ -533,10 +325,10 @@ pub fn run(image: &[u64], depth: u64, out: &mut [u64], trace: &mut [u64]) -> Lin
     ensures { Linearizes image.now depth out.old trace.old result out.new trace.new }
 {
     if trace.len() < TRACE_WORDS {
-        return refused(LinearizeErrorKind::ShortTrace);
+        return Err(refused(LinearizeErrorKind::ShortTrace));
     }
-    match image_check::accepted_layout(image) {
-        LayoutAnswer::Accepted(l) => run_accepted(image, l, depth, out, trace, start()),
-        LayoutAnswer::Refused(refusal) => refused(LinearizeErrorKind::Flawed(refusal)),
+    match image_check::accepted_image(image) {
+        Ok(accepted) => run_accepted(&accepted, depth, out, trace, start()),
+        Err(refusal) => Err(refused(LinearizeErrorKind::Flawed(refusal))),
     }
 }

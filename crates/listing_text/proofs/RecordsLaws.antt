@@ -11,25 +11,26 @@ use Rattle.record_reader.specs.Answer.{next_words_of}
 use Rattle.model.proofs.ListLaws.{flat_append}
 use Rattle.text.specs.RecordLine.{record_line}
 use Rattle.listing_text.specs.EndText.{WordsOfRecords}
-use Rattle.text.specs.Put.{Put, PutMost}
+use Rattle.text.specs.declared.Text.{Text}
+use Rattle.text.specs.Put.{RoomFor, Put, PutMost}
 use Rattle.text.proofs.PutLaws.{put_none, put_same, put_then, put_length}
 
 abbrev lines_of : List Record → List ℕ
 lines_of rs = flat_map record_line (map encode rs)
 
 -- of some words the records before i are put, and the rest are still to be put
-pub record Reading (ws text : List ℕ) (at i end : ℕ) (text' : List ℕ) : Type 0 where
+pub record Reading (ws : List ℕ) (t : Text) (i : ℕ) (t' : Text) : Type 0 where
   pub before : List Record
   pub rest : List Record
   pub split : ws ≡ flat_map encode before ++ flat_map encode rest
   pub place : i ≡ length (flat_map encode before)
-  pub done : Put (lines_of before) text at end text'
-  pub few : end ≤ at + 21 * i
+  pub done : Put (lines_of before) t t'
+  pub few : t'.end ≤ t.end + 21 * i
 
-pub reading_start : {ws text : List ℕ} {at : ℕ} → WordsOfRecords ws → at ≤ length text → Reading ws text at 0 at text
+pub reading_start : {ws : List ℕ} {t : Text} → WordsOfRecords ws → RoomFor (21 * length ws) t → Reading ws t 0 t
 unfolding flat_map
-reading_start {ws} {text} {at} h k =
-    record { before = []; rest = h.records; split = h.words; place = refl; done = put_none text at k; few = omega arith }
+reading_start h k =
+    record { before = []; rest = h.records; split = h.words; place = refl; done = put_none (omega arith); few = omega arith }
 
 -- the record that stands at i
 record Here (ws : List ℕ) (i : ℕ) (rest : List Record) : Type 0 where
@@ -38,7 +39,7 @@ record Here (ws : List ℕ) (i : ℕ) (rest : List Record) : Type 0 where
   is : rest ≡ one ∷ more
   found : next_words_of (next_at ws i) ≡ encode one
 
-module _ {ws text text' : List ℕ} {at i end : ℕ} (g : Reading ws text at i end text') where
+module _ {ws : List ℕ} {t t' : Text} {i : ℕ} (g : Reading ws t i t') where
   here : i < length ws → Here ws i g.rest
   unfolding flat_map
   here h = go g.rest g.split
@@ -68,10 +69,10 @@ module _ {ws text text' : List ℕ} {at i end : ℕ} (g : Reading ws text at i e
           length-append v (flat_map encode (here h).more),
         )
 
-    pub next_room : at + 21 * length ws ≤ length text → end + 21 * length v ≤ length text'
+    pub next_room : RoomFor (21 * length ws) t → RoomFor (21 * length v) t'
     next_room k = omega (arith, next_inside, g.few, put_length g.done)
 
-    pub reading_more : {end' : ℕ} {text'' : List ℕ} → PutMost (record_line v) (21 * length v) text' end end' text'' → Reading ws text at (i + length v) end' text''
+    pub reading_more : {t'' : Text} → PutMost (record_line v) (21 * length v) t' t'' → Reading ws t (i + length v) t''
     unfolding flat_map
     reading_more p =
         let one = (here h).one in
@@ -92,7 +93,7 @@ module _ {ws text text' : List ℕ} {at i end : ℕ} (g : Reading ws text at i e
         }
 
   -- no record is left
-  pub reading_end : length ws ≤ i → PutMost (flat_map record_line (records_in ws)) (21 * length ws) text at end text'
+  pub reading_end : length ws ≤ i → PutMost (flat_map record_line (records_in ws)) (21 * length ws) t t'
   reading_end h = record { put = put_same (ap (flat_map record_line) (sym all)) g.done; few = omega (arith, g.few, inside) }
     where
       inside : i ≤ length ws

@@ -1,5 +1,5 @@
 -- What stands in the two slices after a run, as text.
-use Prim.Native.Nat.{ℕ, ◌+◌, ◌*◌, ◌≤◌}
+use Prim.Native.Nat.{ℕ, ◌*◌, ◌≤◌}
 use native.Mathlib.Omega.{arith}
 use mathlib.Core.Path.{◌≡◌, refl, sym, ap, subst, ◌∙◌}
 use mathlib.Core.List.{List, [], ◌∷◌, ◌++◌, flat_map, Memᴰ}
@@ -17,14 +17,14 @@ use Rattle.model.specs.All.{All, nil, cons}
 use Rattle.model.proofs.AnglesSound.{step_claims}
 use Rattle.model.proofs.ReadBack.{reads_back}
 use Rattle.model.proofs.Outcome.{records_of, plays_fair, Ran, none, plays, ran_either, claims}
-use Rattle.record_writer.specs.declared.Linearized.{Linearized}
 use Rattle.record_writer.specs.declared.Position.{Position}
 use Rattle.record_writer.specs.declared.LinearizeErrorKind.{LinearizeErrorKind}
 use Rattle.record_writer.specs.declared.LinearizeErrorKind.TheVariants as kind
-use Rattle.record_writer.specs.declared.Linearized.TheVariants as linearized
-use Rattle.record_writer.specs.Promise.{run_answer_of, refusal_answer, position_of}
+use Rattle.std.specs.Prelude.{Ok, Err}
+use Rattle.record_writer.specs.Promise.{RunResult, run_answer_of, refusal_answer, position_of}
 use Rattle.linearize.specs.Linearizes.{Linearizes}
-use Rattle.text.specs.Put.{Put, PutMost}
+use Rattle.text.specs.declared.Text.{Text}
+use Rattle.text.specs.Put.{RoomFor, Put, PutMost}
 use Rattle.text.specs.RecordLine.{record_line}
 use Rattle.listing_text.specs.EndText.{WordsOfRecords, end_text}
 use Rattle.text.proofs.PutLaws.{put_same, put_then, put_length}
@@ -64,10 +64,10 @@ refused_closing kind.OutputFull t n e = refl
 refused_closing (kind.Flawed c) t n e = rw (sym e) refl
 refused_closing kind.ShortTrace t n e = rw (sym e) refl
 
-end_closing : (r : Linearized) (t : List ℕ) → t ≡ trace_of (run_answer_of r t) → end_text r t ≡ closing (run_answer_of r t) (position_of r).records
+end_closing : (r : RunResult) (t : List ℕ) → t ≡ trace_of (run_answer_of r t) → end_text r t ≡ closing (run_answer_of r t) (position_of r).records
 unfolding end_text closing
-end_closing (linearized.Done p) t e = refl
-end_closing (linearized.Refused x) t e = refused_closing x.kind t x.at.records (sym e)
+end_closing (Ok p) t e = refl
+end_closing (Err x) t e = refused_closing x.kind t x.at.records (sym e)
 
 -- ---- a run, from its promise
 
@@ -78,7 +78,7 @@ laid_front ws old = take-append_seam ws (drop (length ws) old)
 laid_fits : (ws old : List ℕ) → length (laid_over ws old) ≡ length old → length ws ≤ length old
 laid_fits ws old e = omega (arith, length-append ws (drop (length ws) old), length-drop (length ws) old)
 
-module _ {image : List ℕ} {depth : ℕ} {out trace : List ℕ} {r : Linearized} {out' trace' : List ℕ} (h : Linearizes image depth out trace r out' trace') where
+module _ {image : List ℕ} {depth : ℕ} {out trace : List ℕ} {r : RunResult} {out' trace' : List ℕ} (h : Linearizes image depth out trace r out' trace') where
   abbrev ran : Played
   ran = runs image depth (length out) (length trace)
 
@@ -92,10 +92,6 @@ module _ {image : List ℕ} {depth : ℕ} {out trace : List ℕ} {r : Linearized
   pub words_fit : (position_of r).words ≤ length out
   unfolding linearize output
   words_fit = rw (ap (λ x. x.output_words) h.outcome) (laid_fits (output ran) out (claims image depth out trace).lengths.0)
-
-  pub trace_fits : (position_of r).trace ≤ length trace
-  unfolding linearize
-  trace_fits = rw (ap (λ x. x.trace_words) h.outcome) (laid_fits (trace_of ran.answer) trace (claims image depth out trace).lengths.1)
 
   pub lines_are : flat_map record_line (records_in (take (position_of r).words out')) ≡ flat_map record_text ran.written
   lines_are = ap (λ l. flat_map record_line (records_in l)) words_are ∙ ap (flat_map record_line) (reads_back ran.written) ∙ records_text_lem ran.written (written_sound image depth (length out) (length trace))
@@ -130,10 +126,6 @@ module _ {image : List ℕ} {depth : ℕ} {out trace : List ℕ} {r : Linearized
     unfolding linearize
     same_out = ap (λ x. length x.output_left) h.outcome ∙ (claims image depth out trace).lengths.0
 
-    same_trace : length trace' ≡ length trace
-    unfolding linearize
-    same_trace = ap (λ x. length x.trace_left) h.outcome ∙ (claims image depth out trace).lengths.1
-
     pub prefix_inside : n ≤ length out'
     prefix_inside = omega (arith, en, words_fit, same_out)
 
@@ -146,20 +138,11 @@ module _ {image : List ℕ} {depth : ℕ} {out trace : List ℕ} {r : Linearized
     prefix_few : length (take n out') ≤ 8192
     prefix_few = omega (arith, prefix_length, prefix_inside, same_out)
 
-    pub lines_room : (m : ℕ) → 262144 ≤ m → 0 + 21 * length (take n out') ≤ m
-    lines_room m k = omega (arith, prefix_few)
-
-    pub trace_inside : (position_of r).trace ≤ length trace'
-    trace_inside = omega (arith, trace_fits, same_trace)
-
-    pub trace_short : length trace' ≤ 256
-    trace_short = omega (arith, same_trace)
-
-    module _ {text text' : List ℕ} {mid : ℕ} (p : PutMost (flat_map record_line (records_in (take n out'))) (21 * length (take n out')) text 0 mid text') where
-      pub end_room : 262144 ≤ length text → mid + 6400 ≤ length text'
+    module _ {t t' : Text} (p : PutMost (flat_map record_line (records_in (take n out'))) (21 * length (take n out')) t t') where
+      pub end_room : RoomFor 262144 t → RoomFor 6400 t'
       end_room k = omega (arith, p.few, prefix_few, put_length p.put)
 
-      pub run_put : {text'' : List ℕ} {end : ℕ} → Put (end_text r calls) text' mid end text'' → Put (run_text (runs image depth 8192 256)) text 0 end text''
+      pub run_put : {t'' : Text} → Put (end_text r calls) t' t'' → Put (run_text (runs image depth 8192 256)) t t''
       unfolding run_text
       run_put q =
           let e : take n out' ≡ take (position_of r).words out' = ap (λ (k : ℕ). take k out') en in

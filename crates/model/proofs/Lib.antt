@@ -25,7 +25,6 @@ pub mod Deep
 pub mod EvaluateLaws
 pub mod Facts
 pub mod RisingLaws
-pub mod StatementOfLaws
 pub mod FlawLaws
 pub mod SetsLaws
 pub mod DecimalLaws

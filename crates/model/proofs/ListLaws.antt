@@ -60,9 +60,3 @@ flat_append g (x ∷ l) m = rw (flat_append g l m, append_assoc (g x) (flat_map 
 pub flat_snoc : {B : Type 0} (g : ℕ → List B) (a n : ℕ) → flat_map g (range a (n + 1)) ≡ flat_map g (range a n) ++ g (a + n)
 unfolding flat_map
 flat_snoc g a n = rw (range_snoc a n, flat_append g (range a n) ((a + n) ∷ []), append-nil (g (a + n))) refl
-
--- ---- numbers
-
--- by itself: with more tests beside them omega goes through too many cases
-pub four_up : (n : ℕ) → ¬ (n ≡ 0) → ¬ (n ≡ 1) → ¬ (n ≡ 2) → ¬ (n ≡ 3) → 4 ≤ n
-four_up n a b c d = omega arith

@@ -1,13 +1,10 @@
 -- Words stored after other words, and the test for room.
-use Prim.Native.Nat.{ℕ, suc, ◌+◌, ◌-◌, ◌≤◌, ◌<◌}
+use Prim.Native.Nat.{ℕ, suc, ◌+◌, ◌≤◌, ◌<◌}
 use native.Mathlib.Nat.{zero-add}
 use native.Mathlib.Numerals.{add-one}
 use native.Mathlib.Omega.{arith}
-use mathlib.Core.Path.{◌≡◌, refl, sym, ◌∙◌}
+use mathlib.Core.Path.{◌≡◌, refl, ◌∙◌}
 use mathlib.Core.List.{List, [], ◌∷◌, ◌++◌, flat_map}
-use mathlib.Core.Bool.{Bool, true, false}
-use lib.Dec.{ltb}
-use borrow.Author.Tests.{ltb-true, ltb-false, lt-ltb, le-ltb}
 use lib.ListN.{length, set, take, drop, get_or}
 use lib.Seq.{sets, sets-eq, take-suc, take-append_seam, length-take-le}
 use Rattle.model.specs.Lists.{range}
@@ -28,14 +25,6 @@ pub put_next_word : {out' : List ℕ} (out : List ℕ) (start i : ℕ) (ws : Lis
 put_next_word out start i ws h e =
     let n = length-take-le i ws (omega arith) in
     put_more out start (start + i) (take i ws) (get_or ws i 0 ∷ []) (omega arith) e refl ∙ rw (add-one i, take-suc ws i 0) refl
-
--- the test for room, over the words left and over the position
-pub left_test : (w m n : ℕ) → w ≤ m → ltb (m - w) n ≡ ltb m (w + n)
-left_test w m n h = go (ltb m (w + n)) refl
-  where
-    go : (b : Bool) → ltb m (w + n) ≡ b → ltb (m - w) n ≡ ltb m (w + n)
-    go true e = let l = ltb-true m (w + n) e in lt-ltb (m - w) n (omega arith) ∙ sym e
-    go false e = let l = ltb-false m (w + n) e in le-ltb (m - w) n (omega arith) ∙ sym e
 
 pub three_put : (out : List ℕ) (p a b c : ℕ) → set (set (set out p a) (p + 1) b) (p + 2) c ≡ sets out p (a ∷ b ∷ c ∷ [])
 three_put out p a b c = let q : p + 2 ≡ suc (suc p) = omega arith in rw (q, add-one p) refl

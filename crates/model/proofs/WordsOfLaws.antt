@@ -1,51 +1,18 @@
 -- Words are read from bytes one after the other, and the words of an image that is too long may be capped.
 use Prim.Native.Nat.{ℕ, zero, suc, ◌+◌, ◌*◌, ◌≤◌, ◌<◌, min}
-use native.Mathlib.Numerals.{add-one, add-two}
+use native.Mathlib.Numerals.{add-one}
 use native.Mathlib.Omega.{arith}
 use mathlib.Core.Path.{◌≡◌, refl, sym, ap, ◌∙◌}
 use mathlib.Core.Bool.{Bool, true, false}
 use mathlib.Core.List.{List, [], ◌∷◌, ◌++◌}
 use borrow.Author.Tests.{le-leb, lt-leb, ltb-true, ltb-false}
 use lib.Dec.{ltb}
-use lib.ListN.{length, get_or, take, drop, set, replicate, length-replicate}
-use lib.Seq.{sets, sets-eq, length-sets, length-take-le, take-append_seam, drop-cons, drop-drop}
+use lib.ListN.{length, get_or, take, drop, set}
+use lib.Seq.{sets, sets-eq, take-append_seam, drop-drop}
 use Rattle.model.specs.Lists.{every}
 use Rattle.model.specs.Check.{bad, contents_ok, check}
 use Rattle.model.specs.Listing.{little_endian, words_of}
 use Rattle.model.proofs.PlayLaws.{sets_append}
-
--- ---- eight bytes
-
-four : (l : List ℕ) (at : ℕ) → at + 4 ≤ length l → drop at l ≡ get_or l at 0 ∷ get_or l (at + 1) 0 ∷ get_or l (at + 2) 0 ∷ get_or l (at + 3) 0 ∷ drop (at + 4) l
-four l at h =
-    let three : at + 3 ≡ suc (suc (suc at)) = omega arith in
-    let all : at + 4 ≡ suc (suc (suc (suc at))) = omega arith in
-    rw (
-      add-one at,
-      add-two at,
-      three,
-      all,
-      drop-cons l at 0 (omega arith),
-      drop-cons l (suc at) 0 (omega arith),
-      drop-cons l (suc (suc at)) 0 (omega arith),
-      drop-cons l (suc (suc (suc at))) 0 (omega arith),
-    )
-    refl
-
-pub half_is : (l : List ℕ) (at : ℕ) → at + 4 ≤ length l
-    → get_or l at 0 + 256 * (get_or l (at + 1) 0 + 256 * (get_or l (at + 2) 0 + 256 * get_or l (at + 3) 0)) ≡ little_endian (take 4 (drop at l))
-unfolding little_endian
-half_is l at h = rw (four l at h) (omega arith)
-
-pub word_is : (l : List ℕ) (at : ℕ) {low high : ℕ} → at + 8 ≤ length l → low ≡ little_endian (take 4 (drop at l)) → high ≡ little_endian (take 4 (drop (at + 4) l))
-    → low + 4294967296 * high ≡ little_endian (take 8 (drop at l))
-unfolding little_endian
-word_is l at h e f =
-    let a = four l at (omega arith) in
-    let b = four l (at + 4) (omega arith) in
-    let e' = rw a at e in
-    let f' = rw b at f in
-    rw (a, b) (omega arith)
 
 -- ---- words
 
@@ -83,12 +50,6 @@ sets_front : (us ws : List ℕ) → length us ≤ length ws → take (length us)
 sets_front us ws h = rw (sets-eq us ws 0 (omega arith)) (take-append_seam us (drop (0 + length us) ws))
 
 module _ (ws bytes : List ℕ) {ws' : List ℕ} {n : ℕ} (h : n ≤ length ws) (e : ws' ≡ sets ws 0 (words_of n bytes)) where
-  pub read_inside : n ≤ length ws'
-  read_inside = omega (arith, ap length e, length-sets ws 0 (words_of n bytes))
-
-  pub read_length : n ≡ length (take n ws')
-  read_length = sym (length-take-le n ws' read_inside)
-
   pub read_front : take n ws' ≡ words_of n bytes
   read_front =
       let k = length_words n bytes in
@@ -105,14 +66,6 @@ parted f bytes e = rw e refl
 pub too_long : (image : List ℕ) → 8192 < length image → check image ≡ bad 1 0
 unfolding check contents_ok every
 too_long image h = rw (lt-leb (length image) 8192 h, le-leb 9 (length image) (omega arith)) refl
-
--- room for the words that are looked at, and words enough
-module _ (m most : ℕ) {n : ℕ} (e : n ≡ min m most) where
-  pub at_most_fits : n ≤ length (replicate {A = ℕ} most 0)
-  at_most_fits = omega (arith, length-replicate {A = ℕ} most 0)
-
-  pub at_most_inside : (input : List ℕ) (from : ℕ) → from + 8 * m ≤ length input → from + 8 * n ≤ length input
-  at_most_inside input from h = omega arith
 
 -- of m words, the first 8,193 at most: the same to all that answers images that are too long alike
 pub at_most_same : {A : Type 0} (f : List ℕ → A) (long : A) → ((image : List ℕ) → 8192 < length image → f image ≡ long)

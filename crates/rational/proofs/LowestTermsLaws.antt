@@ -7,20 +7,16 @@ use native.Mathlib.Omega.{arith}
 use lib.Dec.{ltb, eqb}
 use borrow.Author.Tests.{ltb-true}
 use Rattle.rational.specs.Gcd.{gcd}
-use Rattle.rational.specs.Rational.{LowestTerms, magnitude_in_range, reduced, checked, unlike, sum_magnitude, sum_sign, common_denominator, all_in_range, fraction_sum, opposite, difference, product, reciprocal, quotient, power, fractional_part, both}
+use Rattle.rational.specs.Rational.{LowestTerms, magnitude_in_range, reduced, checked, unlike, sum_magnitude, sum_sign, common_denominator, all_in_range, fraction_sum, opposite, difference, product, reciprocal, quotient, power, fractional_part}
 use Rattle.rational.specs.Promise.{SoundOption, ChecksTo}
 use Rattle.rational.specs.declared.Rational64.{Rational64}
-use Rattle.rational.specs.declared.OptionRational64.{OptionRational64}
-use Rattle.rational.specs.declared.OptionRational64.TheVariants.{Some, None}
+use Rattle.std.specs.Prelude.{Option, Some, None}
 use Rattle.rational.proofs.GcdLaws.{gcd_dvd_right, gcd_reduced, gcd_comm, gcd_step, pos_factor}
 use Rattle.rational.proofs.SumLaws.{common_pos}
 
 -- ---- a promise from its equation
-pub checks_to : {defined result : OptionRational64} → result ≡ defined → SoundOption defined → ChecksTo defined result
+pub checks_to : {defined result : Option Rational64} → result ≡ defined → SoundOption defined → ChecksTo defined result
 checks_to e s = record { is = e; sound = subst SoundOption (sym e) s }
-
-pub checks_to_both : (op : Rational64 → Rational64 → OptionRational64) (x y r : OptionRational64) (a b : Rational64) → x ≡ Some a → y ≡ Some b → ChecksTo (op a b) r → ChecksTo (both op x y) r
-checks_to_both op x y r a b p q g = record { is = g.is ∙ sym (rw (p, q)); sound = g.sound }
 
 -- ---- a fraction that is tested, or none
 pub tested : (b : Bool) (x : Rational64) → (b ≡ true → LowestTerms x) → SoundOption (cond b (Some x) None)

@@ -9,7 +9,7 @@ use borrow.Author.Tests.{lt-ltb, le-ltb}
 use Rattle.rational.specs.Gcd.{gcd}
 use Rattle.rational.specs.Rational.{LowestTerms, ratio, reduced, checked, unlike, sum_magnitude, sum_sign, common_denominator, all_in_range, opposite, fraction_sum, product, quotient, power}
 use Rattle.rational.specs.declared.Rational64.{Rational64}
-use Rattle.rational.specs.declared.OptionRational64.TheVariants.{Some}
+use Rattle.std.specs.Prelude.{Some}
 use Rattle.rational.proofs.GcdLaws.{gcd_dvd_right, lowest_is}
 use Rattle.rational.proofs.SumLaws.{sum_is}
 use Rattle.rational.proofs.LowestTermsLaws.{opposite_lowest}

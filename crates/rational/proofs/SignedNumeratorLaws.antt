@@ -10,7 +10,7 @@ use borrow.Author.Tests.{ltb-true, ltb-false, lt-ltb, le-ltb}
 use Rattle.rational.specs.Gcd.{gcd}
 use Rattle.rational.specs.Rational.{LowestTerms, magnitude_in_range, signed_integer, reduced, unlike, sum_magnitude, sum_sign, common_denominator, all_in_range, fraction_sum, opposite, difference, product, quotient}
 use Rattle.rational.specs.declared.Rational64.{Rational64}
-use Rattle.rational.specs.declared.OptionRational64.TheVariants.{Some, None}
+use Rattle.std.specs.Prelude.{Some, None}
 use Rattle.rational.proofs.GcdLaws.{gcd_dvd_left, gcd_dvd_right, gcd_pos, lowest_unique}
 use Rattle.rational.proofs.LowestTermsLaws.{opposite_lowest}
 

@@ -1,6 +1,6 @@
 -- The sum whose steps are each capped at the limit is the definition's sum.
 use mathlib.Core.Path.{◌≡◌, refl, sym, ap, ◌∙◌, subst}
-use mathlib.Core.Bool.{Bool, true, false, ◌&&◌, cond}
+use mathlib.Core.Bool.{Bool, true, false, not, beq, ◌&&◌, cond}
 use Prim.Native.Nat.{ℕ, ◌*◌, ◌/◌, ◌<◌, ◌^◌, min}
 use native.Mathlib.Nat.{mul-pos, mul-div_cancel'}
 use native.Mathlib.Omega.{arith}
@@ -9,12 +9,18 @@ use borrow.Author.Tests.{ltb-true, ltb-false, le-ltb}
 use Rattle.rational.specs.Gcd.{gcd}
 use Rattle.rational.proofs.GcdLaws.{gcd_dvd_left, pos_factor}
 use Rattle.rational.specs.declared.Rational64.{Rational64}
-use Rattle.rational.specs.declared.OptionRational64.{OptionRational64}
-use Rattle.rational.specs.declared.OptionRational64.TheVariants.{Some, None}
+use Rattle.std.specs.Prelude.{Option, Some, None}
 use Rattle.rational.specs.Rational.{reduced, unlike, common_denominator, sum_magnitude, sum_sign, all_in_range, fraction_sum}
 
+-- Whether two signs differ, by the comparison of the code.
+pub unlike_is : (s t : Bool) → not (beq s t) ≡ unlike s t
+unlike_is true true = refl
+unlike_is true false = refl
+unlike_is false true = refl
+unlike_is false false = refl
+
 -- A number that must be below the limit may be capped at the limit before it is tested.
-capped_any : (a : ℕ) (F : ℕ → Bool → OptionRational64) → ((x : ℕ) → F x false ≡ None) → F (min a (2 ^ 63)) (ltb (min a (2 ^ 63)) (2 ^ 63)) ≡ F a (ltb a (2 ^ 63))
+capped_any : (a : ℕ) (F : ℕ → Bool → Option Rational64) → ((x : ℕ) → F x false ≡ None) → F (min a (2 ^ 63)) (ltb (min a (2 ^ 63)) (2 ^ 63)) ≡ F a (ltb a (2 ^ 63))
 capped_any a F h = go (ltb a (2 ^ 63)) refl
   where
     kept : ltb a (2 ^ 63) ≡ true → min a (2 ^ 63) ≡ a
@@ -28,15 +34,15 @@ capped_any a F h = go (ltb a (2 ^ 63)) refl
     go false e = ap (F (min a (2 ^ 63))) (capped e) ∙ h (min a (2 ^ 63)) ∙ sym (h a) ∙ ap (F a) (sym e)
 
 -- Tests of which the last one fails give nothing.
-no1 : (b : Bool) (v : OptionRational64) → cond (b && false) v None ≡ None
+no1 : (b : Bool) (v : Option Rational64) → cond (b && false) v None ≡ None
 no1 true v = refl
 no1 false v = refl
 
-no2 : (a b : Bool) (v : OptionRational64) → cond (a && (b && false)) v None ≡ None
+no2 : (a b : Bool) (v : Option Rational64) → cond (a && (b && false)) v None ≡ None
 no2 true b v = no1 b v
 no2 false b v = refl
 
-no3 : (a b d : Bool) (v : OptionRational64) → cond (a && (b && (d && false))) v None ≡ None
+no3 : (a b d : Bool) (v : Option Rational64) → cond (a && (b && (d && false))) v None ≡ None
 no3 true b d v = no2 b d v
 no3 false b d v = refl
 

@@ -10,17 +10,15 @@ use Rattle.rational.specs.Root.{root}
 use Rattle.rational.specs.Rational.{LowestTerms, ratio, whole_root, root_ratio, rational_root}
 use Rattle.rational.specs.Promise.{SoundOption}
 use Rattle.rational.specs.declared.Rational64.{Rational64}
-use Rattle.rational.specs.declared.OptionRational64.TheVariants.{Some, None}
-use Rattle.rational.specs.declared.WholeRoot.{WholeRoot}
-use Rattle.rational.specs.declared.WholeRoot.TheVariants.{Whole, Absent}
+use Rattle.std.specs.Prelude.{Option, Some, None}
 use Rattle.rational.proofs.GcdLaws.{coprime_parts, coprime_pow, lowest_unique}
 use Rattle.rational.proofs.RootLaws.{root_is, root_unique}
 
-pub whole_root_is : (k n r : ℕ) → whole_root k n ≡ Whole r → r ^ k ≡ n
+pub whole_root_is : (k n r : ℕ) → whole_root k n ≡ Some r → r ^ k ≡ n
 unfolding whole_root
 whole_root_is k n r = go (eqb (root k n ^ k) n) refl
   where
-    go : (b : Bool) → eqb (root k n ^ k) n ≡ b → cond b (Whole (root k n)) Absent ≡ Whole r → r ^ k ≡ n
+    go : (b : Bool) → eqb (root k n ^ k) n ≡ b → cond b (Some (root k n)) None ≡ Some r → r ^ k ≡ n
     go true t e = let q : root k n ≡ r = cc in subst (λ (z : ℕ). z ^ k ≡ n) q (eqb-true (root k n ^ k) n t)
     go false t e = absurd (let z : ◌≡◌ {A = ℕ} 0 1 = cc in omega arith)
 
@@ -30,7 +28,7 @@ power_grows k r h = pow-lt-pow_left (more r) (λ e. lt_irrefl 0 (subst (λ (z : 
     more : (r : ℕ) → r < r + 1
     more r = omega arith
 
-pub whole_root_found : (k n r : ℕ) → 0 < k → r ^ k ≡ n → whole_root k n ≡ Whole r
+pub whole_root_found : (k n r : ℕ) → 0 < k → r ^ k ≡ n → whole_root k n ≡ Some r
 unfolding whole_root
 whole_root_found k n r h e =
     let same : root k n ≡ r = root_unique k n (root k n) r (root_is k n h) (le_of_eq e, subst (λ (z : ℕ). z < (r + 1) ^ k) e (power_grows k r h)) in
@@ -63,10 +61,10 @@ pub root_sound : (x : Rational64) (k : ℕ) → LowestTerms x → 0 < k → Soun
 unfolding rational_root
 root_sound x k l h = signed x.negative
   where
-    ratios : (n d : WholeRoot) → whole_root k x.numer ≡ n → whole_root k x.denom ≡ d → SoundOption (root_ratio n d)
-    ratios (Whole a) (Whole b) p q = roots_lowest x k a b l h (whole_root_is k x.numer a p) (whole_root_is k x.denom b q)
-    ratios (Whole a) Absent p q = tt
-    ratios Absent d p q = tt
+    ratios : (n d : Option ℕ) → whole_root k x.numer ≡ n → whole_root k x.denom ≡ d → SoundOption (root_ratio n d)
+    ratios (Some a) (Some b) p q = roots_lowest x k a b l h (whole_root_is k x.numer a p) (whole_root_is k x.denom b q)
+    ratios (Some a) None p q = tt
+    ratios None d p q = tt
 
     signed : (s : Bool) → SoundOption (cond s None (root_ratio (whole_root k x.numer) (whole_root k x.denom)))
     signed true = tt
@@ -80,12 +78,12 @@ rational_root_is x r k = signed x.negative refl
     no : None ≡ Some r → ⊥
     no e = let z : ◌≡◌ {A = ℕ} 0 1 = cc in omega arith
 
-    ratios : (n d : WholeRoot) → whole_root k x.numer ≡ n → whole_root k x.denom ≡ d → root_ratio n d ≡ Some r → (r.negative ≡ false) × (r.numer ^ k ≡ x.numer) × (r.denom ^ k ≡ x.denom)
-    ratios (Whole a) (Whole b) p q e =
+    ratios : (n d : Option ℕ) → whole_root k x.numer ≡ n → whole_root k x.denom ≡ d → root_ratio n d ≡ Some r → (r.negative ≡ false) × (r.numer ^ k ≡ x.numer) × (r.denom ^ k ≡ x.denom)
+    ratios (Some a) (Some b) p q e =
         let i : ratio false a b ≡ r = cc in
         subst (λ (z : Rational64). (z.negative ≡ false) × (z.numer ^ k ≡ x.numer) × (z.denom ^ k ≡ x.denom)) i (refl, whole_root_is k x.numer a p, whole_root_is k x.denom b q)
-    ratios (Whole a) Absent p q e = absurd (no e)
-    ratios Absent d p q e = absurd (no e)
+    ratios (Some a) None p q e = absurd (no e)
+    ratios None d p q e = absurd (no e)
 
     signed : (s : Bool) → x.negative ≡ s → cond s None (root_ratio (whole_root k x.numer) (whole_root k x.denom)) ≡ Some r
         → (x.negative ≡ false) × (r.negative ≡ false) × (r.numer ^ k ≡ x.numer) × (r.denom ^ k ≡ x.denom)

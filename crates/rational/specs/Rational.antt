@@ -1,13 +1,9 @@
 -- Document 01, "Fractions and angles": the fractions. A fraction is a sign and two magnitudes; `proofs/SignedNumeratorLaws.antt` ties them to ℤ.
-use Rattle.std.specs.Prelude.{ℕ, ◌+◌, ◌-◌, ◌*◌, ◌/◌, ◌%◌, ◌^◌, ◌<◌, ◌≡◌, Bool, true, false, not, ◌&&◌, cond, ltb, eqb, ℤ, pos, neg_ℤ}
+use Rattle.std.specs.Prelude.{Option, Some, None, ℕ, ◌+◌, ◌-◌, ◌*◌, ◌/◌, ◌%◌, ◌^◌, ◌<◌, ◌≡◌, Bool, true, false, not, ◌&&◌, cond, ltb, eqb, ℤ, pos, neg_ℤ}
 use Rattle.std.specs.Bool.{beq}
 use Rattle.rational.specs.Gcd.{gcd}
 use Rattle.rational.specs.Root.{root}
 use Rattle.rational.specs.declared.Rational64.{Rational64}
-use Rattle.rational.specs.declared.OptionRational64.{OptionRational64}
-use Rattle.rational.specs.declared.OptionRational64.TheVariants.{Some, None}
-use Rattle.rational.specs.declared.WholeRoot.{WholeRoot}
-use Rattle.rational.specs.declared.WholeRoot.TheVariants.{Whole, Absent}
 
 -- The first magnitude out of range.
 abbrev pub magnitude_limit : ℕ
@@ -39,7 +35,7 @@ abbrev pub reduced : Bool → ℕ → ℕ → Rational64
 reduced s n d = ratio s (n / gcd n d) (d / gcd n d)
 
 -- "overflow exactly if the reduced result leaves the range". An overflow is None.
-abbrev pub checked : Rational64 → OptionRational64
+abbrev pub checked : Rational64 → Option Rational64
 checked x = cond (magnitude_in_range x.numer && magnitude_in_range x.denom) (Some x) None
 
 -- Whether two signs differ, which is the sign of a product.
@@ -65,7 +61,7 @@ abbrev pub all_in_range : ℕ → ℕ → ℕ → ℕ → Bool
 all_in_range l p q s = magnitude_in_range l && (magnitude_in_range p && (magnitude_in_range q && magnitude_in_range s))
 
 -- "Sum of a/b and c/d: g = gcd(b,d), l = b/g·d, p = l/b·a, q = l/d·c, s = p+q, then s/l reduced. Overflow exactly if l, p, q or s leaves the range."
-unfoldable pub fraction_sum : Rational64 → Rational64 → OptionRational64
+unfoldable pub fraction_sum : Rational64 → Rational64 → Option Rational64
 fraction_sum x y =
     let l = common_denominator x.denom y.denom in
     let p = l / x.denom * x.numer in
@@ -78,11 +74,11 @@ abbrev pub opposite : Rational64 → Rational64
 opposite y = ratio (not y.negative) y.numer y.denom
 
 -- "Difference likewise." The difference is the sum with the opposite.
-unfoldable pub difference : Rational64 → Rational64 → OptionRational64
+unfoldable pub difference : Rational64 → Rational64 → Option Rational64
 difference x y = fraction_sum x (opposite y)
 
 -- "Product, quotient, power: exact, overflow exactly if the reduced result leaves the range."
-unfoldable pub product : Rational64 → Rational64 → OptionRational64
+unfoldable pub product : Rational64 → Rational64 → Option Rational64
 product x y = checked (reduced (unlike x.negative y.negative) (x.numer * y.numer) (x.denom * y.denom))
 
 -- The reciprocal 1/y of a fraction y that is not 0.
@@ -90,25 +86,25 @@ abbrev pub reciprocal : Rational64 → Rational64
 reciprocal y = record { negative = y.negative; numer = y.denom; denom = y.numer }
 
 -- The quotient by a fraction y that is not 0.
-unfoldable pub quotient : Rational64 → Rational64 → OptionRational64
+unfoldable pub quotient : Rational64 → Rational64 → Option Rational64
 quotient x y = checked (reduced (unlike x.negative y.negative) (x.numer * y.denom) (x.denom * y.numer))
 
 -- The power with a whole exponent k; 0 to the power 0 is 1. The definition does not compute where k is huge.
-unfoldable pub power : Rational64 → ℕ → OptionRational64
+unfoldable pub power : Rational64 → ℕ → Option Rational64
 power x k = checked (reduced (x.negative && eqb (k % 2) 1) (x.numer ^ k) (x.denom ^ k))
 
 -- The number r with r ^ k = n, if there is one, for k above 1.
-unfoldable pub whole_root : ℕ → ℕ → WholeRoot
-whole_root k n = cond (eqb (root k n ^ k) n) (Whole (root k n)) Absent
+unfoldable pub whole_root : ℕ → ℕ → Option ℕ
+whole_root k n = cond (eqb (root k n ^ k) n) (Some (root k n)) None
 
 -- The ratio of two roots, if both are whole.
-abbrev pub root_ratio : WholeRoot → WholeRoot → OptionRational64
-root_ratio (Whole a) (Whole b) = Some (ratio false a b)
-root_ratio (Whole a) Absent = None
-root_ratio Absent b = None
+abbrev pub root_ratio : Option ℕ → Option ℕ → Option Rational64
+root_ratio (Some a) (Some b) = Some (ratio false a b)
+root_ratio (Some a) None = None
+root_ratio None b = None
 
 -- The k-th root of a fraction for k above 1, if the fraction is not negative and both numerator and denominator have a whole k-th root.
-unfoldable pub rational_root : ℕ → Rational64 → OptionRational64
+unfoldable pub rational_root : ℕ → Rational64 → Option Rational64
 rational_root k x = cond x.negative None (root_ratio (whole_root k x.numer) (whole_root k x.denom))
 
 -- The fraction without its whole part, "toward zero".
@@ -124,10 +120,10 @@ abbrev pub same_fraction : Rational64 → Rational64 → Bool
 same_fraction x y = beq x.negative y.negative && (eqb x.numer y.numer && eqb x.denom y.denom)
 
 -- A further operation on a fraction, if there is one: an overflow stands.
-abbrev pub and_then_option : OptionRational64 → (Rational64 → OptionRational64) → OptionRational64
+abbrev pub and_then_option : Option Rational64 → (Rational64 → Option Rational64) → Option Rational64
 and_then_option (Some x) op = op x
 and_then_option None op = None
 
 -- An operation on two fractions, if both are there: an overflow stands.
-abbrev pub both : (Rational64 → Rational64 → OptionRational64) → OptionRational64 → OptionRational64 → OptionRational64
+abbrev pub both : (Rational64 → Rational64 → Option Rational64) → Option Rational64 → Option Rational64 → Option Rational64
 both op x y = and_then_option x (λ a. and_then_option y (λ b. op a b))

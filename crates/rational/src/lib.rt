@@ -1,33 +1,18 @@
 // Fractions in lowest terms, a sign beside two magnitudes: the stand-in for num's Rational64.
 #![tactic(auto)]
 
-ghost use Rattle.std.specs.Prelude.{◌≡◌, ◌&&◌, ltb, eqb, ◌+◌, ◌-◌, ◌*◌, ◌/◌, ◌%◌, ◌<◌, ◌≤◌, ◌^◌, min};
-ghost use Rattle.std.specs.Bool.{beq};
+ghost use Rattle.std.specs.Prelude.{◌≡◌, ◌&&◌, ltb, eqb, ◌*◌, ◌%◌, ◌<◌, ◌≤◌, ◌^◌, min};
 ghost use Rattle.rational.specs.Gcd.{gcd};
 ghost use Rattle.rational.specs.Root.{root};
-ghost use Rattle.rational.specs.Rational.{magnitude_limit, LowestTerms, reduced, checked, unlike, opposite, reciprocal, fractional_part, same_fraction, both};
-ghost use Rattle.rational.specs.Rational.{sum_magnitude, sum_sign, common_denominator, all_in_range, fraction_sum, difference, product, quotient, power, whole_root, root_ratio, rational_root};
-ghost use Rattle.rational.specs.Promise.{SoundOption, ChecksTo};
+ghost use Rattle.rational.specs.Rational.{magnitude_limit, LowestTerms, reduced, checked, opposite, reciprocal, fractional_part};
+ghost use Rattle.rational.specs.Rational.{sum_magnitude, sum_sign, common_denominator, all_in_range, fraction_sum, difference, product, quotient, power, whole_root, rational_root};
+ghost use Rattle.rational.specs.Promise.{ChecksTo};
 
-#[derive(Clone, Copy)]
+#[derive(Clone, Copy, PartialEq, Eq)]
 pub struct Rational64 {
     pub negative: bool,
     pub numer: u64,
     pub denom: u64,
-}
-
-// Option<Rational64> in the Rust: None is an overflow, or a root that is no fraction.
-#[derive(Clone, Copy)]
-pub enum OptionRational64 {
-    Some(Rational64),
-    None,
-}
-
-// Option<u64> in the Rust: a root that is a whole number.
-#[derive(Clone, Copy)]
-pub enum WholeRoot {
-    Whole(u64),
-    Absent,
 }
 
 // 2^63, the first magnitude out of range. A step that passes it is capped at it, and the range is tested once at the end.
@@ -36,8 +21,8 @@ pub const MAGNITUDE_LIMIT: u64 = 0x8000_0000_0000_0000;
 // 2^32. The square root of a magnitude in range is below it, and so is every further root.
 const ROOT_LIMIT: u64 = 0x1_0000_0000;
 
-// 2^31. A number below it times a number below 2^32 is in range.
-const SHORT_FACTOR_LIMIT: u64 = MAGNITUDE_LIMIT / ROOT_LIMIT;
+// 2^63 is the limit of a magnitude.
+pub const MAGNITUDE_BITS: u64 = 63;
 
 // The greatest common divisor, by Euclid's steps.
 pub fn gcd(a: u64, b: u64) -> u64
@@ -46,9 +31,7 @@ pub fn gcd(a: u64, b: u64) -> u64
     let mut x = a;
     let mut y = b;
     while y != 0 {
-        let t = x % y;
-        x = y;
-        y = t;
+        (x, y) = (y, x % y);
     }
     x
 }
@@ -57,70 +40,38 @@ pub fn gcd(a: u64, b: u64) -> u64
 pub fn capped_mul(a: u64, b: u64) -> u64
     ensures { result ≡ min (a * b) magnitude_limit }
 {
-    // Short factors, as most are, need no division.
-    if a < ROOT_LIMIT {
-        if b < SHORT_FACTOR_LIMIT {
-            return a * b;
-        }
-    }
-    if a == 0 {
-        return 0;
-    }
-    if b <= MAGNITUDE_LIMIT / a {
-        return a * b;
-    }
-    MAGNITUDE_LIMIT
+    let product = a as u128 * b as u128;
+    product.min(MAGNITUDE_LIMIT as u128) as u64
 }
 
-// b^k, capped at the limit, after at most 64 turns of the loop.
+// b^k, capped at the limit. Where b is 0 or 1, the power is the same for all k above 0; otherwise it is at the limit from k = 63 on.
 pub fn capped_pow(b: u64, k: u64) -> u64
     ensures { result ≡ min (b ^ k) magnitude_limit }
 {
-    if k == 0 {
-        return 1;
-    }
-    if b <= 1 {
-        return b;
-    }
-    let mut r = 1u64;
-    let mut i = 0u64;
-    while i < k {
-        if MAGNITUDE_LIMIT <= r {
-            return MAGNITUDE_LIMIT;
-        }
-        r = capped_mul(r, b);
-        i += 1;
-    }
-    r
-}
-
-// Whether two signs differ.
-pub fn signs_differ(s: bool, t: bool) -> bool
-    ensures { result ≡ unlike s t }
-{
-    if s { !t } else { t }
+    b.saturating_pow(k.min(MAGNITUDE_BITS) as u32)
+        .min(MAGNITUDE_LIMIT)
 }
 
 // The sign of ±n. Zero has none.
 pub fn sign_unless_zero(negative: bool, n: u64) -> bool
     ensures { result ≡ (negative && ltb 0 n) }
 {
-    if negative { 0 < n } else { false }
+    negative && 0 < n
 }
 
 // The fraction, if it is in range.
-pub fn range_checked(x: Rational64) -> OptionRational64
+pub fn range_checked(x: Rational64) -> Option<Rational64>
     ensures { result ≡ checked x }
 {
-    if x.numer < MAGNITUDE_LIMIT {
-        if x.denom < MAGNITUDE_LIMIT {
-            return OptionRational64::Some(x);
-        }
+    if x.numer < MAGNITUDE_LIMIT && x.denom < MAGNITUDE_LIMIT {
+        Some(x)
+    } else {
+        None
     }
-    OptionRational64::None
 }
 
 // ±n/d in lowest terms.
+#[tactic(auto, using(crate::proofs::GcdLaws::gcd_pos))]
 fn lowest_terms(negative: bool, n: u64, d: u64) -> Rational64
     requires { 0 < d }
     ensures { result ≡ reduced negative n d }
@@ -135,6 +86,7 @@ fn lowest_terms(negative: bool, n: u64, d: u64) -> Rational64
 }
 
 // The common denominator of a sum, capped at the limit.
+#[tactic(auto, using(crate::proofs::GcdLaws::gcd_pos))]
 fn common_denominator(b: u64, d: u64) -> u64
     requires { 0 < d }
     ensures { result ≡ min (common_denominator b d) magnitude_limit }
@@ -149,15 +101,10 @@ fn sum_magnitude(differ: bool, p: u64, q: u64) -> u64
     ensures { result ≡ min (sum_magnitude differ p q) magnitude_limit }
 {
     if differ {
-        if p < q {
-            return q - p;
-        }
-        return p - q;
+        p.abs_diff(q)
+    } else {
+        p.saturating_add(q).min(MAGNITUDE_LIMIT)
     }
-    if q <= MAGNITUDE_LIMIT - p {
-        return p + q;
-    }
-    MAGNITUDE_LIMIT
 }
 
 // The sign of a sum, which is that of the larger magnitude.
@@ -171,14 +118,7 @@ fn sum_sign(s: bool, p: u64, t: bool, q: u64) -> bool
 fn all_in_range(l: u64, p: u64, q: u64, s: u64) -> bool
     ensures { result ≡ all_in_range l p q s }
 {
-    if l < MAGNITUDE_LIMIT {
-        if p < MAGNITUDE_LIMIT {
-            if q < MAGNITUDE_LIMIT {
-                return s < MAGNITUDE_LIMIT;
-            }
-        }
-    }
-    false
+    l < MAGNITUDE_LIMIT && p < MAGNITUDE_LIMIT && q < MAGNITUDE_LIMIT && s < MAGNITUDE_LIMIT
 }
 
 // The whole part of the k-th root, by halving the interval that it lies in.
@@ -200,62 +140,36 @@ fn floor_root(n: u64, k: u64) -> u64
 }
 
 // The k-th root of n, if it is whole.
-pub fn int_root(n: u64, k: u64) -> WholeRoot
+pub fn int_root(n: u64, k: u64) -> Option<u64>
     requires { (1 < k) × (n < magnitude_limit) }
     ensures { result ≡ whole_root k n }
 {
     let r = floor_root(n, k);
-    if capped_pow(r, k) == n {
-        return WholeRoot::Whole(r);
-    }
-    WholeRoot::Absent
-}
-
-// The root of a fraction, if numerator and denominator have whole roots.
-fn root_ratio(n: WholeRoot, d: WholeRoot) -> OptionRational64
-    ensures { result ≡ root_ratio n d }
-{
-    let WholeRoot::Whole(a) = n else {
-        return OptionRational64::None;
-    };
-    let WholeRoot::Whole(b) = d else {
-        return OptionRational64::None;
-    };
-    OptionRational64::Some(Rational64 {
-        negative: false,
-        numer: a,
-        denom: b,
-    })
+    if capped_pow(r, k) == n { Some(r) } else { None }
 }
 
 // The sign of a power, which is that of the base for an odd exponent.
 fn power_sign(negative: bool, k: u64) -> bool
     ensures { result ≡ (negative && eqb (k % 2) 1) }
 {
-    if negative { k % 2 == 1 } else { false }
-}
-
-// Whether two signs are the same.
-fn signs_equal(s: bool, t: bool) -> bool
-    ensures { result ≡ beq s t }
-{
-    if s { t } else { !t }
+    negative && k % 2 == 1
 }
 
 impl Rational64 {
-    pub fn checked_add(self, y: Rational64) -> OptionRational64
+    pub fn checked_add(self, y: Rational64) -> Option<Rational64>
         requires { LowestTerms self × LowestTerms y }
         ensures { ChecksTo (fraction_sum self y) result }
     {
         let l = common_denominator(self.denom, y.denom);
         let p = capped_mul(l / self.denom, self.numer);
         let q = capped_mul(l / y.denom, y.numer);
-        let s = sum_magnitude(signs_differ(self.negative, y.negative), p, q);
+        let s = sum_magnitude(self.negative != y.negative, p, q);
         let sign = sum_sign(self.negative, p, y.negative, q);
         if all_in_range(l, p, q, s) {
-            return OptionRational64::Some(lowest_terms(sign, s, l));
+            Some(lowest_terms(sign, s, l))
+        } else {
+            None
         }
-        OptionRational64::None
     }
 
     // The fraction with the other sign.
@@ -271,7 +185,7 @@ impl Rational64 {
         }
     }
 
-    pub fn checked_sub(self, y: Rational64) -> OptionRational64
+    pub fn checked_sub(self, y: Rational64) -> Option<Rational64>
         requires { LowestTerms self × LowestTerms y }
         ensures { ChecksTo (difference self y) result }
     {
@@ -279,7 +193,8 @@ impl Rational64 {
     }
 
     // Numerators and denominators are reduced crosswise first, so that no product leaves the range unless the result does.
-    pub fn checked_mul(self, y: Rational64) -> OptionRational64
+    #[tactic(auto, using(crate::proofs::GcdLaws::gcd_pos))]
+    pub fn checked_mul(self, y: Rational64) -> Option<Rational64>
         requires { LowestTerms self × LowestTerms y }
         ensures { ChecksTo (product self y) result }
     {
@@ -287,7 +202,7 @@ impl Rational64 {
         let h = gcd(y.numer, self.denom);
         let n = capped_mul(self.numer / g, y.numer / h);
         let d = capped_mul(self.denom / h, y.denom / g);
-        let s = sign_unless_zero(signs_differ(self.negative, y.negative), n);
+        let s = sign_unless_zero(self.negative != y.negative, n);
         range_checked(Rational64 {
             negative: s,
             numer: n,
@@ -295,6 +210,7 @@ impl Rational64 {
         })
     }
 
+    #[tactic(auto, using(crate::proofs::LowestTermsLaws::reciprocal_lowest))]
     pub fn recip(self) -> Rational64
         requires { LowestTerms self × (0 < self.numer) }
         ensures { (result ≡ reciprocal self) × LowestTerms result }
@@ -306,14 +222,14 @@ impl Rational64 {
         }
     }
 
-    pub fn checked_div(self, y: Rational64) -> OptionRational64
+    pub fn checked_div(self, y: Rational64) -> Option<Rational64>
         requires { LowestTerms self × (LowestTerms y × (0 < y.numer)) }
         ensures { ChecksTo (quotient self y) result }
     {
         self.checked_mul(y.recip())
     }
 
-    pub fn checked_pow(self, k: u64) -> OptionRational64
+    pub fn checked_pow(self, k: u64) -> Option<Rational64>
         requires { LowestTerms self }
         ensures { ChecksTo (power self k) result }
     {
@@ -328,19 +244,24 @@ impl Rational64 {
     }
 
     // The k-th root, if numerator and denominator have whole roots.
-    pub fn rat_root(self, k: u64) -> OptionRational64
+    pub fn rat_root(self, k: u64) -> Option<Rational64>
         requires { LowestTerms self × (1 < k) }
         ensures { ChecksTo (rational_root k self) result }
     {
         if self.negative {
-            return OptionRational64::None;
+            return None;
         }
-        let n = int_root(self.numer, k);
-        let d = int_root(self.denom, k);
-        root_ratio(n, d)
+        let n = int_root(self.numer, k)?;
+        let d = int_root(self.denom, k)?;
+        Some(Rational64 {
+            negative: false,
+            numer: n,
+            denom: d,
+        })
     }
 
     // The fraction without its whole part, toward zero.
+    #[tactic(auto, using(crate::proofs::LowestTermsLaws::fractional_part_lowest))]
     pub fn fract(self) -> Rational64
         requires { LowestTerms self }
         ensures { (result ≡ fractional_part self) × LowestTerms result }
@@ -353,43 +274,4 @@ impl Rational64 {
             denom: self.denom,
         }
     }
-
-    pub fn equals(self, y: Rational64) -> bool
-        ensures { result ≡ same_fraction self y }
-    {
-        if signs_equal(self.negative, y.negative) {
-            if self.numer == y.numer {
-                return self.denom == y.denom;
-            }
-        }
-        false
-    }
-}
-
-// The product of two fractions, if both are there.
-pub fn product_of_options(x: OptionRational64, y: OptionRational64) -> OptionRational64
-    requires { SoundOption x × SoundOption y }
-    ensures { ChecksTo (both product x y) result }
-{
-    let OptionRational64::Some(a) = x else {
-        return OptionRational64::None;
-    };
-    let OptionRational64::Some(b) = y else {
-        return OptionRational64::None;
-    };
-    a.checked_mul(b)
-}
-
-// The sum of two fractions, if both are there.
-pub fn sum_of_options(x: OptionRational64, y: OptionRational64) -> OptionRational64
-    requires { SoundOption x × SoundOption y }
-    ensures { ChecksTo (both fraction_sum x y) result }
-{
-    let OptionRational64::Some(a) = x else {
-        return OptionRational64::None;
-    };
-    let OptionRational64::Some(b) = y else {
-        return OptionRational64::None;
-    };
-    a.checked_add(b)
 }

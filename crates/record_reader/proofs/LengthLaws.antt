@@ -1,90 +1,75 @@
--- A record's length by its kind, and whether it is within the words available.
-use Prim.Native.Nat.{ℕ, zero, suc, ◌+◌, ◌-◌, ◌*◌, ◌≤◌, ◌<◌}
+-- A record's length by its kind, and what stands at a position by the length that is found there.
+use Prim.Native.Nat.{ℕ, ◌+◌, ◌-◌, ◌*◌, ◌≤◌, ◌<◌}
 use native.Mathlib.Omega.{arith}
 use mathlib.Core.Path.{◌≡◌, refl, sym, ap, ◌∙◌}
 use mathlib.Core.Bool.{Bool, true, false, cond, ◌&&◌}
 use mathlib.Core.List.{List, [], ◌∷◌}
 use lib.Dec.{leb, ltb, eqb}
 use lib.ListN.{length, get_or, take, drop, get_or-eq_default, length-drop}
-use borrow.Author.Tests.{le-leb, lt-leb, lt-ltb, le-ltb, leb-true, eqb-true, eqb-false}
-use lib.Seq.{get_or-drop, length-take-le}
-use native.Mathlib.Nat.{add-zero}
-use Rattle.record_reader.specs.declared.NextRecord.TheVariants as answer
-use Rattle.record_reader.specs.Answer.{next_record_of, next_words_of}
-use Rattle.model.specs.RecordReader.{next, end, wrong, record_length, next_at}
-use Rattle.model.proofs.ListLaws.{four_up}
+use lib.Seq.{length-take-le, take-length}
+use borrow.Author.Tests.{le-leb, lt-ltb, le-ltb, leb-true, ltb-true, ltb-false, eqb-true, eqb-false}
+use Rattle.std.specs.Prelude.{Option, Some, None, Result, Ok, Err, IsErr}
+use Rattle.std.specs.Result.{result_ok}
+use Rattle.record_kind.specs.declared.RecordKind.{RecordKind}
+use Rattle.record_kind.specs.declared.UnknownKind.{UnknownKind}
+use Rattle.record_kind.specs.Kind.{number_of, KindOf}
+use Rattle.record_reader.specs.declared.NoRecord.{NoRecord}
+use Rattle.record_reader.specs.Answer.{length_within, whole_length, next_record_of, next_words_of}
+use Rattle.model.specs.RecordReader.{Next, next, end, wrong, record_length, next_at}
 
-pub too_long : (n available : ℕ) → available < n → 0 ≡ cond (leb n available) n 0
-too_long n available h = sym (rw (lt-leb n available h) refl)
+-- ---- the kind that a number was read as
 
-pub within_available : (n available : ℕ) → n ≤ available → n ≡ cond (leb n available) n 0
-within_available n available h = sym (rw (le-leb n available h) refl)
+pub known_kind : {n : ℕ} {k : RecordKind} {o : Option RecordKind} (r : Result RecordKind UnknownKind) → KindOf n r → o ≡ result_ok r → o ≡ Some k → n ≡ number_of k
+known_kind {n} {k} (Ok x) h e d = let z : x ≡ k = cc in h ∙ ap number_of z
+known_kind (Err e) h f d = absurd (let z : ◌≡◌ {A = ℕ} 0 1 = cc in omega arith)
+
+pub unknown_kind : {n : ℕ} {o : Option RecordKind} (r : Result RecordKind UnknownKind) → KindOf n r → o ≡ result_ok r → o ≡ None → 9 ≤ n
+unknown_kind (Ok x) h e d = absurd (let z : ◌≡◌ {A = ℕ} 0 1 = cc in omega arith)
+unknown_kind (Err e) h f d = h
 
 -- ---- the length by the kind
+
 module _ (ws : List ℕ) where
   abbrev pub lengths_by_kind : List ℕ
   lengths_by_kind = (3 + 2 * (get_or ws 1 0 + get_or ws 2 0)) ∷ 14 ∷ 3 ∷ (4 + 4 * get_or ws 2 0 + get_or ws 3 0) ∷ (2 + get_or ws 1 0) ∷ 3 ∷ 2 ∷ 4 ∷ 1 ∷ []
 
-  pub of_kind_lem : (k kind available n r : ℕ) → kind ≡ get_or ws 0 0 → kind ≡ k → get_or lengths_by_kind k 0 ≡ n → r ≡ cond (leb n available) n 0 → r ≡ cond (leb (record_length ws) available) (record_length ws) 0
+  pub of_kind : (k n : ℕ) {r : Option ℕ} → get_or ws 0 0 ≡ k → get_or lengths_by_kind k 0 ≡ n → 1 ≤ n → r ≡ length_within (length ws) n → r ≡ whole_length ws
   unfolding record_length
-  of_kind_lem k kind available n r e d f h = let z : record_length ws ≡ n = rw (sym e ∙ d) f in h ∙ sym (rw z refl)
+  of_kind k n e f h d = let z : record_length ws ≡ n = rw e f in d ∙ sym (rw (z, le-leb 1 n h) refl)
 
-  pub of_none : (kind available : ℕ) → kind ≡ get_or ws 0 0 → 9 ≤ kind → 0 ≡ cond (leb (record_length ws) available) (record_length ws) 0
+  pub of_none : 9 ≤ get_or ws 0 0 → None ≡ whole_length ws
   unfolding record_length
-  of_none kind available e h = let z : record_length ws ≡ 0 = rw (sym e) (get_or-eq_default lengths_by_kind 0 h) in sym (rw z (either (leb 0 available)))
+  of_none h = let z : record_length ws ≡ 0 = get_or-eq_default lengths_by_kind 0 h in sym (rw z refl)
+
+  -- a length that is found is within the words
+  pub found_fits : (n : ℕ) → Some n ≡ whole_length ws → n ≤ length ws
+  found_fits n d = go (leb 1 (record_length ws)) (leb (record_length ws) (length ws)) refl d
     where
-      either : (b : Bool) → ◌≡◌ {A = ℕ} (cond b 0 0) 0
-      either true = refl
-      either false = refl
-
-pub nine_up : (n : ℕ) → ¬ (n ≡ 0) → ¬ (n ≡ 1) → ¬ (n ≡ 2) → ¬ (n ≡ 3) → ¬ (n ≡ 4) → ¬ (n ≡ 5) → ¬ (n ≡ 6) → ¬ (n ≡ 7) → ¬ (n ≡ 8) → 9 ≤ n
-nine_up n a b c d e f g h i = last n (four_up n a b c d) e f g h i
-  where
-    last : (n : ℕ) → 4 ≤ n → ¬ (n ≡ 4) → ¬ (n ≡ 5) → ¬ (n ≡ 6) → ¬ (n ≡ 7) → ¬ (n ≡ 8) → 9 ≤ n
-    last n l e f g h i = omega arith
+      go : (b c : Bool) → leb (record_length ws) (length ws) ≡ c → Some n ≡ cond b (cond c (Some (record_length ws)) None) None → n ≤ length ws
+      go true true f d = let z : n ≡ record_length ws = cc in omega (arith, leb-true (record_length ws) (length ws) f)
+      go true false f d = absurd (let z : ◌≡◌ {A = ℕ} 0 1 = cc in omega arith)
+      go false c f d = absurd (let z : ◌≡◌ {A = ℕ} 0 1 = cc in omega arith)
 
 -- ---- what stands at a position
+
+-- the record of the length that is found, or none
+abbrev pub by_length : List ℕ → Option ℕ → Next
+by_length ws (Some n) = next (take n ws)
+by_length ws None = wrong
+
+tested : (b c : Bool) (n : ℕ) (ws : List ℕ) → cond (b && c) (next (take n ws)) wrong ≡ by_length ws (cond b (cond c (Some n) None) None)
+tested true true n ws = refl
+tested true false n ws = refl
+tested false c n ws = refl
+
 module _ (ws : List ℕ) (at : ℕ) where
-  abbrev pub Fitting : ℕ → Type 0
-  Fitting n = n ≡ cond (leb (record_length (drop at ws)) (length ws - at)) (record_length (drop at ws)) 0
+  -- the words from a position on, as a part of the slice
+  pub rest : take (length ws - at) (drop at ws) ≡ drop at ws
+  rest = ap (λ (k : ℕ). take k (drop at ws)) (sym (length-drop at ws)) ∙ take-length (drop at ws)
 
-  pub found : (n : ℕ) → at < length ws → Fitting n → ¬ (n ≡ 0) → (next (take n (drop at ws)) ≡ next_at ws at) × (n ≤ length ws - at)
+  pub next_is : at < length ws → next_at ws at ≡ by_length (drop at ws) (whole_length (drop at ws))
   unfolding next_at
-  found n h e z = go (leb (record_length (drop at ws)) (length ws - at)) refl e
-    where
-      m : ℕ
-      m = record_length (drop at ws)
-
-      go : (b : Bool) → leb (record_length (drop at ws)) (length ws - at) ≡ b → n ≡ cond b (record_length (drop at ws)) 0
-          → (next (take n (drop at ws))
-          ≡ cond (ltb at (length ws)) (cond (leb 1 (record_length (drop at ws)) && leb (record_length (drop at ws)) (length ws - at)) (next (take (record_length (drop at ws)) (drop at ws))) wrong) (cond (ltb (length ws) at) wrong end))
-          × (n ≤ length ws - at)
-      go true t d =
-          let one : 1 ≤ record_length (drop at ws) = omega arith in
-          let fit : record_length (drop at ws) ≤ length ws - at = leb-true (record_length (drop at ws)) (length ws - at) t in
-          (sym (rw (lt-ltb at (length ws) h, le-leb 1 (record_length (drop at ws)) one, t) (ap (λ (k : ℕ). next (take k (drop at ws))) (sym d))), omega arith)
-      go false t d = absurd (z d)
-
-  pub none : (n : ℕ) → at < length ws → Fitting n → n ≡ 0 → wrong ≡ next_at ws at
-  unfolding next_at
-  none n h e z = go (leb (record_length (drop at ws)) (length ws - at)) refl e
-    where
-      go : (b : Bool) → leb (record_length (drop at ws)) (length ws - at) ≡ b → n ≡ cond b (record_length (drop at ws)) 0
-          → wrong
-          ≡ cond (ltb at (length ws)) (cond (leb 1 (record_length (drop at ws)) && leb (record_length (drop at ws)) (length ws - at)) (next (take (record_length (drop at ws)) (drop at ws))) wrong) (cond (ltb (length ws) at) wrong end)
-      go true t d = sym (rw (lt-ltb at (length ws) h, lt-leb 1 (record_length (drop at ws)) (omega arith)) refl)
-      go false t d = sym (rw (lt-ltb at (length ws) h, t) (either (leb 1 (record_length (drop at ws)))))
-        where
-          either : (b : Bool) → cond (b && false) (next (take (record_length (drop at ws)) (drop at ws))) wrong ≡ wrong
-          either true = refl
-          either false = refl
-
-  -- the length that is answered is the record's
-  pub found_length : (n : ℕ) → at < length ws → Fitting n → ¬ (n ≡ 0) → answer.Record n ≡ next_record_of (next_at ws at)
-  found_length n h e z =
-      let f = found n h e z in
-      let size : length (take n (drop at ws)) ≡ n = length-take-le n (drop at ws) (omega (arith, f.1, length-drop at ws)) in
-      ap answer.Record (sym size) ∙ ap next_record_of f.0
+  next_is h = let m = record_length (drop at ws) in rw (lt-ltb at (length ws) h, length-drop at ws) (tested (leb 1 m) (leb m (length ws - at)) m (drop at ws))
 
   pub at_end : at ≡ length ws → end ≡ next_at ws at
   unfolding next_at
@@ -94,28 +79,39 @@ module _ (ws : List ℕ) (at : ℕ) where
   unfolding next_at
   past_end h e = sym (rw (le-ltb at (length ws) (omega arith), lt-ltb (length ws) at (omega arith)) refl)
 
--- ---- the kind at a position, and the length that was found
-pub kind_at : (ws : List ℕ) (at : ℕ) → get_or ws at 0 ≡ get_or (drop at ws) 0 0
-kind_at ws at = sym (get_or-drop at ws 0 0 ∙ ap (λ (k : ℕ). get_or ws k 0) (add-zero at))
+  -- the length that is answered is the record's
+  pub answered_length : (n : ℕ) → at < length ws → Some n ≡ whole_length (drop at ws) → Ok (Some n) ≡ next_record_of (next_at ws at)
+  answered_length n h e =
+      let size : length (take n (drop at ws)) ≡ n = length-take-le n (drop at ws) (found_fits (drop at ws) n e) in
+      rw (next_is h, sym e, size) refl
 
-pub fits_left : (ws : List ℕ) (at n : ℕ) → n ≡ cond (leb (record_length (drop at ws)) (length ws - at)) (record_length (drop at ws)) 0 → n ≤ length ws - at
-fits_left ws at n e = go (leb (record_length (drop at ws)) (length ws - at)) refl e
-  where
-    go : (b : Bool) → leb (record_length (drop at ws)) (length ws - at) ≡ b → n ≡ cond b (record_length (drop at ws)) 0 → n ≤ length ws - at
-    go true t d = omega (arith, leb-true (record_length (drop at ws)) (length ws - at) t)
-    go false t d = omega arith
+  pub no_record : at < length ws → None ≡ whole_length (drop at ws) → wrong ≡ next_at ws at
+  no_record h e = sym (next_is h ∙ ap (by_length (drop at ws)) (sym e))
 
--- ---- the part that is handed back
-back : (a k : ℕ) → a + k - a ≡ k
-back a k = omega arith
+  -- the part that is handed back is the record
+  pub record_part : (n : ℕ) → Ok (Some n) ≡ next_record_of (next_at ws at) → (take (at + n - at) (drop at ws) ≡ next_words_of (next_at ws at)) × (at + n ≤ length ws)
+  record_part n e = go (ltb at (length ws)) refl
+    where
+      back : at + n - at ≡ n
+      back = omega arith
 
-pub part_is : (ws : List ℕ) (at n : ℕ) → at < length ws → n ≡ cond (leb (record_length (drop at ws)) (length ws - at)) (record_length (drop at ws)) 0 → take (at + n - at) (drop at ws) ≡ next_words_of (next_at ws at)
-part_is ws at zero h e = ap (λ (k : ℕ). take k (drop at ws)) (back at 0) ∙ ap next_words_of (none ws at 0 h e refl)
-part_is ws at (suc n) h e = ap (λ (k : ℕ). take k (drop at ws)) (back at (suc n)) ∙ ap next_words_of (found ws at (suc n) h e (λ z. omega arith)).0
+      within : (o : Option ℕ) → at < length ws → o ≡ whole_length (drop at ws) → Ok (Some n) ≡ next_record_of (by_length (drop at ws) o) → (take (at + n - at) (drop at ws) ≡ next_words_of (by_length (drop at ws) o)) × (at + n ≤ length ws)
+      within (Some m) h d f =
+          let fits : m ≤ length (drop at ws) = found_fits (drop at ws) m d in
+          let size : length (take m (drop at ws)) ≡ m = length-take-le m (drop at ws) fits in
+          let same : n ≡ m = let z : n ≡ length (take m (drop at ws)) = cc in z ∙ size in
+          (rw (back, same) refl, omega (arith, fits, same, length-drop at ws))
+      within None h d f = absurd (let z : ◌≡◌ {A = ℕ} 0 1 = cc in omega arith)
 
-pub no_part : (ws : List ℕ) (at : ℕ) → ¬ (at < length ws) → [] ≡ next_words_of (next_at ws at)
-no_part ws at h = go (eqb at (length ws)) refl
-  where
-    go : (b : Bool) → eqb at (length ws) ≡ b → [] ≡ next_words_of (next_at ws at)
-    go true e = ap next_words_of (at_end ws at (eqb-true at (length ws) e))
-    go false e = ap next_words_of (past_end ws at h (eqb-false at (length ws) e))
+      go : (b : Bool) → ltb at (length ws) ≡ b → (take (at + n - at) (drop at ws) ≡ next_words_of (next_at ws at)) × (at + n ≤ length ws)
+      go true t = let h : at < length ws = ltb-true at (length ws) t in rw (next_is h) (within (whole_length (drop at ws)) h refl (e ∙ ap next_record_of (next_is h)))
+      go false t = absurd (outside (eqb at (length ws)) refl)
+        where
+          outside : (b : Bool) → eqb at (length ws) ≡ b → ⊥
+          outside true k = let z : Ok (Some n) ≡ next_record_of end = e ∙ ap next_record_of (sym (at_end (eqb-true at (length ws) k))) in let y : ◌≡◌ {A = ℕ} 0 1 = cc in omega arith
+          outside false k = let z : Ok (Some n) ≡ next_record_of wrong = e ∙ ap next_record_of (sym (past_end (λ h. omega (arith, ltb-false at (length ws) t)) (eqb-false at (length ws) k))) in let y : ◌≡◌ {A = ℕ} 0 1 = cc in omega arith
+
+-- an answer that is an error is that of no record
+pub the_error : (r : Result (Option ℕ) NoRecord) → IsErr r → r ≡ Err (record {})
+the_error (Ok x) h = absurd (let z : ◌≡◌ {A = ℕ} 0 1 = cc in omega arith)
+the_error (Err e) h = refl

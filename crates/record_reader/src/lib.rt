@@ -1,137 +1,126 @@
 // The next record of some words, as a part of the caller's own slice.
 #![tactic(auto)]
 
-ghost use Rattle.std.specs.Prelude.{◌≡◌, length, get_or, drop, ◌+◌, ◌-◌, ◌*◌, ◌/◌, ◌<◌};
-ghost use Rattle.model.specs.RecordReader.{record_length, next_at};
-ghost use Rattle.record_reader.specs.Answer.{length_within, next_record_of, next_words_of};
+ghost use Rattle.std.specs.Prelude.{◌≡◌, length, get_or, ◌+◌, ◌*◌, ◌<◌};
+ghost use Rattle.model.specs.RecordReader.{next_at};
+ghost use Rattle.record_reader.specs.Answer.{length_within, whole_length, next_record_of, next_words_of};
 
-// What stands at a position: a record of so many words, the end of the words, or no record, which has the number 17.
-#[derive(Clone, Copy)]
-pub enum NextRecord {
-    Record(usize),
-    End,
-    NoRecord,
-}
+use record_kind::RecordKind;
 
-// Word k of the record at a position, or 0 if the words end before it.
-fn record_word(words: &[u64], at: usize, k: usize) -> u64
-    requires { (at < length words.now) × (k < 4) }
-    ensures { result ≡ get_or (drop at words.now) k 0 }
+// Where no whole record of a known kind begins, and the words do not end at the position: the answer 17.
+#[derive(Clone, Copy, PartialEq, Eq, Debug)]
+pub struct NoRecord;
+
+// Word k of a record, or 0 if the words end before it.
+fn record_word(words: &[u64], k: usize) -> u64
+    ensures { result ≡ get_or words.now k 0 }
 {
-    if k < words.len() - at {
-        words[at + k]
-    } else {
-        0
-    }
+    words.get(k).copied().unwrap_or(0)
 }
 
-// The length of a head of some qubits and bits, or 0 if it is longer than the words available.
-fn head_length(available: u64, qubits: u64, bits: u64) -> u64
+// The length of a head of some qubits and bits, if it is within the words available.
+fn head_length(available: u64, qubits: u64, bits: u64) -> Option<u64>
     ensures { result ≡ length_within available (3 + 2 * (qubits + bits)) }
 {
     if available < 3 {
-        return 0;
+        return None;
     }
     let room = (available - 3) / 2;
     if room < qubits {
-        return 0;
+        return None;
     }
     if room - qubits < bits {
-        return 0;
+        return None;
     }
-    3 + 2 * (qubits + bits)
+    Some(3 + 2 * (qubits + bits))
 }
 
-// The length of the record of a gate that is not opened, or 0 if it is longer than the words available.
-fn opaque_length(available: u64, parameters: u64, arguments: u64) -> u64
+// The length of the record of a gate that is not opened, if it is within the words available.
+fn opaque_length(available: u64, parameters: u64, arguments: u64) -> Option<u64>
     ensures { result ≡ length_within available (4 + 4 * parameters + arguments) }
 {
     if available < 4 {
-        return 0;
+        return None;
     }
     if (available - 4) / 4 < parameters {
-        return 0;
+        return None;
     }
     if available - 4 - 4 * parameters < arguments {
-        return 0;
+        return None;
     }
-    4 + 4 * parameters + arguments
+    Some(4 + 4 * parameters + arguments)
 }
 
-// The length of a barrier record of some qubits, or 0 if it is longer than the words available.
-fn barrier_length(available: u64, qubits: u64) -> u64
+// The length of a barrier record of some qubits, if it is within the words available.
+fn barrier_length(available: u64, qubits: u64) -> Option<u64>
     ensures { result ≡ length_within available (2 + qubits) }
 {
     if available < 2 {
-        return 0;
+        return None;
     }
     if available - 2 < qubits {
-        return 0;
+        return None;
     }
-    2 + qubits
+    Some(2 + qubits)
 }
 
-// The length of a record whose kind has a fixed length, or 0 if it is longer than the words available.
-fn fixed_length(available: u64, n: u64) -> u64
+// The length of a record whose kind has a fixed length, if it is within the words available.
+fn fixed_length(available: u64, n: usize) -> Option<u64>
     ensures { result ≡ length_within available n }
 {
-    if available < n { 0 } else { n }
+    if available < n as u64 {
+        return None;
+    }
+    Some(n as u64)
 }
 
-// The length of the record at a position, or 0 if there is no whole record of a known kind.
-fn length_at(words: &[u64], at: usize) -> u64
-    requires { at < length words.now }
-    ensures { result ≡ length_within (length words.now - at) (record_length (drop at words.now)) }
+// The length of the record that some words begin with, if they begin with a whole record of a known kind.
+fn length_of(words: &[u64]) -> Option<u64>
+    requires { 0 < length words.now }
+    ensures { result ≡ whole_length words.now }
 {
-    let available = (words.len() - at) as u64;
-    let kind = words[at];
+    let available = words.len() as u64;
+    let kind = RecordKind::try_from(words[0]).ok()?;
     match kind {
-        0 => head_length(
+        RecordKind::Head => head_length(available, record_word(words, 1), record_word(words, 2)),
+        RecordKind::U => fixed_length(available, record_kind::U_WORDS),
+        RecordKind::CX => fixed_length(available, record_kind::CX_WORDS),
+        RecordKind::Opaque => opaque_length(
             available,
-            record_word(words, at, 1),
-            record_word(words, at, 2),
+            record_word(words, 2),
+            record_word(words, 3),
         ),
-        1 => fixed_length(available, 14),
-        2 => fixed_length(available, 3),
-        3 => opaque_length(
+        RecordKind::Barrier => barrier_length(available, record_word(words, 1)),
+        RecordKind::Measure => fixed_length(available, record_kind::MEASURE_WORDS),
+        RecordKind::Reset => fixed_length(available, record_kind::RESET_WORDS),
+        RecordKind::ConditionalStart => fixed_length(
             available,
-            record_word(words, at, 2),
-            record_word(words, at, 3),
+            record_kind::CONDITIONAL_START_WORDS,
         ),
-        4 => barrier_length(available, record_word(words, at, 1)),
-        5 => fixed_length(available, 3),
-        6 => fixed_length(available, 2),
-        7 => fixed_length(available, 4),
-        8 => fixed_length(available, 1),
-        _ => 0,
+        RecordKind::ConditionalEnd => fixed_length(available, record_kind::CONDITIONAL_END_WORDS),
     }
 }
 
-// What stands at a position.
-pub fn next_at(words: &[u64], at: usize) -> NextRecord
+// What stands at a position: a record of so many words, the end of the words, or no record.
+pub fn next_at(words: &[u64], at: usize) -> Result<Option<usize>, NoRecord>
     ensures { result ≡ next_record_of (next_at words.now at) }
 {
     if at < words.len() {
-        let n = length_at(words, at);
-        if n == 0 {
-            return NextRecord::NoRecord;
-        }
-        return NextRecord::Record(n as usize);
+        let n = length_of(&words[at..]).ok_or(NoRecord)?;
+        return Ok(Some(n as usize));
     }
     if at == words.len() {
-        return NextRecord::End;
+        return Ok(None);
     }
-    NextRecord::NoRecord
+    Err(NoRecord)
 }
 
 // The words of the record at a position, as a part of the slice, or no words if there is no record.
 pub fn next_record(words: &[u64], at: usize) -> &[u64]
     ensures { result.now ≡ next_words_of (next_at words.now at) }
 {
-    if at < words.len() {
-        let n = length_at(words, at) as usize;
-        let e = at + n;
-        return &words[at..e];
+    if let Ok(Some(n)) = next_at(words, at) {
+        return &words[at..at + n];
     }
-    &words[0..0]
+    &words[..0]
 }

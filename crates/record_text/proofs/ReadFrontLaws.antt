@@ -12,7 +12,8 @@ use Rattle.model.specs.Lists.{sum}
 use Rattle.model.specs.RecordReader.{Next, next, end, wrong, record_length, next_at, found, records_from, records_in}
 use Rattle.record_reader.specs.Answer.{next_words_of}
 use Rattle.model.proofs.ListLaws.{flat_append}
-use Rattle.text.specs.Put.{Put, PutMost}
+use Rattle.text.specs.declared.Text.{Text}
+use Rattle.text.specs.Put.{RoomFor, Put, PutMost}
 use Rattle.text.specs.RecordLine.{record_line}
 use Rattle.text.proofs.PutLaws.{put_none, put_same, put_then, put_length}
 use Rattle.record_text.specs.ReadFront.{ReadFront}
@@ -49,7 +50,7 @@ sum_snoc [] v = omega arith
 sum_snoc (r ∷ l) v = omega (arith, sum_snoc l v)
 
 -- the records before a position are put, and those from it on are still to be read
-pub record Fronting (ws text : List ℕ) (at records end : ℕ) (text' : List ℕ) : Type 0 where
+pub record Fronting (ws : List ℕ) (t : Text) (at records : ℕ) (t' : Text) : Type 0 where
   pub before : List (List ℕ)
   pub left : ℕ
   pub split : records_in ws ≡ before ++ records_from left ws at
@@ -58,12 +59,12 @@ pub record Fronting (ws text : List ℕ) (at records end : ℕ) (text' : List �
   pub inside : at ≤ length ws
   pub count : records ≡ length before
   pub fewer : records ≤ at
-  pub done : Put (flat_map record_line before) text 0 end text'
-  pub few : end ≤ 21 * at
+  pub done : Put (flat_map record_line before) t t'
+  pub few : t'.end ≤ t.end + 21 * at
 
-pub fronting_start : (ws : List ℕ) {text : List ℕ} → Fronting ws text 0 0 0 text
+pub fronting_start : (ws : List ℕ) {t : Text} → RoomFor (21 * length ws) t → Fronting ws t 0 0 t
 unfolding records_in sum flat_map
-fronting_start ws {text} =
+fronting_start ws h =
     record {
       before = [];
       left = length ws;
@@ -73,11 +74,11 @@ fronting_start ws {text} =
       inside = omega arith;
       count = refl;
       fewer = omega arith;
-      done = put_none text 0 (omega arith);
+      done = put_none (omega arith);
       few = omega arith;
     }
 
-module _ {ws text text' : List ℕ} {at records end : ℕ} (g : Fronting ws text at records end text') {v : List ℕ} (e : v ≡ next_words_of (next_at ws at)) where
+module _ {ws : List ℕ} {t t' : Text} {at records : ℕ} (g : Fronting ws t at records t') {v : List ℕ} (e : v ≡ next_words_of (next_at ws at)) where
   module _ (some : ¬ (length v ≡ 0)) where
     pub front_some : 1 ≤ length v
     front_some = omega arith
@@ -96,17 +97,17 @@ module _ {ws text text' : List ℕ} {at records end : ℕ} (g : Fronting ws text
         go (one i h k) = k
         go (none z f) = absurd (some z)
 
-    pub front_room : 21 * length ws ≤ length text → end + 21 * length v ≤ length text'
+    pub front_room : RoomFor (21 * length ws) t → RoomFor (21 * length v) t'
     front_room k = omega (arith, front_inside, g.few, put_length g.done)
 
-    pub front_more : {end' : ℕ} {text'' : List ℕ} → PutMost (record_line v) (21 * length v) text' end end' text'' → Fronting ws text (at + length v) (records + 1) end' text''
+    pub front_more : {t'' : Text} → PutMost (record_line v) (21 * length v) t' t'' → Fronting ws t (at + length v) (records + 1) t''
     unfolding records_from found flat_map
-    front_more {end'} {text''} p = go g.left g.enough g.split
+    front_more {t''} p = go g.left g.enough g.split
       where
         lines : flat_map record_line g.before ++ record_line v ≡ flat_map record_line (g.before ++ v ∷ [])
         lines = sym (flat_append record_line g.before (v ∷ []) ∙ ap (λ (l : List ℕ). flat_map record_line g.before ++ l) (append-nil (record_line v)))
 
-        go : (k : ℕ) → length ws ≤ at + k → records_in ws ≡ g.before ++ records_from k ws at → Fronting ws text (at + length v) (records + 1) end' text''
+        go : (k : ℕ) → length ws ≤ at + k → records_in ws ≡ g.before ++ records_from k ws at → Fronting ws t (at + length v) (records + 1) t''
         go zero h s = absurd (omega (arith, front_inside, front_some))
         go (suc k) h s =
             record {
@@ -125,7 +126,7 @@ module _ {ws text text' : List ℕ} {at records end : ℕ} (g : Fronting ws text
             }
 
   -- no record stands there
-  pub front_end : length v ≡ 0 → ReadFront ws text (record { end = end; words = at; records = records }) text'
+  pub front_end : length v ≡ 0 → ReadFront ws t (record { words = at; records = records }) t'
   unfolding records_from
   front_end z =
       record {

@@ -5,8 +5,7 @@ use Rattle.model.specs.Lists.{sum}
 use Rattle.model.specs.RecordReader.{records_in}
 use Rattle.model.specs.Listing.{ascii, decimal, line, words_of}
 use Rattle.text.specs.RecordLine.{record_line}
-use Rattle.record_reader.specs.declared.NextRecord.TheVariants as answer
-use Rattle.record_reader.specs.Answer.{next_number}
+use Rattle.model.specs.Refusals as refusal
 
 -- The last line for an input of n bytes, of which r records were read, up to word p.
 -- `more`: only the first 65,536 words of a longer input were looked at, and the next record starts at p.
@@ -15,7 +14,7 @@ use Rattle.record_reader.specs.Answer.{next_number}
 unfoldable pub last_line : ℕ → ℕ → ℕ → List ℕ
 last_line n p r =
     cond (ltb 524288 n && ltb 0 r) (line (ascii "more" ∷ decimal p ∷ decimal r ∷ []))
-    (cond (eqb (8 * p) n) (line (ascii "end" ∷ decimal r ∷ [])) (line (ascii "refused" ∷ decimal (next_number answer.NoRecord) ∷ decimal p ∷ [])))
+    (cond (eqb (8 * p) n) (line (ascii "end" ∷ decimal r ∷ [])) (line (ascii "refused" ∷ decimal refusal.no_record ∷ decimal p ∷ [])))
 
 -- Records, each as its line in the listing, and the last line: they end where their words do.
 unfoldable pub records_text : ℕ → List (List ℕ) → List ℕ

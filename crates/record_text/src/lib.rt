@@ -1,44 +1,45 @@
 // Records read back, each as its line in the listing, and a last line.
 #![tactic(auto)]
 
-ghost use Rattle.std.specs.Prelude.{◌≡◌, ◌+◌, ◌*◌, ◌≤◌, ◌&&◌, ltb, length};
-ghost use Rattle.text.specs.Put.{Put, InFront};
+ghost use Rattle.std.specs.Prelude.{◌≡◌, ◌*◌, ◌≤◌, ◌&&◌, ltb, length};
+ghost use Rattle.text.specs.Put.{RoomFor, Put, InFront};
 ghost use Rattle.record_text.specs.ReadBack.{last_line, read_back};
 ghost use Rattle.record_text.specs.ReadFront.{ReadFront};
 
-use image::refusal;
+use image::RefusalNumber;
+use text::Text;
 
 // The words of an input that are looked at, and their bytes.
 const WORDS_READ: usize = 65536;
 
-const BYTES_READ: usize = 524288;
+const BYTES_READ: usize = text::WORD_BYTES * WORDS_READ;
 
-// Where the lines of some records end, where their words end, and how many records they are.
+// The bytes of an input that are looked at: a byte more is read only where the input is longer.
+pub const INPUT_BYTES: usize = BYTES_READ + 1;
+
+// Room for the lines of as many words as are looked at, and for the last line.
+pub const LINES_BYTES: usize = 1441792;
+
+// How many words some records have, and how many records they are.
 #[derive(Clone, Copy)]
 struct Front {
-    end: usize,
     words: usize,
     records: usize,
 }
 
 // Puts the lines of the records at the front of some words, up to where no whole one stands.
-fn put_front(text: &mut [u8], words: &[u64]) -> Front
-    requires { 21 * length words.now ≤ length text.old }
+fn put_front(text: &mut Text, words: &[u64]) -> Front
+    requires { RoomFor (21 * length words.now) text.old }
     ensures { ReadFront words.now text.old result text.new }
 {
-    let mut end = 0;
     let mut at = 0;
     let mut records = 0;
     loop {
         let record = unit::next_record(words, at);
-        if record.len() == 0 {
-            return Front {
-                end,
-                words: at,
-                records,
-            };
+        if record.is_empty() {
+            return Front { words: at, records };
         }
-        end = text::put_record_line(text, end, record);
+        text.put_record_line(record);
         at += record.len();
         records += 1;
     }
@@ -48,48 +49,44 @@ fn put_front(text: &mut [u8], words: &[u64]) -> Front
 fn is_more(bytes: usize, records: usize) -> bool
     ensures { result ≡ (ltb 524288 bytes && ltb 0 records) }
 {
-    if bytes <= BYTES_READ {
-        return false;
-    }
-    0 < records
+    BYTES_READ < bytes && 0 < records
 }
 
-// Puts the last line for an input of so many bytes, whose records end at a word.
-fn put_last(text: &mut [u8], at: usize, bytes: usize, words: usize, records: usize) -> usize
-    requires { (words ≤ 65536) × (at + 64 ≤ length text.old) }
-    ensures { Put (last_line bytes words records) text.old at result text.new }
+// Puts the last line for an input of so many bytes, with these records at its front.
+fn put_last(text: &mut Text, bytes: usize, front: Front)
+    requires words { front.words ≤ 65536 }
+    requires room { RoomFor 64 text.old }
+    ensures { Put (last_line bytes front.words front.records) text.old text.new }
 {
-    if is_more(bytes, records) {
-        return text::put_named_line(text, at, b"more", &[words as u64, records as u64]);
+    let words = front.words as u64;
+    let records = front.records as u64;
+    if is_more(bytes, front.records) {
+        text.put_named_line(b"more", &[words, records]);
+    } else if text::WORD_BYTES * front.words == bytes {
+        text.put_named_line(b"end", &[records]);
+    } else {
+        text.put_named_line(b"refused", &[RefusalNumber::NoRecord as u64, words]);
     }
-    if text::WORD_BYTES * words == bytes {
-        return text::put_named_line(text, at, b"end", &[records as u64]);
-    }
-    text::put_named_line(text, at, b"refused", &[refusal::NO_RECORD, words as u64])
 }
 
 // Puts the records of some input, and the last line.
-fn put_read_back(text: &mut [u8], input: &[u8]) -> usize
-    requires { 1441792 ≤ length text.old }
-    ensures { Put (read_back input.now) text.old 0 result text.new }
+fn put_read_back(text: &mut Text, input: &[u8])
+    requires { RoomFor 1441792 text.old }
+    ensures { Put (read_back input.now) text.old text.new }
 {
-    let mut words = [0u64; WORDS_READ];
-    let n = text::words_at_most(input.len() / text::WORD_BYTES, WORDS_READ);
-    text::read_words(&mut words, input, 0, n);
-    let front = put_front(text, &words[..n]);
-    put_last(text, front.end, input.len(), front.words, front.records)
-}
-
-// Room for the lines of as many words as are looked at.
-pub fn lines_room() -> [u8; 1441792]
-    ensures { 1441792 ≡ length result }
-{
-    [0; 1441792]
+    let mut room = [0; WORDS_READ];
+    let n = (input.len() / text::WORD_BYTES).min(WORDS_READ);
+    let words = &mut room[..n];
+    text::read_words(words, input);
+    let front = put_front(text, words);
+    put_last(text, input.len(), front);
 }
 
 // Puts the records of some input in front of a text, and the last line, and answers the length.
-pub fn read_back(input: &[u8], text: &mut [u8; 1441792]) -> usize
-    ensures { InFront (read_back input.now) text.old result text.new }
+pub fn read_back(input: &[u8], bytes: &mut [u8; LINES_BYTES]) -> usize
+    ensures { InFront (read_back input.now) bytes.old result bytes.new }
 {
-    put_read_back(text, input)
+    let mut text = Text::new(bytes);
+    put_read_back(&mut text, input);
+    text.end
 }

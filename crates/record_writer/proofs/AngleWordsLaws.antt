@@ -1,15 +1,12 @@
--- Angles as words: a numerator in two's complement, and the angles of a record.
-use Prim.Native.Nat.{ℕ, suc, ◌+◌, ◌-◌, ◌*◌, ◌^◌, ◌≤◌, ◌<◌}
-use native.Mathlib.Numerals.{add-one, add-two}
+-- Angles as words, and the angles of a record.
+use Prim.Native.Nat.{ℕ, ◌+◌, ◌-◌, ◌*◌, ◌^◌, ◌≤◌, ◌<◌}
+use native.Mathlib.Numerals.{add-one}
 use native.Mathlib.Omega.{arith}
-use mathlib.Core.Path.{◌≡◌, refl, sym, ap, ◌∙◌}
-use mathlib.Core.Bool.{true, cond}
+use mathlib.Core.Path.{◌≡◌, refl, sym, ◌∙◌}
+use mathlib.Core.Bool.{cond}
 use mathlib.Core.List.{List, [], ◌∷◌, ◌++◌, flat_map, append-nil}
 use lib.ListN.{length, set, take, get_or, replicate, length-append}
 use lib.Seq.{sets, take-suc, length-take-le}
-use Rattle.rational.specs.declared.Rational64.{Rational64}
-use Rattle.rational.specs.Rational.{LowestTerms}
-use Rattle.rational.proofs.LowestTermsLaws.{nonzero}
 use Rattle.value.specs.declared.Value.{Value}
 use Rattle.value.specs.Value.{Sound}
 use Rattle.model.specs.Evaluate.{zero_value}
@@ -19,16 +16,10 @@ use Rattle.model.proofs.Lengths.{length_words}
 use Rattle.record_writer.specs.Promise.{SoundAngles}
 use Rattle.model.proofs.SetsLaws.{put_more, front}
 
-pub complement : {x : Rational64} → LowestTerms x → x.negative ≡ true → 2 ^ 64 - 1 - x.numer + 1 ≡ cond x.negative (2 ^ 64 - x.numer) x.numer
-complement {x} h e = rw e (omega (arith, nonzero h e, h.numer_fits))
-
--- four stores
-pub angle_put : (out : List ℕ) (start : ℕ) (x : Value) {m n : ℕ} → m ≡ cond x.a.negative (2 ^ 64 - x.a.numer) x.a.numer → n ≡ cond x.b.negative (2 ^ 64 - x.b.numer) x.b.numer
-    → set (set (set (set out start m) (start + 1) x.a.denom) (start + 2) n) (start + 3) x.b.denom ≡ sets out start (angle_words x)
+-- the four words of an angle
+pub angle_put : (x : Value) {m n : ℕ} → m ≡ cond x.a.negative (2 ^ 64 - x.a.numer) x.a.numer → n ≡ cond x.b.negative (2 ^ 64 - x.b.numer) x.b.numer → m ∷ x.a.denom ∷ n ∷ x.b.denom ∷ [] ≡ angle_words x
 unfolding angle_words fraction_words
-angle_put out start x e f =
-    let three : start + 3 ≡ suc (suc (suc start)) = omega arith in
-    rw (e, f, add-one start, add-two start, three) refl
+angle_put x e f = rw (e, f) refl
 
 pub angle_sound : {angles : List Value} → SoundAngles angles → (i : ℕ) (d : Value) → i < 16 → Sound (get_or angles i d)
 angle_sound {angles} s i d h = rw (within angles i d zero_value (omega (arith, s.sixteen))) (s.each i h)
@@ -58,10 +49,6 @@ u_words theta phi lambda qubit e f g = rw (g, f, e) refl
 pub u_long : (theta phi lambda : Value) (qubit : ℕ) → 14 ≡ length (encode (Record.U theta phi lambda qubit))
 unfolding encode kind fields angle_words fraction_words
 u_long theta phi lambda qubit = refl
-
-pub u_length : (theta phi lambda : Value) (qubit : ℕ) {a b c : List ℕ} → a ≡ sets (set (replicate 14 0) 0 1) 1 (angle_words theta) → b ≡ sets a 5 (angle_words phi) → c ≡ sets b 9 (angle_words lambda)
-    → length (set c 13 qubit) ≡ 14
-u_length theta phi lambda qubit e f g = sym (u_long theta phi lambda qubit ∙ ap length (u_words theta phi lambda qubit e f g))
 
 pub opaque_words : (gate p q : ℕ) (angles : List Value) (qubits : List ℕ) {a b : List ℕ} → length angles ≡ 16 → p ≤ 16 → length qubits ≡ 16 → q ≤ 16
     → a ≡ sets (set (set (set (set (replicate 84 0) 0 3) 1 gate) 2 p) 3 q) 4 (flat_map angle_words (take p angles)) → b ≡ sets a (4 + 4 * p) (take q qubits)

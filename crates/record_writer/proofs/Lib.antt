@@ -1,2 +1,3 @@
 pub mod WroteStepsLaws
 pub mod AngleWordsLaws
+pub mod PutLaws

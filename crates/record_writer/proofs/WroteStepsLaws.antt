@@ -11,23 +11,22 @@ use Rattle.model.specs.Steps.{Step, write, refuse, Refusal}
 use Rattle.model.specs.Run.{Answer, done, refused, full, play}
 use Rattle.model.specs.Playing.{Plays}
 use Rattle.model.proofs.PlayLaws.{plays_write, plays_stop}
-use Rattle.record_writer.specs.Promise.{after_record, output_full_at, InOutput, WroteSteps, AppendedWords, state_at, refusal_answer}
+use Rattle.record_writer.specs.Promise.{RunResult, after_record, output_full_at, InOutput, WroteSteps, AppendedWords, state_at, refusal_answer}
 use Rattle.record_writer.specs.declared.Position.{Position}
 use Rattle.record_writer.specs.declared.LinearizeErrorKind.{LinearizeErrorKind}
 use Rattle.record_writer.specs.declared.LinearizeErrorKind.TheVariants as kind
 use Rattle.record_writer.specs.declared.LinearizeError.{LinearizeError}
-use Rattle.record_writer.specs.declared.Linearized.{Linearized}
-use Rattle.record_writer.specs.declared.Linearized.TheVariants as linearized
+use Rattle.std.specs.Prelude.{Result, Ok, Err, IsErrAnd}
 
 -- a record is written
 pub record_written : (x : Record) (n : ℕ) {out out' : List ℕ} {at to : Position} → to ≡ after_record at n → n ≡ length (encode x) → at.words + n ≤ length out → out' ≡ sets out at.words (encode x)
-    → WroteSteps (write [] x ∷ []) out at (linearized.Done to) out'
+    → WroteSteps (write [] x ∷ []) out at (Ok to) out'
 record_written x n {at = at} d e h o =
     record { plays = plays_write [] x (omega arith) o (ap (λ p. p.words) d ∙ ap (λ (m : ℕ). at.words + m) e) (ap (λ p. p.records) d); level = ap (λ p. p.trace) d }
 
 -- a record is too long for the words left
 pub record_refused : (x : Record) {out : List ℕ} {at : Position} → InOutput out at → length out < at.words + length (encode x)
-    → WroteSteps (write [] x ∷ []) out at (output_full_at at) out
+    → WroteSteps (write [] x ∷ []) out at (Err (output_full_at at)) out
 unfolding play
 record_refused x {out} {at} k h =
     record {
@@ -36,22 +35,27 @@ record_refused x {out} {at} k h =
     }
 
 -- words are appended, whatever record they are, or there is no room for them
-pub appended : {ws out out' : List ℕ} {at to : Position} (n : ℕ) → to ≡ after_record at n → n ≡ length ws → at.words + n ≤ length out → out' ≡ sets out at.words ws → AppendedWords ws out at (linearized.Done to) out'
+pub appended : {ws out out' : List ℕ} {at to : Position} (n : ℕ) → to ≡ after_record at n → n ≡ length ws → at.words + n ≤ length out → out' ≡ sets out at.words ws → AppendedWords ws out at (Ok to) out'
 appended n p e h o = record { wrote = λ x d. record_written x n p (e ∙ ap length (sym d)) h (o ∙ rw (sym d) refl) }
 
-pub not_appended : {ws out : List ℕ} {at : Position} → InOutput out at → length out < at.words + length ws → AppendedWords ws out at (output_full_at at) out
+pub not_appended : {ws out : List ℕ} {at : Position} → InOutput out at → length out < at.words + length ws → AppendedWords ws out at (Err (output_full_at at)) out
 not_appended k h = record { wrote = λ x e. record_refused x k (omega (arith, ap length e)) }
 
 -- where steps were played to their end, the position is still in the output
-pub wrote_open : {ss : List Step} {out out' : List ℕ} {at p : Position} → InOutput out at → WroteSteps ss out at (linearized.Done p) out' → InOutput out' p
+pub wrote_open : {ss : List Step} {out out' : List ℕ} {at p : Position} → InOutput out at → WroteSteps ss out at (Ok p) out' → InOutput out' p
 wrote_open o w = record { inside = w.plays.fits; fewer = omega (arith, o.fewer, w.plays.fewer) }
 
 -- an answer that equals another one
-pub wrote_answer : {ss : List Step} {out out' : List ℕ} {at : Position} {r s : Linearized} → r ≡ s → WroteSteps ss out at s out' → WroteSteps ss out at r out'
-wrote_answer {ss} {out} {out'} {at} e w = subst (λ (z : Linearized). WroteSteps ss out at z out') (sym e) w
+pub wrote_answer : {ss : List Step} {out out' : List ℕ} {at : Position} {r s : RunResult} → r ≡ s → WroteSteps ss out at s out' → WroteSteps ss out at r out'
+wrote_answer {ss} {out} {out'} {at} e w = subst (λ (z : RunResult). WroteSteps ss out at z out') (sym e) w
+
+-- the refusal that a `?` hands on is the one that it was given
+pub handed_on : {A : Type 0} (r : Result A LinearizeError) {e : LinearizeError} → IsErrAnd r (λ d. d ≡ e) → r ≡ Err e
+handed_on (Ok x) h = absurd h
+handed_on (Err d) h = ap Err h
 
 -- a refusal before which nothing is written
-pub refuses : (x : Refusal) (e : LinearizeError) {out : List ℕ} {at : Position} → e.at ≡ at → ((t : List ℕ) → refusal_answer e.kind t ≡ refused t x) → InOutput out at → WroteSteps (refuse [] x ∷ []) out at (linearized.Refused e) out
+pub refuses : (x : Refusal) (e : LinearizeError) {out : List ℕ} {at : Position} → e.at ≡ at → ((t : List ℕ) → refusal_answer e.kind t ≡ refused t x) → InOutput out at → WroteSteps (refuse [] x ∷ []) out at (Err e) out
 unfolding play
 refuses x e {out} {at} p q o =
     record {
@@ -72,10 +76,10 @@ not_done (kind.Flawed c) t e = absurd (let z : ◌≡◌ {A = ℕ} 0 1 = cc in o
 not_done kind.ShortTrace t e = absurd (let z : ◌≡◌ {A = ℕ} 0 1 = cc in omega arith)
 
 -- the same steps, otherwise written
-pub wrote_steps : {ss ss' : List Step} {out out' : List ℕ} {at : Position} {r : Linearized} → ss ≡ ss' → WroteSteps ss out at r out' → WroteSteps ss' out at r out'
+pub wrote_steps : {ss ss' : List Step} {out out' : List ℕ} {at : Position} {r : RunResult} → ss ≡ ss' → WroteSteps ss out at r out' → WroteSteps ss' out at r out'
 wrote_steps e w = rw (← e) w
 
 -- no step is written
-pub wrote_nothing : {out : List ℕ} {at : Position} → InOutput out at → WroteSteps [] out at (linearized.Done at) out
+pub wrote_nothing : {out : List ℕ} {at : Position} → InOutput out at → WroteSteps [] out at (Ok at) out
 unfolding play
 wrote_nothing o = record { plays = plays_stop [] o.inside refl; level = refl }

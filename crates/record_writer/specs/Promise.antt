@@ -1,5 +1,5 @@
 -- What the functions that write records promise, and what their answers say in document 01's words.
-use Rattle.std.specs.Prelude.{ℕ, ◌+◌, ◌≤◌, ◌<◌, ◌≡◌, List, [], ◌∷◌, length, get_or}
+use Rattle.std.specs.Prelude.{ℕ, ◌+◌, ◌≤◌, ◌<◌, ◌≡◌, List, [], ◌∷◌, length, get_or, Result, Ok, Err}
 use Rattle.value.specs.declared.Value.{Value}
 use Rattle.value.specs.Value.{Sound}
 use Rattle.model.specs.Limits.{most_parameters, most_arguments}
@@ -13,8 +13,7 @@ use Rattle.image.specs.Answer.{refusal_flaw, number_in, place_in}
 use Rattle.record_writer.specs.declared.Position.{Position}
 use Rattle.record_writer.specs.declared.LinearizeErrorKind.{LinearizeErrorKind}
 use Rattle.record_writer.specs.declared.LinearizeErrorKind.TheVariants as kind
-use Rattle.record_writer.specs.declared.Linearized.{Linearized}
-use Rattle.record_writer.specs.declared.Linearized.TheVariants as linearized
+use Rattle.record_writer.specs.declared.LinearizeError.{LinearizeError}
 
 -- the answer that a kind of refusal is, with the words of the trace
 abbrev pub refusal_answer : LinearizeErrorKind → List ℕ → Answer
@@ -27,14 +26,19 @@ refusal_answer kind.OutputFull t = full t
 refusal_answer (kind.Flawed c) t = flawed (number_in (refusal_flaw c)) (place_in (refusal_flaw c))
 refusal_answer kind.ShortTrace t = short_trace
 
-abbrev pub run_answer_of : Linearized → List ℕ → Answer
-run_answer_of (linearized.Done p) t = done
-run_answer_of (linearized.Refused e) t = refusal_answer e.kind t
+-- how a run ends: the code's `Linearized` is another name for this type
+abbrev pub RunResult : Type 0
+RunResult = Result Position LinearizeError
+
+-- the answer that the end of a run is, with the words of the trace
+abbrev pub run_answer_of : RunResult → List ℕ → Answer
+run_answer_of (Ok p) t = done
+run_answer_of (Err e) t = refusal_answer e.kind t
 
 -- the position of an answer: what is written by then
-abbrev pub position_of : Linearized → Position
-position_of (linearized.Done p) = p
-position_of (linearized.Refused e) = e.at
+abbrev pub position_of : RunResult → Position
+position_of (Ok p) = p
+position_of (Err e) = e.at
 
 abbrev pub state_at : List ℕ → Position → OutputState
 state_at out p = record { out = out; words = p.words; records = p.records }
@@ -45,20 +49,20 @@ pub record InOutput (out : List ℕ) (at : Position) : Type 0 where
   pub fewer : at.records ≤ at.words
 
 -- some steps were played, and no call is left on the stack by them
-pub record WroteSteps (ss : List Step) (out : List ℕ) (at : Position) (r : Linearized) (out' : List ℕ) : Type 0 where
+pub record WroteSteps (ss : List Step) (out : List ℕ) (at : Position) (r : RunResult) (out' : List ℕ) : Type 0 where
   pub plays : Plays ss (state_at out at) (state_at out' (position_of r)) (run_answer_of r [])
   pub level : (position_of r).trace ≡ at.trace
 
 -- some steps were played, and none was refused
 abbrev pub WroteStepsTo : List Step → List ℕ → Position → Position → List ℕ → Type 0
-WroteStepsTo ss out at to out' = WroteSteps ss out at (linearized.Done to) out'
+WroteStepsTo ss out at to out' = WroteSteps ss out at (Ok to) out'
 
 -- the refusal of a record that is longer than the words left
-abbrev pub output_full_at : Position → Linearized
-output_full_at at = linearized.Refused (record { kind = kind.OutputFull; at = at })
+abbrev pub output_full_at : Position → LinearizeError
+output_full_at at = record { kind = kind.OutputFull; at = at }
 
 -- some words were appended: whatever record they are, it was written
-pub record AppendedWords (ws out : List ℕ) (at : Position) (r : Linearized) (out' : List ℕ) : Type 0 where
+pub record AppendedWords (ws out : List ℕ) (at : Position) (r : RunResult) (out' : List ℕ) : Type 0 where
   pub wrote : (x : Record) → encode x ≡ ws → WroteSteps (write [] x ∷ []) out at r out'
 
 -- sixteen angles, each in lowest terms and in range

@@ -1,39 +1,33 @@
 // Standard input: what a program looks at of it, and what is left behind that. Any other reader is read alike.
 #![tactic(auto)]
 
-ghost use Rattle.std.specs.Prelude.{◌≤◌, length, IfOk};
+ghost use Rattle.std.specs.Prelude.{◌≡◌, ◌≤◌, take, vec_len, IfOk, IfSome, OnOk};
+ghost use Rattle.std.specs.Io.KnownBytes.{IsAtEnd};
 
+use std::alloc::Allocator;
 use std::io;
 use std::io::Read;
 
-// Reads until the room is full or the input ends, and answers how many bytes are put at the start of the room.
-pub fn read_full<R: Read>(input: &mut R, room: &mut [u8]) -> io::Result<usize>
-    ensures { IfOk result (λ n. n ≤ length room.new) }
+// Reads until so many bytes are read or the input ends, and answers the bytes.
+pub fn read_most<R: Read, A: Allocator>(
+    alloc: A,
+    input: &mut R,
+    most: usize,
+) -> io::Result<Vec<u8, A>>
+    ensures bound { IfOk result (λ bytes. vec_len bytes ≤ most) }
+    ensures front { IfOk result (λ bytes. IfSome (R.remaining input.old) (λ known. bytes.items ≡ take most known)) }
 {
-    let mut done = 0;
-    while done < room.len() {
-        let n = input.read(&mut room[done..])?;
-        if n == 0 {
-            break;
-        }
-        done += n;
-    }
-    Ok(done)
-}
-
-// Reads more of the input, and answers whether there was any.
-fn read_more<R: Read>(input: &mut R) -> io::Result<bool> {
-    let mut rest = [0u8; 65536];
-    let n = read_full(input, &mut rest)?;
-    Ok(n != 0)
+    let mut bytes = Vec::new(alloc);
+    input.take(most as u64).read_to_end(&mut bytes)?;
+    // This cuts nothing off: where the reader's bytes are unknown, no contract of the library says so.
+    bytes.truncate(most);
+    Ok(bytes)
 }
 
 // Reads what is left of the input, so that whoever writes it can end.
-pub fn read_rest<R: Read>(input: &mut R) -> io::Result<()> {
-    for _ in 0..u64::MAX {
-        if !read_more(input)? {
-            break;
-        }
-    }
+pub fn read_rest<R: Read>(input: &mut R) -> io::Result<()>
+    ensures { OnOk result (IsAtEnd (R.remaining input.new)) }
+{
+    io::copy(input, &mut io::sink())?;
     Ok(())
 }

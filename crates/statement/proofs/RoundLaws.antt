@@ -7,20 +7,17 @@ use lib.ListN.{length}
 use Rattle.value.specs.declared.Value.{Value}
 use Rattle.model.specs.Records.{Record, encode, kind as kind_of, fields}
 use Rattle.model.specs.Steps.{Step, write, Frame, in_rounds, qubit_in, bit_in, write_reset, write_measure, write_cx, write_u}
-use Rattle.model.specs.Image.{argument_at}
 use Rattle.model.specs.Run.{play}
 use Rattle.model.proofs.PlayLaws.{plays_stop}
 use Rattle.record_writer.specs.declared.Position.{Position}
-use Rattle.record_writer.specs.declared.LinearizeErrorKind.TheVariants as kind
-use Rattle.record_writer.specs.declared.Linearized.{Linearized}
-use Rattle.record_writer.specs.declared.Linearized.TheVariants as linearized
-use Rattle.record_writer.specs.Promise.{output_full_at, InOutput, WroteSteps}
+use Rattle.std.specs.Prelude.{Err}
+use Rattle.record_writer.specs.Promise.{RunResult, output_full_at, InOutput, WroteSteps}
 use Rattle.record_writer.proofs.WroteStepsLaws.{record_refused}
 use Rattle.record_writer.proofs.AngleWordsLaws.{u_long}
 use Rattle.argument.specs.declared.Argument.{Argument}
 use Rattle.argument.specs.Frames.{scope_frame, quantum_argument, number_in_round, ScopeContext}
 use Rattle.argument.proofs.ArgumentLaws.{few_rounds, resolved_below, one_round_range}
-use Rattle.image.specs.declared.Layout.{Layout}
+use Rattle.model.specs.Accepted.{Accepted}
 use Rattle.model.specs.Check.{argument_ok}
 use lib.Dec.{T}
 use native.Mathlib.Omega.{arith}
@@ -52,28 +49,24 @@ pub u_round_lem : (x : Argument) (theta phi lambda : Value) (i : ℕ) {q : ℕ} 
 unfolding u_round
 u_round_lem x theta phi lambda i e = ap (λ (q : ℕ). write [] (Record.U theta phi lambda q) ∷ []) e
 
-pub u_full : (x : Argument) (theta phi lambda : Value) (i : ℕ) {out : List ℕ} {at : Position} → InOutput out at → length out < at.words + 14 → WroteSteps (u_round x theta phi lambda i) out at (output_full_at at) out
+pub u_full : (x : Argument) (theta phi lambda : Value) (i : ℕ) {out : List ℕ} {at : Position} → InOutput out at → length out < at.words + 14 → WroteSteps (u_round x theta phi lambda i) out at (Err (output_full_at at)) out
 unfolding u_round
 u_full x theta phi lambda i {out} {at} o h = record_refused (Record.U theta phi lambda (number_in_round x i)) o (subst (λ (n : ℕ). length out < at.words + n) (u_long theta phi lambda (number_in_round x i)) h)
 
 -- the qubits of an accepted argument are few
-pub few_qubits : {image : List ℕ} {l : Layout} {register-starts : List ℕ} {scope : ℕ} {qubits : List ℕ} → ScopeContext image l register-starts scope qubits → (a : ℕ) {x : Argument} → T (argument_ok image scope a) → x ≡ quantum_argument image scope qubits a → FewQubits x
-few_qubits s a k e = (few_rounds s a k e, λ i h. omega (arith, resolved_below s a i k (one_round_range s a i e h), ap (λ (x : Argument). number_in_round x i) e))
-
--- the refusal of a CX whose arguments have one qubit
-pub overlap_refusal : (image : List ℕ) (a b : ℕ) {at : Position} {m n : ℕ} → m ≡ argument_at image a → n ≡ argument_at image b → linearized.Refused (record { kind = kind.OverlappingRegs m n; at = at }) ≡ overlap_at_cx image a b at
-overlap_refusal image a b e f = rw (e, f) refl
+pub few_qubits : {image : List ℕ} → Accepted image → {scope : ℕ} {qubits : List ℕ} → ScopeContext image scope qubits → (a : ℕ) {x : Argument} → T (argument_ok image scope a) → x ≡ quantum_argument image scope qubits a → FewQubits x
+few_qubits acc s a k e = (few_rounds acc s a k e, λ i h. omega (arith, resolved_below acc s a i k (one_round_range acc s a i e h), ap (λ (x : Argument). number_in_round x i) e))
 
 -- the three ends of a round of a CX
 module _ (image : List ℕ) (a b : ℕ) {out : List ℕ} {p q : ℕ} {at : Position} where
-  pub cx_overlaps : InOutput out at → p ≡ q → WroteSteps (apart_cx image a b p q) out at (overlap_at_cx image a b at) out
+  pub cx_overlaps : InOutput out at → p ≡ q → WroteSteps (apart_cx image a b p q) out at (Err (overlap_at_cx image a b at)) out
   unfolding apart_cx play
   cx_overlaps o d = rw (eq-eqb p q d) (record { plays = plays_stop _ o.inside refl; level = refl })
 
-  pub cx_apart : {p' q' : ℕ} {r : Linearized} {out' : List ℕ} → p' ≡ p → q' ≡ q → ¬ (p' ≡ q') → WroteSteps (write [] (Record.CX p' q') ∷ []) out at r out' → WroteSteps (apart_cx image a b p q) out at r out'
+  pub cx_apart : {p' q' : ℕ} {r : RunResult} {out' : List ℕ} → p' ≡ p → q' ≡ q → ¬ (p' ≡ q') → WroteSteps (write [] (Record.CX p' q') ∷ []) out at r out' → WroteSteps (apart_cx image a b p q) out at r out'
   unfolding apart_cx
   cx_apart e f n w = rw (← e, ← f, ne_eqb _ _ n) w
 
-  pub cx_full : {p' q' : ℕ} → p' ≡ p → q' ≡ q → ¬ (p' ≡ q') → InOutput out at → length out < at.words + 3 → WroteSteps (apart_cx image a b p q) out at (output_full_at at) out
+  pub cx_full : {p' q' : ℕ} → p' ≡ p → q' ≡ q → ¬ (p' ≡ q') → InOutput out at → length out < at.words + 3 → WroteSteps (apart_cx image a b p q) out at (Err (output_full_at at)) out
   unfolding encode kind_of fields
   cx_full {p'} {q'} e f n o h = cx_apart e f n (record_refused (Record.CX p' q') o h)

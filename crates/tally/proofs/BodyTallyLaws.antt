@@ -1,60 +1,69 @@
--- What is known of a scope's statements, what they come to, and what the whole image comes to.
-use Prim.Native.Nat.{ℕ, zero, suc, ◌+◌, ◌-◌, ◌*◌, ◌≤◌, ◌<◌}
-use native.Mathlib.Omega.{arith}
-use mathlib.Core.Path.{◌≡◌, ap, ◌∙◌}
-use mathlib.Core.Bool.{Bool, false, cond}
-use mathlib.Core.List.{List, map}
-use lib.Dec.{eqb}
+-- What the statements of a scope come to, one by one.
+use Rattle.std.proofs.Common.{ℕ, zero, suc, ◌+◌, ◌-◌, ◌*◌, cond, eqb, ◌≤◌, ◌≡◌, refl, sym, ◌∙◌, List, map, arith}
 use borrow.Author.Tests.{ne_eqb}
 use Rattle.model.specs.Lists.{range, sum}
-use Rattle.model.specs.Image.{statement, word, gates, main_statements, statement_at, qubits, bits, scope_statements}
-use Rattle.model.specs.Check.{fine, check}
-use Rattle.model.specs.Tally.{plain_tally, conditional_tally, statement_tally, body_tally, weight_tally}
-use Rattle.model.proofs.Accepted.{accepts}
-use Rattle.model.proofs.Facts.{run_facts}
-use Rattle.model.specs.Accepted.{PlainFacts, Facts}
-use Rattle.model.proofs.StatementOfLaws.{if_at}
-use Rattle.tally.specs.Weights.{weight_of, entry_of, capped, opening_for}
-use Rattle.tally.proofs.PlainTallyLaws.{plain_any}
+use Rattle.model.specs.Image.{statement, scope_statements, main_statements, qubits, bits}
+use Rattle.model.specs.Tally.{plain_tally, statement_tally, body_tally, weight_tally}
+use Rattle.model.proofs.Ranges.{sum_next}
+use Rattle.image.specs.declared.statement.Statement.{Statement}
+use Rattle.image.specs.declared.statement.Statement.TheVariants.{U, CX, Gate, Barrier, Measure, Reset, Conditional}
+use Rattle.image.specs.Entries.{as_statement}
+use Rattle.tally.specs.Weights.{weight_of, entry_of, opening_for, capped_figures, figure, no_figures, plain_figure, statement_figure, body_figure}
+use Rattle.tally.specs.declared.figures.Figures.{Figures}
+use Rattle.tally.proofs.CappedLaws.{sum_of, alike, none_is}
 
-module _ (image : List ℕ) where
-  -- ---- one statement
-  module _ (scope s at kind : ℕ) (at-is : at ≡ statement_at image s) (kind-is : kind ≡ word image at) where
-    pub if_comes : (j n t r : ℕ) → kind ≡ 7 → t ≡ word image (at + 3) → r ≡ capped (conditional_tally image (weight_of j) (entry_of j) (opening_for image j n) scope t)
-        → r ≡ capped (statement_tally image (weight_of j) (entry_of j) (opening_for image j n) scope s)
-    unfolding statement_tally plain_tally
-    if_comes j n t r e et er = rw (if_at image scope s at kind at-is kind-is t e et) er
+module _ (image : List ℕ) (n scope : ℕ) where
+  -- what a statement that is no if comes to does not hang on what an if comes to
+  plain_any : (v w : ℕ → ℕ) (x : Statement) → ((r k t : ℕ) → x ≡ Conditional r k t → ⊥) → (j : ℕ)
+      → plain_tally image (weight_of j) (entry_of j) v (opening_for image j n) scope (as_statement x) ≡ plain_tally image (weight_of j) (entry_of j) w (opening_for image j n) scope (as_statement x)
+  unfolding plain_tally
+  plain_any v w (U a b c d) h j = refl
+  plain_any v w (CX a b) h j = refl
+  plain_any v w (Gate g p a) h j = refl
+  plain_any v w (Barrier a m) h j = refl
+  plain_any v w (Measure q c) h j = refl
+  plain_any v w (Reset q) h j = refl
+  plain_any v w (Conditional r k t) h j = absurd (h r k t refl)
 
-  pub plain_comes : (scope s j n r : ℕ) → PlainFacts image scope (statement image s)
-      → r ≡ capped (plain_tally image (weight_of j) (entry_of j) (λ t. 0) (opening_for image j n) scope (statement image s))
-      → r ≡ capped (statement_tally image (weight_of j) (entry_of j) (opening_for image j n) scope s)
+  pub plain_comes : (x : Statement) (s : ℕ) → ((r k t : ℕ) → x ≡ Conditional r k t → ⊥) → as_statement x ≡ statement image s → (j : ℕ) → plain_figure image n scope (as_statement x) j ≡ statement_figure image n scope s j
   unfolding statement_tally
-  plain_comes scope s j n r f er =
-      er ∙ ap capped (plain_any image scope (weight_of j) (entry_of j) (λ t. 0) (conditional_tally image (weight_of j) (entry_of j) (opening_for image j n) scope) (opening_for image j n) (statement image s) f)
+  plain_comes x s h e j = rw (← e) (plain_any _ _ x h j)
 
-  -- ---- a run of statements
-  pub body_facts : check image ≡ fine → (scope first count i : ℕ) → scope ≤ gates image → scope_statements image scope ≡ range first count → i < count → Facts image scope (statement image (first + i))
-  body_facts ok scope first count i within run h = run_facts image (accepts image ok) scope first count i within run h
+  -- ---- what the statements from one to below another come to
+  abbrev pub so_far : ℕ → ℕ → ℕ → ℕ
+  so_far from s j = sum (map (λ t. statement_figure image n scope t j) (range from (s - from)))
 
-  pub body_is : (scope first count j n r : ℕ) → scope_statements image scope ≡ range first count
-      → r ≡ capped (0 + sum (map (statement_tally image (weight_of j) (entry_of j) (opening_for image j n) scope) (range first count)))
-      → r ≡ capped (body_tally image (weight_of j) (entry_of j) (opening_for image j n) scope)
+  none_lem : (from j : ℕ) → 0 ≡ so_far from from j
+  unfolding sum range
+  none_lem from j = let z : from - from ≡ 0 = omega arith in rw z refl
+
+  pub none_yet : (from : ℕ) → no_figures ≡ capped_figures (so_far from from)
+  none_yet from = none_is ∙ alike _ _ (none_lem from)
+
+  more_lem : (from s j : ℕ) → from ≤ s → so_far from s j + statement_figure image n scope s j ≡ so_far from (s + 1) j
+  more_lem from s j h =
+      let e : s + 1 - from ≡ s - from + 1 = omega arith in
+      let here : from + (s - from) ≡ s = omega arith in
+      rw e (sym (rw here at (sum_next (λ t. statement_figure image n scope t j) from (s - from))))
+
+  pub one_more : (from s : ℕ) (total added r : Figures) → from ≤ s → total ≡ capped_figures (so_far from s) → added ≡ capped_figures (statement_figure image n scope s)
+      → r ≡ capped_figures (λ j. figure total j + figure added j) → r ≡ capped_figures (so_far from (s + 1))
+  one_more from s total added r h et ea er =
+      sum_of (so_far from s) (statement_figure image n scope s) total added r et ea er ∙ alike _ _ (λ j. more_lem from s j h)
+
+  pub whole_body : (from end : ℕ) → scope_statements image scope ≡ range from (end - from) → (j : ℕ) → so_far from end j ≡ body_figure image n scope j
   unfolding body_tally
-  body_is scope first count j n r run er = rw run (omega arith)
+  whole_body from end e j = rw e refl
 
-  -- ---- in all
-  total_cases : (f : ℕ → ℕ) (main w statements head r : ℕ) → statements ≡ capped (sum (map f (range 0 main))) → head ≡ cond (eqb main 0) 0 w
-      → r ≡ capped (statements + head) → r ≡ capped (cond (eqb main 0) 0 (w + sum (map f (range 0 main))))
-  unfolding range sum
-  total_cases f zero w statements head r es eh er = omega arith
-  total_cases f (suc m) w statements head r es eh er =
-      let z : eqb (suc m) 0 ≡ false = ne_eqb (suc m) 0 (omega arith) in
-      let eh' : head ≡ w = eh ∙ ap (λ (b : Bool). cond b 0 w) z in
-      rw z (omega arith)
+-- ---- in all: main's statements, and the head if there are any
+total_lem : (f : ℕ → ℕ) (main head : ℕ) → sum (map f (range 0 main)) + cond (eqb main 0) 0 head ≡ cond (eqb main 0) 0 (head + sum (map f (range 0 main)))
+unfolding range sum
+total_lem f zero head = refl
+total_lem f (suc m) head = rw (ne_eqb (suc m) 0 (omega arith)) (omega arith)
 
-  pub total_is : (j n main words w statements head r : ℕ) → main ≡ main_statements image → words ≡ 3 + 2 * (qubits image + bits image) → w ≡ weight_of j 0 words
-      → statements ≡ capped (body_tally image (weight_of j) (entry_of j) (opening_for image j n) 0) → head ≡ cond (eqb main 0) 0 w → r ≡ capped (statements + head) → r ≡ capped (weight_tally image (weight_of j) (entry_of j) (n + 1))
-  unfolding weight_tally body_tally scope_statements
-  total_is j n main words w statements head r em ew ee es eh er =
-      let m : n + 1 - 1 ≡ n = omega arith in
-      rw (m, ← em, ← ew, ← ee) (total_cases (statement_tally image (weight_of j) (entry_of j) (opening_for image j n) 0) main w statements head r (rw em es) eh er)
+pub total_is : (image : List ℕ) (n j : ℕ)
+    → body_figure image n 0 j + cond (eqb (main_statements image) 0) 0 (weight_of j 0 (3 + 2 * (qubits image + bits image))) ≡ weight_tally image (weight_of j) (entry_of j) (n + 1)
+unfolding weight_tally body_tally scope_statements
+total_is image n j =
+    let m : n + 1 - 1 ≡ n = omega arith in
+    rw m (total_lem (λ s. statement_figure image n 0 s j) (main_statements image) (weight_of j 0 (3 + 2 * (qubits image + bits image))))

@@ -1,10 +1,6 @@
 -- The nine figures are those of the nine weights, and that they are capped does not change the answer.
-use Prim.Native.Nat.{ℕ, ◌+◌, ◌-◌, ◌^◌, ◌≤◌, ◌<◌, min}
-use native.Mathlib.Omega.{arith}
-use mathlib.Core.Path.{◌≡◌, refl, sym, ap, ap₂, subst, ◌∙◌}
-use mathlib.Core.Bool.{Bool, true, false, ◌&&◌}
-use mathlib.Core.List.{List, [], ◌∷◌, map}
-use lib.Dec.{ltb, leb}
+use Rattle.std.proofs.Common.{ℕ, ◌+◌, ◌-◌, ◌^◌, ◌≤◌, ◌<◌, min, ◌≡◌, refl, sym, ap, ◌∙◌, Bool, true, false, ◌&&◌, List, [], ◌∷◌, map, ltb, leb, arith}
+use mathlib.Core.Path.{ap₂}
 use borrow.Author.Tests.{ltb-true, ltb-false, le-leb, lt-leb}
 use Rattle.model.specs.Lists.{range, largest, all}
 use Rattle.model.specs.Image.{gates}
@@ -16,22 +12,18 @@ use Rattle.model.proofs.Deep.{deep_figures}
 use Rattle.image.specs.declared.CheckRefusal.{CheckRefusal}
 use Rattle.image.specs.declared.CheckRefusal.TheVariants as refusal
 use Rattle.image.specs.Answer.{refusal_flaw}
-use Rattle.image_check.specs.declared.LayoutAnswer.{LayoutAnswer}
-use Rattle.image_check.specs.declared.LayoutAnswer.TheVariants as answer
-use Rattle.image_check.specs.Answer.{LayoutAnswerOf}
-use Rattle.tally.specs.Weights.{weight_of, entry_of, capped, refused_as}
+use Rattle.tally.specs.Weights.{weight_of, entry_of, capped, capped_figures, nine_of, refused_as}
+use Rattle.tally.specs.declared.figures.Figures.{Figures}
 
 module _ (image : List ℕ) where
   pub figures_by_weight : (depth : ℕ) → figures image depth ≡ map (λ j. weight_tally image (weight_of j) (entry_of j) depth) (range 0 9)
   unfolding figures record_figure entry_figure word_bound range weight_of entry_of
   figures_by_weight depth = refl
 
-  pub nine_capped : (d u cx opaque barrier measure reset conditional entries words : ℕ) → let W : ℕ → ℕ = λ j. capped (weight_tally image (weight_of j) (entry_of j) d) in
-      u ≡ W 0 → cx ≡ W 1 → opaque ≡ W 2 → barrier ≡ W 3 → measure ≡ W 4 → reset ≡ W 5 → conditional ≡ W 6 → entries ≡ W 7 → words ≡ W 8
-      → (u ∷ cx ∷ opaque ∷ barrier ∷ measure ∷ reset ∷ conditional ∷ entries ∷ words ∷ []) ≡ map capped (figures image d)
-  unfolding range
-  nine_capped d u cx opaque barrier measure reset conditional entries words e₀ e₁ e₂ e₃ e₄ e₅ e₆ e₇ e₈ =
-      rw (e₀, e₁, e₂, e₃, e₄, e₅, e₆, e₇, e₈) (sym (ap (map capped) (figures_by_weight d)))
+  -- the figures of the nine weights
+  pub nine_capped : (depth : ℕ) → nine_of (capped_figures (λ j. weight_tally image (weight_of j) (entry_of j) depth)) ≡ map capped (figures image depth)
+  unfolding range capped_figures
+  nine_capped depth = sym (ap (map capped) (figures_by_weight depth))
 
   -- ---- only the levels opened enter, up to the number of gates
   weight_same : (j d e : ℕ) → d - 1 ≡ e - 1 → weight_tally image (weight_of j) (entry_of j) d ≡ weight_tally image (weight_of j) (entry_of j) e
@@ -69,22 +61,25 @@ passing (x ∷ l) h = go (ltb x (2 ^ 32)) refl (passing l)
     go false p later = let q = ltb-false x (2 ^ 32) p in rw (lt-leb x 4294967295 (omega arith)) refl
 
 -- ---- the answer
-module _ (image : List ℕ) (depth n m : ℕ) (nine : List ℕ) (ok : check image ≡ fine) (g : ℕ) (gates_are : g ≡ gates image) (levels_are : n ≡ min (depth - 1) g) (nine-are : nine ≡ map capped (figures image (n + 1))) (most-is : m ≡ largest nine) where
+module _ (image : List ℕ) (depth n : ℕ) (f : Figures) (ok : check image ≡ fine) (levels_are : n ≡ min (depth - 1) (gates image)) (figures-are : f ≡ capped_figures (λ j. weight_tally image (weight_of j) (entry_of j) (n + 1))) where
   same : figures image depth ≡ figures image (n + 1)
-  same = levels_enough image (accepts image ok) depth n (rw (← gates_are) levels_are)
+  same = levels_enough image (accepts image ok) depth n levels_are
 
-  pub tally_figures : m < 2 ^ 32 → tallied nine ≡ tally image depth
+  nine-are : nine_of f ≡ map capped (figures image (n + 1))
+  nine-are = ap nine_of figures-are ∙ nine_capped image (n + 1)
+
+  pub tally_figures : largest (nine_of f) < 2 ^ 32 → tallied (nine_of f) ≡ tally image depth
   unfolding tally if_accepted
   tally_figures h =
-      let e : largest (map capped (figures image (n + 1))) ≡ m = sym (most-is ∙ ap largest nine-are) in
+      let e : largest (nine_of f) ≡ largest (map capped (figures image (n + 1))) = ap largest nine-are in
       let u = uncapped (figures image (n + 1)) (omega arith) in
       let s = small (figures image (n + 1)) (omega (arith, ap largest u)) in
-      rw (ok, same, s, nine-are, u) refl
+      rw (ok, same, s) (ap tallied (nine-are ∙ u))
 
-  pub tally_large : 2 ^ 32 ≤ m → refused 16 0 ≡ tally image depth
+  pub tally_large : 2 ^ 32 ≤ largest (nine_of f) → refused 16 0 ≡ tally image depth
   unfolding tally if_accepted
   tally_large h =
-      let e : largest (map capped (figures image (n + 1))) ≡ m = sym (most-is ∙ ap largest nine-are) in
+      let e : largest (nine_of f) ≡ largest (map capped (figures image (n + 1))) = ap largest nine-are in
       rw (ok, same, passing (figures image (n + 1)) (omega arith)) refl
 
 -- an image that is refused
@@ -99,8 +94,6 @@ refused_tally (refusal.Expression p) a = refl
 refused_tally (refusal.Sizes p) a = refl
 refused_tally (refusal.Upward p) a = refl
 
-pub tally_refused : (image : List ℕ) (depth : ℕ) (a : LayoutAnswer) (r : CheckRefusal) → a ≡ answer.Refused r → LayoutAnswerOf image a → refused_as (refusal_flaw r) ≡ tally image depth
+pub tally_refused : (image : List ℕ) (depth : ℕ) (r : CheckRefusal) → refusal_flaw r ≡ check image → refused_as (refusal_flaw r) ≡ tally image depth
 unfolding tally
-tally_refused image depth a r e h =
-    let f : refusal_flaw r ≡ check image = subst (LayoutAnswerOf image) e h in
-    rw (← f) (refused_tally r _)
+tally_refused image depth r h = rw (← h) (refused_tally r _)

@@ -3,4 +3,4 @@ pub mod SignedTextLaws
 pub mod NumberLineLaws
 pub mod RecordLineLaws
 pub mod RecordTextLaws
-pub mod SameBytesLaws
+pub mod WordLaws

@@ -5,31 +5,20 @@ use native.Mathlib.Omega.{arith}
 use mathlib.Core.Path.{◌≡◌, refl}
 use mathlib.Core.Bool.{Bool, false}
 use mathlib.Core.List.{List, [], ◌∷◌, ◌++◌, append_assoc}
-use borrow.Author.Tests.{lt-ltb, le-ltb, le-leb, lt-leb, ne_eqb}
+use borrow.Author.Tests.{lt-ltb, le-ltb, le-leb}
 use lib.Dec.{eqb}
 use lib.ListN.{length, get_or, drop, length-append, drop_of_length-le}
 use lib.Seq.{drop-cons}
 use Rattle.model.specs.Listing.{decimal}
 use Rattle.text.specs.RecordLine.{word_text, numerator, words_text, record_line}
-use Rattle.text.specs.Put.{Room, Put, PutMost}
+use Rattle.text.specs.declared.Text.{Text}
+use Rattle.text.specs.Put.{RoomFor, Room, Put, PutMost}
 use Rattle.model.proofs.DecimalLaws.{decimal_short}
 use Rattle.text.proofs.SignedTextLaws.{word_short}
 
 -- ---- which words are numerators
 
 module _ (ws : List ℕ) (i : ℕ) where
-  pub numerator_u : get_or ws 0 0 ≡ 1 → i < 13 → eqb (i % 2) 1 ≡ numerator ws i
-  unfolding numerator
-  numerator_u k h = rw (k, lt-ltb i 13 h) refl
-
-  pub numerator_qubit : get_or ws 0 0 ≡ 1 → 13 ≤ i → false ≡ numerator ws i
-  unfolding numerator
-  numerator_qubit k h = rw (k, le-ltb i 13 h) refl
-
-  pub numerator_count : get_or ws 0 0 ≡ 3 → i < 4 → false ≡ numerator ws i
-  unfolding numerator
-  numerator_count k h = rw (k, lt-leb 4 i h) refl
-
   pub numerator_opaque : get_or ws 0 0 ≡ 3 → 4 ≤ i → (i - 4) / 4 < get_or ws 2 0 → eqb (i % 2) 0 ≡ numerator ws i
   unfolding numerator
   numerator_opaque k h l = rw (k, le-leb 4 i h, lt-ltb ((i - 4) / 4) (get_or ws 2 0) l) refl
@@ -37,10 +26,6 @@ module _ (ws : List ℕ) (i : ℕ) where
   pub numerator_behind : get_or ws 0 0 ≡ 3 → 4 ≤ i → get_or ws 2 0 ≤ (i - 4) / 4 → false ≡ numerator ws i
   unfolding numerator
   numerator_behind k h l = rw (k, le-leb 4 i h, le-ltb ((i - 4) / 4) (get_or ws 2 0) l) refl
-
-  pub numerator_none : ¬ (get_or ws 0 0 ≡ 1) → ¬ (get_or ws 0 0 ≡ 3) → false ≡ numerator ws i
-  unfolding numerator
-  numerator_none h k = rw (ne_eqb (get_or ws 0 0) 1 h, ne_eqb (get_or ws 0 0) 3 k) refl
 
 -- ---- the line, word after word
 
@@ -82,9 +67,9 @@ line_short (w ∷ l) h k =
       words_short ws 1 l (λ j. k (suc j)),
     )
 
-pub line_room : (ws : List ℕ) {text : List ℕ} (at : ℕ) → 1 ≤ length ws → ((j : ℕ) → get_or ws j 0 < 2 ^ 64) → at + 21 * length ws ≤ length text → Room (record_line ws) text at
-line_room ws at h k r = record { room = omega (arith, line_short ws h k) }
+module _ (ws : List ℕ) {t : Text} (some : 1 ≤ length ws) (fits : (j : ℕ) → get_or ws j 0 < 2 ^ 64) where
+  pub line_room : RoomFor (21 * length ws) t → Room (record_line ws) t
+  line_room r = record { room = omega (arith, line_short ws some fits) }
 
-pub line_most : (ws : List ℕ) {text text' : List ℕ} {at end : ℕ} → 1 ≤ length ws → ((j : ℕ) → get_or ws j 0 < 2 ^ 64)
-    → Put (record_line ws) text at end text' → PutMost (record_line ws) (21 * length ws) text at end text'
-line_most ws h k p = record { put = p; few = omega (arith, p.ends, line_short ws h k) }
+  pub line_most : {t' : Text} → Put (record_line ws) t t' → PutMost (record_line ws) (21 * length ws) t t'
+  line_most p = record { put = p; few = omega (arith, p.ends, line_short ws some fits) }

@@ -1,5 +1,5 @@
 -- A number in two's complement is its magnitude behind its sign, and a word has at most 20 bytes with it.
-use Prim.Native.Nat.{ℕ, suc, ◌+◌, ◌-◌, ◌^◌, ◌≤◌, ◌<◌}
+use Prim.Native.Nat.{ℕ, suc, ◌+◌, ◌-◌, ◌%◌, ◌^◌, ◌≤◌, ◌<◌}
 use native.Mathlib.Omega.{arith}
 use mathlib.Core.Path.{◌≡◌, refl, ap, ◌∙◌}
 use mathlib.Core.Bool.{Bool, true, false, cond}
@@ -19,11 +19,9 @@ pub minus_sign : (n : ℕ) → 2 ^ 63 ≤ n → signed_text n ≡ 45 ∷ decimal
 unfolding signed_text
 minus_sign n h = rw (le-ltb n (2 ^ 63) h) refl
 
--- with the code's own complement
-pub with_sign : (n : ℕ) → 2 ^ 63 ≤ n → n < 2 ^ 64 → signed_text n ≡ 45 ∷ decimal (2 ^ 64 - 1 - n + 1)
-with_sign n h i =
-    let e : 2 ^ 64 - n ≡ 2 ^ 64 - 1 - n + 1 = omega arith in
-    minus_sign n h ∙ ap (λ (m : ℕ). 45 ∷ decimal m) e
+-- the magnitude is the word's complement
+pub with_sign : (n m : ℕ) → 2 ^ 63 ≤ n → n < 2 ^ 64 → m < 2 ^ 64 → (m + n) % 2 ^ 64 ≡ 0 → signed_text n ≡ 45 ∷ decimal m
+with_sign n m h k l e = let same : 2 ^ 64 - n ≡ m = omega arith in minus_sign n h ∙ ap (λ (d : ℕ). 45 ∷ decimal d) same
 
 -- ---- at most 20 bytes
 

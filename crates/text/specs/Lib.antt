@@ -1,4 +1,3 @@
 pub mod Put
 pub mod NumberLine
 pub mod RecordLine
-pub mod SameBytes

@@ -2,8 +2,7 @@
 use Rattle.std.specs.Prelude.{◌≡◌, ℕ, List}
 use Rattle.model.specs.Run as Model
 use Rattle.record_writer.specs.declared.LinearizeErrorKind.{LinearizeErrorKind}
-use Rattle.record_writer.specs.declared.Linearized.{Linearized}
-use Rattle.record_writer.specs.Promise.{refusal_answer, run_answer_of}
+use Rattle.record_writer.specs.Promise.{RunResult, refusal_answer, run_answer_of}
 use Rattle.unit.specs.declared.Numbers.{Numbers}
 
 -- the code's numbers as the definition's
@@ -15,5 +14,5 @@ pub record RefusalNumbers (k : LinearizeErrorKind) (n : Numbers) : Type 0 where
   pub each : (t : List ℕ) → numbers_of n ≡ Model.answer_numbers (refusal_answer k t)
 
 -- the numbers of a run's answer, whatever the trace is
-pub record RunNumbers (r : Linearized) (n : Numbers) : Type 0 where
+pub record RunNumbers (r : RunResult) (n : Numbers) : Type 0 where
   pub each : (t : List ℕ) → numbers_of n ≡ Model.answer_numbers (run_answer_of r t)

@@ -12,20 +12,20 @@ ghost use Rattle.record_writer.specs.Promise.{position_of};
 ghost use Rattle.linearize.specs.Linearizes.{Linearizes};
 ghost use Rattle.unit.specs.AnswerNumbers.{RefusalNumbers, RunNumbers};
 
-use image::{CheckAnswer, refusal};
-use record_reader::NextRecord;
+use image::{CheckRefusal, RefusalNumber};
+use record_reader::NoRecord;
 use record_writer::{LinearizeErrorKind, Linearized, Position};
-use tally::Tallied;
+use tally::{Figures, TallyError};
 
 // Whether an image can be run: accepted, or what is wrong with it, and at which place. What holds of every refusal, a number from 1 to 8 among it, is `CheckClaims`.
-pub fn check(image: &[u64]) -> CheckAnswer
+pub fn check(image: &[u64]) -> Result<(), CheckRefusal>
     ensures { answer_flaw result ≡ check image.now }
 {
     image_check::check(image)
 }
 
 // What a run at a depth will write: records of each kind, body entries, words at most.
-pub fn tally(image: &[u64], depth: u64) -> Tallied
+pub fn tally(image: &[u64], depth: u64) -> Result<Figures, TallyError>
     ensures { tally_answer_of result ≡ tally image.now depth }
 {
     tally::tally(image, depth)
@@ -39,7 +39,7 @@ pub fn run(image: &[u64], depth: u64, out: &mut [u64], trace: &mut [u64]) -> Lin
 }
 
 // What stands at a position of some words: a record of so many words, the end, or no record.
-pub fn next_at(words: &[u64], at: usize) -> NextRecord
+pub fn next_at(words: &[u64], at: usize) -> Result<Option<usize>, NoRecord>
     ensures { result ≡ next_of (next_at words.now at) }
 {
     record_reader::next_at(words, at)
@@ -60,51 +60,46 @@ pub struct Numbers {
     pub second: u64,
 }
 
-// The number and the places of a refusal.
-fn refusal_numbers(kind: LinearizeErrorKind) -> Numbers
-    ensures { RefusalNumbers kind result }
-{
-    match kind {
-        LinearizeErrorKind::DivideByZero(place) => Numbers {
-            number: refusal::DIVIDE_BY_ZERO,
-            place,
-            second: 0,
-        },
-        LinearizeErrorKind::ApproximateFail(place, x) => Numbers {
-            number: refusal::APPROXIMATE_FAIL,
-            place,
-            second: float::f32_to_bits(x) as u64,
-        },
-        LinearizeErrorKind::NumericalOverflow(place) => Numbers {
-            number: refusal::NUMERICAL_OVERFLOW,
-            place,
-            second: 0,
-        },
-        LinearizeErrorKind::OverlappingRegs(place, second) => Numbers {
-            number: refusal::OVERLAPPING_REGS,
+impl Numbers {
+    fn new(number: u64, place: u64, second: u64) -> Numbers
+        ensures { result ≡ record { number = number; place = place; second = second } }
+    {
+        Numbers {
+            number,
             place,
             second,
-        },
-        LinearizeErrorKind::FunctionOfFloats(place) => Numbers {
-            number: refusal::FUNCTION_OF_FLOATS,
-            place,
-            second: 0,
-        },
-        LinearizeErrorKind::OutputFull => Numbers {
-            number: refusal::OUTPUT_FULL,
-            place: 0,
-            second: 0,
-        },
-        LinearizeErrorKind::Flawed(c) => Numbers {
-            number: image::refusal_number(c),
-            place: image::refusal_place(c),
-            second: 0,
-        },
-        LinearizeErrorKind::ShortTrace => Numbers {
-            number: refusal::SHORT_TRACE,
-            place: 0,
-            second: 0,
-        },
+        }
+    }
+}
+
+impl From<LinearizeErrorKind> for Numbers {
+    ghost from_gives = { RefusalNumbers };
+
+    fn from(kind: LinearizeErrorKind) -> Numbers {
+        match kind {
+            LinearizeErrorKind::DivideByZero(place) => {
+                Numbers::new(RefusalNumber::DivideByZero as u64, place, 0)
+            }
+            LinearizeErrorKind::ApproximateFail(place, x) => Numbers::new(
+                RefusalNumber::ApproximateFail as u64,
+                place,
+                float::f32_to_bits(x) as u64,
+            ),
+            LinearizeErrorKind::NumericalOverflow(place) => {
+                Numbers::new(RefusalNumber::NumericalOverflow as u64, place, 0)
+            }
+            LinearizeErrorKind::OverlappingRegs(place, second) => {
+                Numbers::new(RefusalNumber::OverlappingRegs as u64, place, second)
+            }
+            LinearizeErrorKind::FunctionOfFloats(place) => {
+                Numbers::new(RefusalNumber::FunctionOfFloats as u64, place, 0)
+            }
+            LinearizeErrorKind::OutputFull => Numbers::new(RefusalNumber::OutputFull as u64, 0, 0),
+            LinearizeErrorKind::Flawed(refusal) => {
+                Numbers::new(refusal.number(), refusal.place(), 0)
+            }
+            LinearizeErrorKind::ShortTrace => Numbers::new(RefusalNumber::ShortTrace as u64, 0, 0),
+        }
     }
 }
 
@@ -113,15 +108,8 @@ pub fn numbers_of(r: Linearized) -> Numbers
     ensures { RunNumbers r result }
 {
     match r {
-        Linearized::Done(_) => Numbers {
-            number: 0,
-            place: 0,
-            second: 0,
-        },
-        Linearized::Refused(e) => {
-            let kind = e.kind;
-            refusal_numbers(kind)
-        }
+        Ok(_) => Numbers::new(0, 0, 0),
+        Err(e) => Numbers::from(e.kind),
     }
 }
 
@@ -130,7 +118,7 @@ pub fn position_of(r: Linearized) -> Position
     ensures { result ≡ position_of r }
 {
     match r {
-        Linearized::Done(at) => at,
-        Linearized::Refused(e) => e.at,
+        Ok(at) => at,
+        Err(e) => e.at,
     }
 }

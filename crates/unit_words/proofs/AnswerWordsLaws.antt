@@ -9,25 +9,19 @@ use Rattle.model.specs.Claims.{Claims}
 use Rattle.image.specs.declared.CheckRefusal.{CheckRefusal}
 use Rattle.image.specs.declared.CheckRefusal.TheVariants as refusal
 use Rattle.image.specs.Answer.{number_in, place_in}
-use Rattle.tally.specs.Weights.{refused_as}
 use Rattle.record_writer.specs.declared.Position.{Position}
 use Rattle.record_writer.specs.declared.LinearizeErrorKind.{LinearizeErrorKind}
 use Rattle.record_writer.specs.declared.LinearizeErrorKind.TheVariants as kind
-use Rattle.record_writer.specs.declared.Linearized.{Linearized}
-use Rattle.record_writer.specs.declared.Linearized.TheVariants as linearized
-use Rattle.record_writer.specs.Promise.{refusal_answer, run_answer_of, position_of}
+use Rattle.std.specs.Prelude.{Ok, Err}
+use Rattle.record_writer.specs.Promise.{RunResult, refusal_answer, run_answer_of, position_of}
 use Rattle.linearize.specs.Linearizes.{answer_outcome, Linearizes}
 use Rattle.unit.specs.declared.Numbers.{Numbers}
 use Rattle.unit.specs.AnswerNumbers.{RunNumbers}
-use Rattle.unit_words.specs.AnswerWords.{check_words, tally_words, run_words, answer_in, outcome_in, RunExport}
+use Rattle.unit_words.specs.AnswerWords.{check_words, run_words, answer_in, outcome_in, RunExport}
 
 pub check_words_lem : (v : Flaw) → number_in v ∷ place_in v ∷ [] ≡ check_words v
 check_words_lem fine = refl
 check_words_lem (bad n p) = refl
-
-pub refused_words : (v : Flaw) → number_in v ∷ place_in v ∷ 0 ∷ 0 ∷ 0 ∷ 0 ∷ 0 ∷ 0 ∷ 0 ∷ 0 ∷ 0 ∷ [] ≡ tally_words (refused_as v)
-refused_words fine = refl
-refused_words (bad n p) = refl
 
 -- an answer is the one that has its numbers
 check_back : (c : CheckRefusal) (calls : List ℕ) → answer_in (Model.answer_numbers (refusal_answer (kind.Flawed c) calls)) calls ≡ refusal_answer (kind.Flawed c) calls
@@ -52,16 +46,16 @@ refusal_back kind.OutputFull calls = refl
 refusal_back (kind.Flawed c) calls = check_back c calls
 refusal_back kind.ShortTrace calls = refl
 
-answer_back : (r : Linearized) (calls : List ℕ) → answer_in (Model.answer_numbers (run_answer_of r calls)) calls ≡ run_answer_of r calls
+answer_back : (r : RunResult) (calls : List ℕ) → answer_in (Model.answer_numbers (run_answer_of r calls)) calls ≡ run_answer_of r calls
 unfolding Model.answer_numbers
-answer_back (linearized.Done p) calls = refl
-answer_back (linearized.Refused e) calls = refusal_back e.kind calls
+answer_back (Ok p) calls = refl
+answer_back (Err e) calls = refusal_back e.kind calls
 
 abbrev six_words : Model.Numbers → Position → List ℕ
 six_words m p = m.number ∷ m.place ∷ m.second ∷ p.records ∷ p.words ∷ p.trace ∷ []
 
 -- so the six words, the output and the trace hold the whole outcome
-outcome_back : (r : Linearized) (out trace : List ℕ) {m : Model.Numbers} {at : Position} → m ≡ Model.answer_numbers (run_answer_of r (take (position_of r).trace trace)) → at ≡ position_of r
+outcome_back : (r : RunResult) (out trace : List ℕ) {m : Model.Numbers} {at : Position} → m ≡ Model.answer_numbers (run_answer_of r (take (position_of r).trace trace)) → at ≡ position_of r
     → outcome_in (six_words m at) out trace ≡ answer_outcome r out trace
 outcome_back r out trace {m} {at} numbers e =
     ap₂ (λ (m : Model.Numbers) (p : Position). outcome_in (six_words m p) out trace) numbers e
@@ -75,7 +69,7 @@ outcome_back r out trace {m} {at} numbers e =
     })
     (answer_back r (take (position_of r).trace trace))
 
-pub exported : {image : List ℕ} {depth : ℕ} {out trace out' trace' : List ℕ} {r : Linearized} {n : Numbers} {at : Position} → Linearizes image depth out trace r out' trace' → RunNumbers r n → at ≡ position_of r
+pub exported : {image : List ℕ} {depth : ℕ} {out trace out' trace' : List ℕ} {r : RunResult} {n : Numbers} {at : Position} → Linearizes image depth out trace r out' trace' → RunNumbers r n → at ≡ position_of r
     → RunExport image depth out trace out' trace' (n.number ∷ n.place ∷ n.second ∷ at.records ∷ at.words ∷ at.trace ∷ [])
 exported {image} {depth} {out} {trace} {out'} {trace'} {r} {n} {at} w t e =
     let numbers = t.each (take (position_of r).trace trace') in

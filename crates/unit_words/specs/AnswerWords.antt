@@ -7,8 +7,7 @@ use Rattle.model.specs.Tally as tally
 use Rattle.model.specs.Steps.{DivideByZero, ApproximateFail, NumericalOverflow, OverlappingRegs, FunctionOfFloats}
 use Rattle.model.specs.Run.{Answer, done, refused, full, flawed, short_trace, Numbers, numbers, answer_numbers, Outcome, linearize}
 use Rattle.model.specs.Claims.{Claims}
-use Rattle.record_reader.specs.declared.NextRecord.{NextRecord}
-use Rattle.record_reader.specs.Answer.{next_number, next_length}
+use Rattle.record_reader.specs.Answer.{NextRecord, next_number, next_length}
 
 -- the number and the place of what is wrong, 0 0 of an accepted image
 abbrev pub check_words : Flaw → List ℕ

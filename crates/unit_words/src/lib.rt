@@ -5,28 +5,38 @@ ghost use Rattle.std.specs.Prelude.{◌≡◌};
 ghost use Rattle.model.specs.Check.{check};
 ghost use Rattle.model.specs.Tally.{tally};
 ghost use Rattle.model.specs.RecordReader.{next_at};
+ghost use Rattle.image.specs.Answer.{answer_flaw};
 ghost use Rattle.tally.specs.Weights.{tally_answer_of};
 ghost use Rattle.record_reader.specs.Answer.{next_record_of as next_of};
 ghost use Rattle.unit_words.specs.AnswerWords.{check_words, tally_words, next_words, RunExport};
 
-use image::refusal;
-use record_reader::NextRecord;
-use tally::Tallied;
+use image::{CheckRefusal, RefusalNumber};
+use record_reader::NoRecord;
+use tally::{Figures, TallyError};
+
+// The words of the check's answer: 0 0 of an accepted image, or a refusal's number and place.
+fn check_words(checked: Result<(), CheckRefusal>) -> [u64; 2]
+    ensures { result ≡ check_words (answer_flaw checked) }
+{
+    match checked {
+        Ok(()) => [0, 0],
+        Err(refusal) => [refusal.number(), refusal.place()],
+    }
+}
 
 // The number and the place of what the check finds, 0 0 if the image is accepted.
 pub fn cowhirame_check(image: &[u64], answer: &mut [u64; 2])
     ensures { answer.new ≡ check_words (check image.now) }
 {
-    let checked = unit::check(image);
-    *answer = [image::number_of(checked), image::place_of(checked)];
+    *answer = check_words(unit::check(image));
 }
 
 // The words of a tally's answer: 0 0 and the nine figures, or a refusal's number and place and nine zeros.
-fn tally_words(t: Tallied) -> [u64; 11]
-    ensures { result ≡ tally_words (tally_answer_of t) }
+fn tally_words(tallied: Result<Figures, TallyError>) -> [u64; 11]
+    ensures { result ≡ tally_words (tally_answer_of tallied) }
 {
-    match t {
-        Tallied::Figures(f) => [
+    match tallied {
+        Ok(f) => [
             0,
             0,
             f.u,
@@ -39,9 +49,9 @@ fn tally_words(t: Tallied) -> [u64; 11]
             f.entries,
             f.words,
         ],
-        Tallied::Refused(c) => [
-            image::refusal_number(c),
-            image::refusal_place(c),
+        Err(TallyError::Refused(refusal)) => [
+            refusal.number(),
+            refusal.place(),
             0,
             0,
             0,
@@ -52,7 +62,21 @@ fn tally_words(t: Tallied) -> [u64; 11]
             0,
             0,
         ],
-        Tallied::TooLarge => [refusal::FIGURE_TOO_LARGE, 0, 0, 0, 0, 0, 0, 0, 0, 0, 0],
+        Err(TallyError::TooLarge) => {
+            [
+                RefusalNumber::FigureTooLarge as u64,
+                0,
+                0,
+                0,
+                0,
+                0,
+                0,
+                0,
+                0,
+                0,
+                0,
+            ]
+        }
     }
 }
 
@@ -87,13 +111,13 @@ pub fn cowhirame_run(
 }
 
 // The words of the record reader's answer: 0 and the length of a record, 0 0 at the end, 17 0 where there is no record.
-fn next_words(found: NextRecord) -> [u64; 2]
+fn next_words(found: Result<Option<usize>, NoRecord>) -> [u64; 2]
     ensures { result ≡ next_words found }
 {
     match found {
-        NextRecord::Record(length) => [0, length as u64],
-        NextRecord::End => [0, 0],
-        NextRecord::NoRecord => [refusal::NO_RECORD, 0],
+        Ok(Some(length)) => [0, length as u64],
+        Ok(None) => [0, 0],
+        Err(NoRecord) => [RefusalNumber::NoRecord as u64, 0],
     }
 }
 

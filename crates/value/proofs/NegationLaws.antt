@@ -3,7 +3,7 @@ use mathlib.Core.Path.{◌≡◌, refl}
 use mathlib.Core.Bool.{true}
 use Rattle.rational.specs.Gcd.{gcd, euclid}
 use Rattle.rational.specs.Rational.{opposite, product}
-use Rattle.rational.specs.declared.OptionRational64.TheVariants.{Some}
+use Rattle.std.specs.Prelude.{Some}
 use Rattle.rational.proofs.LowestTermsLaws.{opposite_lowest}
 use Rattle.rational.proofs.ReducedLaws.{sum_zero, product_zero, product_minus}
 use Rattle.value.specs.Value.{Sound, value, zero_fraction, pi_squared, value_product, negation}

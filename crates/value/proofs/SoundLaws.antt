@@ -12,8 +12,8 @@ use Rattle.rational.specs.Gcd.{gcd, euclid}
 use Rattle.rational.specs.Rational.{LowestTerms, magnitude_in_range, ratio, fraction_sum, difference, product, quotient, power, rational_root, reciprocal, fractional_part, is_zero, same_fraction, and_then_option, both}
 use Rattle.rational.specs.Promise.{SoundOption}
 use Rattle.rational.specs.declared.Rational64.{Rational64}
-use Rattle.rational.specs.declared.OptionRational64.{OptionRational64}
-use Rattle.rational.specs.declared.OptionRational64.TheVariants.{Some, None}
+use Rattle.std.specs.Prelude.{Option, Some, None}
+use Rattle.std.specs.Option.{MatchOption}
 use Rattle.rational.proofs.LowestTermsLaws.{both_true, sum_sound, product_sound, difference_sound, quotient_sound, power_sound, reciprocal_lowest, fractional_part_lowest}
 use Rattle.rational.proofs.WholeRootLaws.{root_sound}
 use Rattle.float.specs.Float.{approximate_float}
@@ -79,18 +79,26 @@ unfolding gcd euclid
 half_pi_sound = record { rational_part = lowest_tested false half_pi.a.numer half_pi.a.denom refl; pi_part = lowest_tested false half_pi.b.numer half_pi.b.denom refl }
 
 -- ---- the ways in which results are put together
+pub or_overflow_is : (c : Option Rational64) (make : Rational64 → Evaluation) (r : Evaluation) → MatchOption c (r ≡ evaluation.Overflow) (λ x. r ≡ make x) → r ≡ or_overflow c make
+or_overflow_is (Some x) make r h = h
+or_overflow_is None make r h = h
+
+pub or_function_of_floats_is : (c : Option Rational64) (make : Rational64 → Evaluation) (r : Evaluation) → MatchOption c (r ≡ evaluation.FunctionOfFloats) (λ x. r ≡ make x) → r ≡ or_function_of_floats c make
+or_function_of_floats_is (Some x) make r h = h
+or_function_of_floats_is None make r h = h
+
 pub rational_value_sound : {x : Rational64} → LowestTerms x → SoundEvaluation (rational_value x)
 rational_value_sound l = record { rational_part = l; pi_part = zero_lowest }
 
-pub or_overflow_sound : (c : OptionRational64) (make : Rational64 → Evaluation) → SoundOption c → ((x : Rational64) → LowestTerms x → SoundEvaluation (make x)) → SoundEvaluation (or_overflow c make)
+pub or_overflow_sound : (c : Option Rational64) (make : Rational64 → Evaluation) → SoundOption c → ((x : Rational64) → LowestTerms x → SoundEvaluation (make x)) → SoundEvaluation (or_overflow c make)
 or_overflow_sound (Some x) make l h = h x l
 or_overflow_sound None make l h = tt
 
-pub or_function_of_floats_sound : (c : OptionRational64) (make : Rational64 → Evaluation) → SoundOption c → ((x : Rational64) → LowestTerms x → SoundEvaluation (make x)) → SoundEvaluation (or_function_of_floats c make)
+pub or_function_of_floats_sound : (c : Option Rational64) (make : Rational64 → Evaluation) → SoundOption c → ((x : Rational64) → LowestTerms x → SoundEvaluation (make x)) → SoundEvaluation (or_function_of_floats c make)
 or_function_of_floats_sound (Some x) make l h = h x l
 or_function_of_floats_sound None make l h = tt
 
-pub parts_or_overflow_sound : (a b : OptionRational64) → SoundOption a → SoundOption b → SoundEvaluation (parts_or_overflow a b)
+pub parts_or_overflow_sound : (a b : Option Rational64) → SoundOption a → SoundOption b → SoundEvaluation (parts_or_overflow a b)
 parts_or_overflow_sound (Some a) (Some b) p q = record { rational_part = p; pi_part = q }
 parts_or_overflow_sound (Some a) None p q = tt
 parts_or_overflow_sound None b p q = tt
@@ -106,11 +114,11 @@ either_sound : (b : Bool) (x y : Evaluation) → (b ≡ true → SoundEvaluation
 either_sound true x y h k = h refl
 either_sound false x y h k = k refl
 
-and_then_option_sound : (c : OptionRational64) (op : Rational64 → OptionRational64) → SoundOption c → ((x : Rational64) → LowestTerms x → SoundOption (op x)) → SoundOption (and_then_option c op)
+and_then_option_sound : (c : Option Rational64) (op : Rational64 → Option Rational64) → SoundOption c → ((x : Rational64) → LowestTerms x → SoundOption (op x)) → SoundOption (and_then_option c op)
 and_then_option_sound (Some x) op l h = h x l
 and_then_option_sound None op l h = tt
 
-both_sound : (op : Rational64 → Rational64 → OptionRational64) → ((x y : Rational64) → LowestTerms x → LowestTerms y → SoundOption (op x y)) → (a b : OptionRational64) → SoundOption a → SoundOption b → SoundOption (both op a b)
+both_sound : (op : Rational64 → Rational64 → Option Rational64) → ((x y : Rational64) → LowestTerms x → LowestTerms y → SoundOption (op x y)) → (a b : Option Rational64) → SoundOption a → SoundOption b → SoundOption (both op a b)
 both_sound op h a b p q = and_then_option_sound a (λ x. and_then_option b (λ y. op x y)) p (λ x l. and_then_option_sound b (λ y. op x y) q (λ y k. h x y l k))
 
 nonzero : (n : ℕ) → eqb n 0 ≡ false → 0 < n
@@ -169,7 +177,7 @@ pub from_float_sound : (f : Float) → T (fits binary32 f) → SoundEvaluation (
 unfolding from_float
 from_float_sound f h = go (approximate_float f) (float_sound f h)
   where
-    go : (c : OptionRational64) → SoundOption c → SoundEvaluation (or_float c f)
+    go : (c : Option Rational64) → SoundOption c → SoundEvaluation (or_float c f)
     go (Some x) l = rational_value_sound l
     go None l = tt
 

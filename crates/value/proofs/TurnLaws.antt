@@ -1,5 +1,5 @@
--- The steps of `turn` as the code takes them, and the whole multiples of pi: an odd one is half a turn beside whole turns, an even one is whole turns alone.
-use mathlib.Core.Path.{◌≡◌, refl, sym, ap, ◌∙◌}
+-- The whole multiples of pi: an odd one is half a turn beside whole turns, an even one is whole turns alone.
+use mathlib.Core.Path.{◌≡◌, refl}
 use mathlib.Core.Bool.{Bool, true, false, ◌&&◌}
 use Prim.Native.Nat.{ℕ, zero, suc, ◌*◌, ◌/◌, ◌%◌, ◌^◌, ◌<◌}
 use native.Mathlib.Nat.{zero-lt-suc}
@@ -7,41 +7,13 @@ use native.Mathlib.Omega.{arith}
 use lib.Dec.{ltb, lit<}
 use borrow.Author.Tests.{lt-ltb}
 use Rattle.rational.specs.Gcd.{gcd, euclid}
-use Rattle.rational.specs.Rational.{LowestTerms, ratio, unlike, fraction_sum, product, quotient, fractional_part, and_then_option}
-use Rattle.rational.specs.declared.Rational64.{Rational64}
-use Rattle.rational.specs.declared.OptionRational64.{OptionRational64}
-use Rattle.rational.specs.declared.OptionRational64.TheVariants.{Some, None}
+use Rattle.rational.specs.Rational.{LowestTerms, ratio, unlike, fraction_sum, product, quotient, and_then_option}
+use Rattle.std.specs.Prelude.{Some}
 use Rattle.rational.proofs.LowestTermsLaws.{zero_unsigned_of}
 use Rattle.rational.proofs.ReducedLaws.{quotient_found}
 use Rattle.float.proofs.PowerOfTwoLaws.{gcd_one, odd_power}
 use Rattle.value.specs.Value.{zero_fraction, one, two, wrapped, turn}
 
--- ---- the steps of the code
-
--- The quotient q of b by a divisor t that is 2.
-module _ (b t : Rational64) (q : OptionRational64) (et : t ≡ two) (eq : q ≡ quotient b t) where
-  pub turn_unhalved : q ≡ None → None ≡ turn b
-  unfolding turn
-  turn_unhalved e = sym (rw (ap (quotient b) (sym et) ∙ sym eq ∙ e))
-
-  -- The quotient q is the fraction h, and d is the part f of h behind its whole part, doubled by a factor u that is 2.
-  module _ (h f u : Rational64) (d : OptionRational64) (eh : q ≡ Some h) (ef : f ≡ fractional_part h) (eu : u ≡ two) (ed : d ≡ product f u) where
-    halved : turn b ≡ and_then_option d wrapped
-    unfolding turn
-    halved = rw (ap (quotient b) (sym et) ∙ sym eq ∙ eh) (rw (ed, ef, eu))
-
-    pub turn_undoubled : d ≡ None → None ≡ turn b
-    turn_undoubled e = sym (halved ∙ rw e)
-
-    -- The doubled part d is the fraction z.
-    module _ (z : Rational64) (ez : d ≡ Some z) where
-      pub turn_negative : (v : Rational64) (r : OptionRational64) → v ≡ two → z.negative ≡ true → r ≡ fraction_sum z v → r ≡ turn b
-      turn_negative v r ev n er = er ∙ rw ev (sym (halved ∙ rw ez (rw n)))
-
-      pub turn_positive : z.negative ≡ false → Some z ≡ turn b
-      turn_positive n = sym (halved ∙ rw ez (rw n))
-
--- ---- whole multiples of pi
 signs : (s : Bool) (n m : ℕ) → (n ≡ 0 → m ≡ 0) → (unlike (s && ltb 0 n) false && ltb 0 m) ≡ (s && ltb 0 m)
 signs true zero m h = rw (h refl) refl
 signs true (suc n) m h = rw (lt-ltb 0 (suc n) (zero-lt-suc n)) refl

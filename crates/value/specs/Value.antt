@@ -1,10 +1,8 @@
 -- Document 01, "Fractions and angles": an angle a + b·pi, and its arithmetic in the source's order (value.rs).
-use Rattle.std.specs.Prelude.{ℕ, ◌^◌, Bool, true, false, ◌&&◌, ◌||◌, cond, eqb, ltb, Float}
+use Rattle.std.specs.Prelude.{Option, Some, None, ℕ, ◌^◌, Bool, true, false, ◌&&◌, ◌||◌, cond, eqb, ltb, Float}
 use Rattle.std.specs.Float.{binary32}
 use Rattle.std.specs.Float.Ieee.{of_bits, add, mul, div}
 use Rattle.rational.specs.declared.Rational64.{Rational64}
-use Rattle.rational.specs.declared.OptionRational64.{OptionRational64}
-use Rattle.rational.specs.declared.OptionRational64.TheVariants.{Some, None}
 use Rattle.rational.specs.Rational.{LowestTerms, magnitude_in_range, ratio, fraction_sum, difference, product, quotient, power, rational_root, reciprocal, fractional_part, is_zero, same_fraction, and_then_option, both}
 use Rattle.float.specs.Float.{approximate_float, ratio_float}
 use Rattle.value.specs.declared.Value.{Value}
@@ -43,12 +41,12 @@ abbrev pub rational_value : Rational64 → Evaluation
 rational_value a = evaluation.Value (value a zero_fraction)
 
 -- What is made of a fraction, or overflow where there is none: refusal 11.
-abbrev pub or_overflow : OptionRational64 → (Rational64 → Evaluation) → Evaluation
+abbrev pub or_overflow : Option Rational64 → (Rational64 → Evaluation) → Evaluation
 or_overflow (Some x) make = make x
 or_overflow None make = evaluation.Overflow
 
 -- The angle of both parts, or overflow where one of them is missing.
-abbrev pub parts_or_overflow : OptionRational64 → OptionRational64 → Evaluation
+abbrev pub parts_or_overflow : Option Rational64 → Option Rational64 → Evaluation
 parts_or_overflow a b = or_overflow a (λ x. or_overflow b (λ y. evaluation.Value (value x y)))
 
 -- A further operation on an angle, if there is one: a refusal stands. "The left operand's refusal wins."
@@ -78,7 +76,7 @@ unfoldable pub into_float : Value → Float
 into_float x = add binary32 (ratio_float x.a) (mul binary32 (of_bits binary32 0x40490FDB) (ratio_float x.b))
 
 -- The angle of a fraction, or the f32 that has none: refusal 10.
-abbrev pub or_float : OptionRational64 → Float → Evaluation
+abbrev pub or_float : Option Rational64 → Float → Evaluation
 or_float (Some x) f = rational_value x
 or_float None f = evaluation.ApproximateFail f
 
@@ -100,11 +98,17 @@ value_difference x y = parts_or_overflow (difference x.a y.a) (difference x.b y.
 abbrev pub pi_squared : Rational64
 pi_squared = ratio false 6499908331188584841 658578405682719844
 
+-- The rational part of the product, a·a' + b·b'·pi².
+abbrev pub product_rational_part : Value → Value → Option Rational64
+product_rational_part x y = both fraction_sum (product x.a y.a) (and_then_option (product x.b y.b) (λ bb. product bb pi_squared))
+
+-- The part of pi of the product, b·a' + a·b'.
+abbrev pub product_pi_part : Value → Value → Option Rational64
+product_pi_part x y = both fraction_sum (product x.b y.a) (product x.a y.b)
+
 -- The product (a + b·pi)·(a' + b'·pi) = a·a' + b·b'·pi² + (b·a' + a·b')·pi.
 unfoldable pub value_product : Value → Value → Evaluation
-value_product x y =
-    let c = and_then_option (product x.b y.b) (λ bb. product bb pi_squared) in
-    parts_or_overflow (both fraction_sum (product x.a y.a) c) (both fraction_sum (product x.b y.a) (product x.a y.b))
+value_product x y = parts_or_overflow (product_rational_part x y) (product_pi_part x y)
 
 -- The source's `neg_internal`, which is the product with -1.
 unfoldable pub negation : Value → Evaluation
@@ -132,7 +136,7 @@ abbrev pub root_index_limit : ℕ
 root_index_limit = 2 ^ 32
 
 -- "With root 1, or where the power so far is 1, no root is taken. Else a root above 2^32-1, a negative or an inexact root ends in 13." A root that is missing is refusal 13.
-unfoldable pub extract_root : ℕ → Rational64 → OptionRational64
+unfoldable pub extract_root : ℕ → Rational64 → Option Rational64
 extract_root k x = cond (eqb k 1 || same_fraction x one) (Some x) (cond (ltb k root_index_limit) (rational_root k x) None)
 
 -- "A negative exponent inverts; a zero root is then 9."
@@ -140,7 +144,7 @@ abbrev pub inverted : Bool → Rational64 → Evaluation
 inverted negative r = cond negative (cond (is_zero r) evaluation.DivideByZero (rational_value (reciprocal r))) (rational_value r)
 
 -- What is made of a root, or a function of floats where there is none: refusal 13.
-abbrev pub or_function_of_floats : OptionRational64 → (Rational64 → Evaluation) → Evaluation
+abbrev pub or_function_of_floats : Option Rational64 → (Rational64 → Evaluation) → Evaluation
 or_function_of_floats (Some r) make = make r
 or_function_of_floats None make = evaluation.FunctionOfFloats
 
@@ -165,11 +169,11 @@ sine_table f =
     (cond (same_fraction f (ratio false 3 2)) (rational_value (ratio true 1 1)) evaluation.FunctionOfFloats))))
 
 -- The fraction from 0 to below 2: "add 2 if negative", and "The adding of 2 is a sum as above."
-abbrev pub wrapped : Rational64 → OptionRational64
+abbrev pub wrapped : Rational64 → Option Rational64
 wrapped f = cond f.negative (fraction_sum f two) (Some f)
 
 -- "sin of b·pi: halve b, drop the whole part toward zero, double, add 2 if negative."
-unfoldable pub turn : Rational64 → OptionRational64
+unfoldable pub turn : Rational64 → Option Rational64
 turn b = and_then_option (quotient b two) (λ h. and_then_option (product (fractional_part h) two) wrapped)
 
 -- The sine of an angle that is a multiple of pi; any other one goes to an f32 function.

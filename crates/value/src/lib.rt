@@ -1,23 +1,23 @@
 // Angles a + b·pi with their arithmetic, after the Rust's value.rs.
 #![tactic(auto)]
 
-ghost use Rattle.std.specs.Prelude.{◌≡◌, false, ◌||◌, ◌<◌};
-ghost use Rattle.rational.specs.Rational.{LowestTerms, ratio, same_fraction};
+ghost use Rattle.std.specs.Prelude.{◌≡◌, ◌<◌};
+ghost use Rattle.rational.specs.Rational.{LowestTerms};
 ghost use Rattle.rational.specs.Promise.{SoundOption, ChecksTo};
-ghost use Rattle.rational.specs.declared.OptionRational64.TheVariants.{Some};
-ghost use Rattle.value.specs.Value.{Sound, zero_fraction, one, two, rational_value, or_overflow, parts_or_overflow, and_then, pi, half_pi, pi_squared, common_ratio, extract_root, inverted, or_function_of_floats, sine_table, turn};
-ghost use Rattle.value.specs.Value.{integer, into_float, from_float, value_sum, value_difference, value_product, negation, approximate_quotient, value_quotient, value_power, square_root, sine, cosine, tangent, exponential, logarithm};
-ghost use Rattle.value.specs.Promise.{SoundEvaluation, EvaluatesTo};
+ghost use Rattle.value.specs.Value.{Sound, rational_value, or_overflow, parts_or_overflow, pi, common_ratio, extract_root, inverted, or_function_of_floats, sine_table, turn};
+ghost use Rattle.value.specs.Value.{integer, into_float, from_float, value_sum, value_difference, product_rational_part, product_pi_part, value_product, negation, approximate_quotient, value_quotient, value_power, square_root, sine, cosine, tangent, exponential, logarithm};
+ghost use Rattle.value.specs.Promise.{EvaluatesTo, IfValue, GivesThen};
 
-use rational::{MAGNITUDE_LIMIT, OptionRational64, Rational64};
+use rational::{MAGNITUDE_LIMIT, Rational64};
 
-#[derive(Clone, Copy)]
+#[derive(Clone, Copy, PartialEq, Eq)]
 pub struct Value {
     pub a: Rational64,
     pub b: Rational64,
 }
 
 // The Rust's Result<Value, EvalError>, with one case more: what the Rust hands to a function of floats.
+// Document 01 names this enum and its cases, so that it is no Result.
 #[derive(Clone, Copy)]
 pub enum Evaluation {
     Value(Value),
@@ -33,102 +33,96 @@ const ROOT_INDEX_LIMIT: u64 = 0x1_0000_0000;
 // The bits of the f32 nearest to pi.
 const PI_BITS: u32 = 0x4049_0fdb;
 
-// The fraction 0.
-fn rational_zero() -> Rational64
-    ensures { (result ≡ zero_fraction) × LowestTerms result }
-{
-    Rational64 {
-        negative: false,
-        numer: 0,
-        denom: 1,
-    }
-}
+const ZERO: Rational64 = Rational64 {
+    negative: false,
+    numer: 0,
+    denom: 1,
+};
 
-// The fraction 2.
-fn rational_two() -> Rational64
-    ensures { (result ≡ two) × LowestTerms result }
-{
-    Rational64 {
-        negative: false,
-        numer: 2,
-        denom: 1,
-    }
-}
+const ONE: Rational64 = Rational64 {
+    negative: false,
+    numer: 1,
+    denom: 1,
+};
+
+const TWO: Rational64 = Rational64 {
+    negative: false,
+    numer: 2,
+    denom: 1,
+};
 
 // The fraction that stands for pi².
-fn pi_squared() -> OptionRational64
-    ensures { ChecksTo (Some pi_squared) result }
-{
-    OptionRational64::Some(Rational64 {
+const PI_SQUARED: Rational64 = Rational64 {
+    negative: false,
+    numer: 6499908331188584841,
+    denom: 658578405682719844,
+};
+
+// pi/2, Value::PI_2 in the Rust.
+const HALF_PI: Value = Value {
+    a: ZERO,
+    b: Rational64 {
         negative: false,
-        numer: 6499908331188584841,
-        denom: 658578405682719844,
-    })
-}
+        numer: 1,
+        denom: 2,
+    },
+};
+
+// The angle -1.
+const MINUS_ONE: Value = Value {
+    a: Rational64 {
+        negative: true,
+        numer: 1,
+        denom: 1,
+    },
+    b: ZERO,
+};
 
 // The angle x, with no part of pi.
 fn rational_value(x: Rational64) -> Evaluation
     ensures { result ≡ rational_value x }
 {
-    let z = rational_zero();
-    Evaluation::Value(Value { a: x, b: z })
-}
-
-// The angle of a fraction, or overflow where there is none.
-fn rational_or_overflow(x: OptionRational64) -> Evaluation
-    ensures { result ≡ or_overflow x rational_value }
-{
-    let OptionRational64::Some(a) = x else {
-        return Evaluation::Overflow;
-    };
-    rational_value(a)
+    Evaluation::Value(Value { a: x, b: ZERO })
 }
 
 // The angle of both parts, or overflow where one of them is missing.
-fn parts_or_overflow(a: OptionRational64, b: OptionRational64) -> Evaluation
+fn parts_or_overflow(a: Option<Rational64>, b: Option<Rational64>) -> Evaluation
     ensures { result ≡ parts_or_overflow a b }
 {
-    let OptionRational64::Some(x) = a else {
-        return Evaluation::Overflow;
-    };
-    let OptionRational64::Some(y) = b else {
-        return Evaluation::Overflow;
-    };
-    Evaluation::Value(Value { a: x, b: y })
+    match (a, b) {
+        (Some(a), Some(b)) => Evaluation::Value(Value { a, b }),
+        _ => Evaluation::Overflow,
+    }
 }
 
 // The ratio p of two angles where it is also q, and otherwise one division of floats.
-fn common_ratio(p: OptionRational64, q: OptionRational64, x: Value, y: Value) -> Evaluation
+fn common_ratio(p: Option<Rational64>, q: Option<Rational64>, x: Value, y: Value) -> Evaluation
     requires { Sound x × Sound y }
     ensures { result ≡ or_overflow p (λ f. or_overflow q (λ g. common_ratio x y f g)) }
 {
-    let OptionRational64::Some(f) = p else {
+    let (Some(f), Some(g)) = (p, q) else {
         return Evaluation::Overflow;
     };
-    let OptionRational64::Some(g) = q else {
-        return Evaluation::Overflow;
-    };
-    if f.equals(g) {
-        return rational_value(f);
+    if f == g {
+        rational_value(f)
+    } else {
+        x.approximate_div(y)
     }
-    x.approximate_div(y)
 }
 
 // The k-th root of a power. No root is taken with index 1, or of 1.
-fn extract_root(x: Rational64, k: u64) -> OptionRational64
+#[tactic(auto, using(crate::proofs::SoundLaws::extract_sound), unfolding(crate::specs::Value::extract_root))]
+fn extract_root(x: Rational64, k: u64) -> Option<Rational64>
     requires { LowestTerms x × (0 < k) }
     ensures { ChecksTo (extract_root k x) result }
 {
-    if k == 1 {
-        return OptionRational64::Some(x);
+    if k == 1 || x == ONE {
+        Some(x)
+    } else if k < ROOT_INDEX_LIMIT {
+        x.rat_root(k)
+    } else {
+        None
     }
-    if is_ratio(x, 1, 1) {
-        return OptionRational64::Some(x);
-    }
-    if k < ROOT_INDEX_LIMIT {
-        return x.rat_root(k);
-    }
-    OptionRational64::None
 }
 
 // The angle of a power, which a negative exponent inverts.
@@ -136,59 +130,27 @@ fn inverted_if_negative(negative: bool, r: Rational64) -> Evaluation
     requires { LowestTerms r }
     ensures { result ≡ inverted negative r }
 {
-    if negative {
-        if r.numer == 0 {
-            return Evaluation::DivideByZero;
-        }
-        return rational_value(r.recip());
+    if !negative {
+        rational_value(r)
+    } else if r.numer == 0 {
+        Evaluation::DivideByZero
+    } else {
+        rational_value(r.recip())
     }
-    rational_value(r)
 }
 
 // The angle of the k-th root of a power, which a negative exponent inverts.
-fn root_of_power(p: OptionRational64, k: u64, negative: bool) -> Evaluation
+fn root_of_power(p: Option<Rational64>, k: u64, negative: bool) -> Evaluation
     requires { SoundOption p × (0 < k) }
     ensures { result ≡ or_overflow p (λ x. or_function_of_floats (extract_root k x) (inverted negative)) }
 {
-    let OptionRational64::Some(x) = p else {
+    let Some(x) = p else {
         return Evaluation::Overflow;
     };
-    let root = extract_root(x, k);
-    let OptionRational64::Some(r) = root else {
+    let Some(r) = extract_root(x, k) else {
         return Evaluation::FunctionOfFloats;
     };
     inverted_if_negative(negative, r)
-}
-
-// The angle of a root, or a function of floats where there is none.
-fn rational_or_function_of_floats(root: OptionRational64) -> Evaluation
-    ensures { result ≡ or_function_of_floats root rational_value }
-{
-    let OptionRational64::Some(x) = root else {
-        return Evaluation::FunctionOfFloats;
-    };
-    rational_value(x)
-}
-
-// Whether x is n/d.
-fn is_ratio(x: Rational64, n: u64, d: u64) -> bool
-    ensures { result ≡ same_fraction x (ratio false n d) }
-{
-    x.equals(Rational64 {
-        negative: false,
-        numer: n,
-        denom: d,
-    })
-}
-
-// Whether x is m/6 or n/6.
-fn is_either_sixth(x: Rational64, m: u64, n: u64) -> bool
-    ensures { result ≡ (same_fraction x (ratio false m 6) || same_fraction x (ratio false n 6)) }
-{
-    if is_ratio(x, m, 6) {
-        return true;
-    }
-    is_ratio(x, n, 6)
 }
 
 // The angle ±n/d.
@@ -203,208 +165,138 @@ fn ratio_value(negative: bool, n: u64, d: u64) -> Evaluation
 }
 
 // The sine of f·pi, 0 <= f < 2, where the source's list has it.
+#[tactic(auto, unfolding(crate::specs::Value::sine_table))]
 fn sine_table(f: Rational64) -> Evaluation
     ensures { result ≡ sine_table f }
 {
-    if is_ratio(f, 0, 1) {
-        return ratio_value(false, 0, 1);
+    match (f.negative, f.numer, f.denom) {
+        (false, 0, 1) => ratio_value(false, 0, 1),
+        (false, 1 | 5, 6) => ratio_value(false, 1, 2),
+        (false, 1, 2) => ratio_value(false, 1, 1),
+        (false, 7 | 11, 6) => ratio_value(true, 1, 2),
+        (false, 3, 2) => ratio_value(true, 1, 1),
+        _ => Evaluation::FunctionOfFloats,
     }
-    if is_either_sixth(f, 1, 5) {
-        return ratio_value(false, 1, 2);
-    }
-    if is_ratio(f, 1, 2) {
-        return ratio_value(false, 1, 1);
-    }
-    if is_either_sixth(f, 7, 11) {
-        return ratio_value(true, 1, 2);
-    }
-    if is_ratio(f, 3, 2) {
-        return ratio_value(true, 1, 1);
-    }
-    Evaluation::FunctionOfFloats
 }
 
 // b without whole turns, from 0 to below 2.
-fn without_whole_turns(b: Rational64) -> OptionRational64
+#[tactic(auto, using(crate::proofs::SoundLaws::turn_sound, crate::proofs::SoundLaws::two_lowest), unfolding(crate::specs::Value::turn))]
+fn without_whole_turns(b: Rational64) -> Option<Rational64>
     requires { LowestTerms b }
     ensures { ChecksTo (turn b) result }
 {
-    let quotient = b.checked_div(rational_two());
-    let OptionRational64::Some(h) = quotient else {
-        return OptionRational64::None;
-    };
-    let doubled = h.fract().checked_mul(rational_two());
-    let OptionRational64::Some(f) = doubled else {
-        return OptionRational64::None;
-    };
+    let half = b.checked_div(TWO)?;
+    let f = half.fract().checked_mul(TWO)?;
     if f.negative {
-        return f.checked_add(rational_two());
-    }
-    OptionRational64::Some(f)
-}
-
-// The sine of f·pi from the source's list, or overflow where f is missing.
-fn sine_table_or_overflow(t: OptionRational64) -> Evaluation
-    ensures { result ≡ or_overflow t sine_table }
-{
-    let OptionRational64::Some(f) = t else {
-        return Evaluation::Overflow;
-    };
-    sine_table(f)
-}
-
-// The sine of an angle, or the refusal.
-fn sine_of_evaluation(x: Evaluation) -> Evaluation
-    requires { SoundEvaluation x }
-    ensures { result ≡ and_then x sine }
-{
-    match x {
-        Evaluation::Value(v) => v.checked_sin(),
-        Evaluation::DivideByZero => Evaluation::DivideByZero,
-        Evaluation::Overflow => Evaluation::Overflow,
-        Evaluation::ApproximateFail(f) => Evaluation::ApproximateFail(f),
-        Evaluation::FunctionOfFloats => Evaluation::FunctionOfFloats,
+        f.checked_add(TWO)
+    } else {
+        Some(f)
     }
 }
 
-// The quotient by an angle, or the refusal.
-fn divided_by_evaluation(s: Value, y: Evaluation) -> Evaluation
-    requires { Sound s × SoundEvaluation y }
-    ensures { result ≡ and_then y (λ c. value_quotient s c) }
-{
-    match y {
-        Evaluation::Value(v) => s.checked_div(v),
-        Evaluation::DivideByZero => Evaluation::DivideByZero,
-        Evaluation::Overflow => Evaluation::Overflow,
-        Evaluation::ApproximateFail(f) => Evaluation::ApproximateFail(f),
-        Evaluation::FunctionOfFloats => Evaluation::FunctionOfFloats,
-    }
-}
-
-// The quotient of two angles, or the first refusal.
-fn quotient_of_evaluations(x: Evaluation, y: Evaluation) -> Evaluation
-    requires { SoundEvaluation x × SoundEvaluation y }
-    ensures { result ≡ and_then x (λ s. and_then y (λ c. value_quotient s c)) }
-{
-    match x {
-        Evaluation::Value(v) => divided_by_evaluation(v, y),
-        Evaluation::DivideByZero => Evaluation::DivideByZero,
-        Evaluation::Overflow => Evaluation::Overflow,
-        Evaluation::ApproximateFail(f) => Evaluation::ApproximateFail(f),
-        Evaluation::FunctionOfFloats => Evaluation::FunctionOfFloats,
+impl Evaluation {
+    // A further operation on the angle, if there is one: a refusal stands.
+    fn and_then<F: FnOnce(Value) -> Evaluation>(self, operation: F) -> Evaluation
+        requires { IfValue self (λ x. F.pre operation x) }
+        ensures { GivesThen self (λ x. F.post operation x) result }
+    {
+        match self {
+            Evaluation::Value(x) => operation(x),
+            refusal => refusal,
+        }
     }
 }
 
 impl Value {
+    #[tactic(auto, using(crate::proofs::SoundLaws::zero_lowest, crate::proofs::SoundLaws::one_lowest))]
     pub fn pi() -> Value
         ensures { (result ≡ pi) × Sound result }
     {
-        let a = rational_zero();
-        Value {
-            a,
-            b: Rational64 {
-                negative: false,
-                numer: 1,
-                denom: 1,
-            },
-        }
+        Value { a: ZERO, b: ONE }
     }
 
-    // pi/2, Value::PI_2 in the Rust.
-    fn half_pi() -> Value
-        ensures { (result ≡ half_pi) × Sound result }
-    {
-        let a = rational_zero();
-        Value {
-            a,
-            b: Rational64 {
-                negative: false,
-                numer: 1,
-                denom: 2,
-            },
-        }
-    }
-
+    #[tactic(auto, using(crate::proofs::SoundLaws::integer_sound), unfolding(crate::specs::Value::integer))]
     pub fn int(n: u64) -> Evaluation
         ensures { EvaluatesTo (integer n) result }
     {
         if n < MAGNITUDE_LIMIT {
-            return ratio_value(false, n, 1);
+            ratio_value(false, n, 1)
+        } else {
+            Evaluation::Overflow
         }
-        Evaluation::Overflow
     }
 
+    #[tactic(auto, unfolding(crate::specs::Value::into_float))]
     pub fn into_float(self) -> f32
         requires { Sound self }
         ensures { result ≡ into_float self }
     {
-        let a = self.a;
-        let b = self.b;
-        float::ratio_f32(a) + f32::from_bits(PI_BITS) * float::ratio_f32(b)
+        float::ratio_f32(self.a) + f32::from_bits(PI_BITS) * float::ratio_f32(self.b)
     }
 
+    #[tactic(auto, using(crate::proofs::SoundLaws::from_float_sound), unfolding(crate::specs::Value::from_float))]
     pub fn from_float(x: f32) -> Evaluation
         ensures { EvaluatesTo (from_float x) result }
     {
-        let exact = float::approximate_float(x);
-        let OptionRational64::Some(a) = exact else {
-            return Evaluation::ApproximateFail(x);
-        };
-        rational_value(a)
+        match float::approximate_float(x) {
+            Some(a) => rational_value(a),
+            None => Evaluation::ApproximateFail(x),
+        }
     }
 
+    #[tactic(auto, using(crate::proofs::SoundLaws::sum_sound_value), unfolding(crate::specs::Value::value_sum))]
     pub fn checked_add(self, y: Value) -> Evaluation
         requires { Sound self × Sound y }
         ensures { EvaluatesTo (value_sum self y) result }
     {
-        let xa = self.a;
-        let xb = self.b;
-        let ya = y.a;
-        let yb = y.b;
-        parts_or_overflow(xa.checked_add(ya), xb.checked_add(yb))
+        parts_or_overflow(self.a.checked_add(y.a), self.b.checked_add(y.b))
     }
 
+    #[tactic(auto, using(crate::proofs::SoundLaws::difference_sound_value), unfolding(crate::specs::Value::value_difference))]
     pub fn checked_sub(self, y: Value) -> Evaluation
         requires { Sound self × Sound y }
         ensures { EvaluatesTo (value_difference self y) result }
     {
-        let xa = self.a;
-        let xb = self.b;
-        let ya = y.a;
-        let yb = y.b;
-        parts_or_overflow(xa.checked_sub(ya), xb.checked_sub(yb))
+        parts_or_overflow(self.a.checked_sub(y.a), self.b.checked_sub(y.b))
     }
 
+    // The rational part of a product, a·a' + b·b'·pi², if all its steps are in range.
+    #[tactic(auto, using(crate::proofs::SoundLaws::pi_squared_lowest))]
+    fn product_rational_part(self, y: Value) -> Option<Rational64>
+        requires { Sound self × Sound y }
+        ensures { ChecksTo (product_rational_part self y) result }
+    {
+        let c = self.b.checked_mul(y.b)?.checked_mul(PI_SQUARED)?;
+        self.a.checked_mul(y.a)?.checked_add(c)
+    }
+
+    // The part of pi of a product, b·a' + a·b', if all its steps are in range.
+    fn product_pi_part(self, y: Value) -> Option<Rational64>
+        requires { Sound self × Sound y }
+        ensures { ChecksTo (product_pi_part self y) result }
+    {
+        let c = self.b.checked_mul(y.a)?;
+        c.checked_add(self.a.checked_mul(y.b)?)
+    }
+
+    #[tactic(auto, using(crate::proofs::SoundLaws::product_sound_value), unfolding(crate::specs::Value::value_product))]
     pub fn checked_mul(self, y: Value) -> Evaluation
         requires { Sound self × Sound y }
         ensures { EvaluatesTo (value_product self y) result }
     {
-        let xa = self.a;
-        let xb = self.b;
-        let ya = y.a;
-        let yb = y.b;
-        let c = rational::product_of_options(xb.checked_mul(yb), pi_squared());
-        let a = rational::sum_of_options(xa.checked_mul(ya), c);
-        let b = rational::sum_of_options(xb.checked_mul(ya), xa.checked_mul(yb));
-        parts_or_overflow(a, b)
+        parts_or_overflow(self.product_rational_part(y), self.product_pi_part(y))
     }
 
+    #[tactic(auto, using(crate::proofs::SoundLaws::negation_sound, crate::proofs::SoundLaws::one_lowest, crate::proofs::SoundLaws::zero_lowest), unfolding(crate::specs::Value::negation))]
     pub fn checked_neg(self) -> Evaluation
         requires { Sound self }
         ensures { EvaluatesTo (negation self) result }
     {
-        let b = rational_zero();
-        self.checked_mul(Value {
-            a: Rational64 {
-                negative: true,
-                numer: 1,
-                denom: 1,
-            },
-            b,
-        })
+        self.checked_mul(MINUS_ONE)
     }
 
     // The quotient by one division of floats, made a fraction.
+    #[tactic(auto, using(crate::proofs::SoundLaws::approximate_sound), unfolding(crate::specs::Value::approximate_quotient))]
     fn approximate_div(self, y: Value) -> Evaluation
         requires { Sound self × Sound y }
         ensures { EvaluatesTo (approximate_quotient self y) result }
@@ -412,89 +304,86 @@ impl Value {
         Value::from_float(self.into_float() / y.into_float())
     }
 
+    #[tactic(auto, using(crate::proofs::SoundLaws::quotient_sound_value), unfolding(crate::specs::Value::value_quotient))]
     pub fn checked_div(self, y: Value) -> Evaluation
         requires { Sound self × Sound y }
         ensures { EvaluatesTo (value_quotient self y) result }
     {
-        let xa = self.a;
-        let xb = self.b;
-        let ya = y.a;
-        let yb = y.b;
-        if yb.numer == 0 {
-            if ya.numer == 0 {
-                return Evaluation::DivideByZero;
-            }
-            return parts_or_overflow(xa.checked_div(ya), xb.checked_div(ya));
+        match (y.a.numer, y.b.numer) {
+            (0, 0) => Evaluation::DivideByZero,
+            (_, 0) => parts_or_overflow(self.a.checked_div(y.a), self.b.checked_div(y.a)),
+            (0, _) if self.a.numer == 0 => self
+                .b
+                .checked_div(y.b)
+                .map_or(Evaluation::Overflow, rational_value),
+            (0, _) => self.approximate_div(y),
+            _ => common_ratio(self.a.checked_div(y.a), self.b.checked_div(y.b), self, y),
         }
-        if ya.numer == 0 {
-            if xa.numer == 0 {
-                return rational_or_overflow(xb.checked_div(yb));
-            }
-            return self.approximate_div(y);
-        }
-        common_ratio(xa.checked_div(ya), xb.checked_div(yb), self, y)
     }
 
+    #[tactic(auto, using(crate::proofs::SoundLaws::power_sound_value), unfolding(crate::specs::Value::value_power))]
     pub fn checked_pow(self, y: Value) -> Evaluation
         requires { Sound self × Sound y }
         ensures { EvaluatesTo (value_power self y) result }
     {
-        let xa = self.a;
-        let xb = self.b;
-        let ya = y.a;
-        let yb = y.b;
-        if xb.numer == 0 {
-            if yb.numer == 0 {
-                return root_of_power(xa.checked_pow(ya.numer), ya.denom, ya.negative);
-            }
+        if self.b.numer == 0 && y.b.numer == 0 {
+            root_of_power(self.a.checked_pow(y.a.numer), y.a.denom, y.a.negative)
+        } else {
+            Evaluation::FunctionOfFloats
         }
-        Evaluation::FunctionOfFloats
     }
 
+    #[tactic(auto, using(crate::proofs::SoundLaws::square_root_sound), unfolding(crate::specs::Value::square_root))]
     pub fn checked_sqrt(self) -> Evaluation
         requires { Sound self }
         ensures { EvaluatesTo (square_root self) result }
     {
-        let a = self.a;
-        let b = self.b;
-        if b.numer == 0 {
-            return rational_or_function_of_floats(a.rat_root(2));
+        if self.b.numer == 0 {
+            self.a
+                .rat_root(2)
+                .map_or(Evaluation::FunctionOfFloats, rational_value)
+        } else {
+            Evaluation::FunctionOfFloats
         }
-        Evaluation::FunctionOfFloats
     }
 
+    #[tactic(auto, using(crate::proofs::SoundLaws::sine_sound), unfolding(crate::specs::Value::sine))]
     pub fn checked_sin(self) -> Evaluation
         requires { Sound self }
         ensures { EvaluatesTo (sine self) result }
     {
-        let a = self.a;
-        let b = self.b;
-        if a.numer == 0 {
-            return sine_table_or_overflow(without_whole_turns(b));
+        if self.a.numer == 0 {
+            without_whole_turns(self.b).map_or(Evaluation::Overflow, sine_table)
+        } else {
+            Evaluation::FunctionOfFloats
         }
-        Evaluation::FunctionOfFloats
     }
 
+    #[tactic(auto, using(crate::proofs::SoundLaws::cosine_sound, crate::proofs::SoundLaws::half_pi_sound), unfolding(crate::specs::Value::cosine))]
     pub fn checked_cos(self) -> Evaluation
         requires { Sound self }
         ensures { EvaluatesTo (cosine self) result }
     {
-        sine_of_evaluation(self.checked_add(Value::half_pi()))
+        self.checked_add(HALF_PI).and_then(|x| x.checked_sin())
     }
 
+    #[tactic(auto, using(crate::proofs::SoundLaws::tangent_sound), unfolding(crate::specs::Value::tangent))]
     pub fn checked_tan(self) -> Evaluation
         requires { Sound self }
         ensures { EvaluatesTo (tangent self) result }
     {
-        quotient_of_evaluations(self.checked_sin(), self.checked_cos())
+        self.checked_sin()
+            .and_then(|s| self.checked_cos().and_then(|c| s.checked_div(c)))
     }
 
+    #[tactic(auto, unfolding(crate::specs::Value::exponential))]
     pub fn checked_exp(self) -> Evaluation
         ensures { EvaluatesTo (exponential self) result }
     {
         Evaluation::FunctionOfFloats
     }
 
+    #[tactic(auto, unfolding(crate::specs::Value::logarithm))]
     pub fn checked_ln(self) -> Evaluation
         ensures { EvaluatesTo (logarithm self) result }
     {

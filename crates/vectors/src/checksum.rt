@@ -13,30 +13,16 @@ fn with_half_word(sum: u64, half: u64) -> u64 {
     (sum % PRIME * FACTOR + half % HALF_WORDS) % PRIME
 }
 
-// A sum with a byte more.
-fn with_byte(sum: u64, byte: u8) -> u64 {
-    with_half_word(sum, byte as u64)
-}
-
 // The sum of some bytes.
 pub fn bytes_checksum(bytes: &[u8]) -> u64 {
-    let mut sum = 0u64;
-    let mut i = 0;
-    while i < bytes.len() {
-        sum = with_byte(sum, bytes[i]);
-        i += 1;
-    }
-    sum
+    bytes
+        .iter()
+        .fold(0, |sum, byte| with_half_word(sum, u64::from(*byte)))
 }
 
 // A sum with more words, the low half of each first.
 pub fn with_words(sum: u64, words: &[u64]) -> u64 {
-    let mut s = sum;
-    let mut i = 0;
-    while i < words.len() {
-        let low = with_half_word(s, words[i] % HALF_WORDS);
-        s = with_half_word(low, words[i] / HALF_WORDS);
-        i += 1;
-    }
-    s
+    words.iter().fold(sum, |sum, word| {
+        with_half_word(with_half_word(sum, *word % HALF_WORDS), *word / HALF_WORDS)
+    })
 }

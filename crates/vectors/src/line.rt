@@ -1,194 +1,67 @@
 // The text of a line of vectors: decimals with single spaces between them, and a line feed.
-ghost use Rattle.std.specs.Prelude.{◌≡◌, ◌+◌, ◌≤◌, length};
-ghost use Rattle.vectors.specs.Room.{InRoom};
+ghost use Rattle.std.specs.Prelude.{◌≡◌, ◌++◌, ◌≤◌, ◌<◌, length, IfSome};
 
 // Room for the words of a line: for more than an image may have, and for more records than are read back at once.
 pub const WORDS_ROOM: usize = 65600;
 
-// A number, and where its digits end.
-#[derive(Clone, Copy)]
-pub enum Decimal {
-    Number(u64, usize),
-    Malformed,
-}
-
-// Where the numbers before the words end.
-#[derive(Clone, Copy)]
-enum Leading {
-    End(usize),
-    Malformed,
-}
-
-// How many equal words, the word, and where the text of them ends.
-#[derive(Clone, Copy)]
-enum EqualWords {
-    Words(u64, u64, usize),
-    Malformed,
-}
-
-// How many words a line has.
-#[derive(Clone, Copy)]
-pub enum Words {
-    Read(usize),
-    Malformed,
-}
-
-// Where the line that goes on at `at` ends: at its line feed, or with the input.
-pub fn line_end(input: &[u8], at: usize) -> usize
-    requires { at ≤ length input.now }
-    ensures { (at ≤ result) × (result ≤ length input.now) }
+// The line that some input begins with, up to its line feed or to the end of the input, and what stands behind it; none of no input.
+pub fn first_line(input: &[u8]) -> Option<(&[u8], &[u8])>
+    ensures whole { IfSome result (λ parts. parts.0.now ++ parts.1.now ≡ input.now) }
+    ensures shorter { IfSome result (λ parts. length parts.1.now < length input.now) }
 {
-    let mut i = at;
-    while i < input.len() {
-        if input[i] == b'\n' {
-            return i;
-        }
-        i += 1;
+    if input.is_empty() {
+        return None;
     }
-    i
+    let end = match input.iter().position(|byte| *byte == b'\n') {
+        Some(i) => i + 1,
+        None => input.len(),
+    };
+    Some(input.split_at(end))
 }
 
-// The value of a digit; 10 for any other byte.
-fn digit(b: u8) -> u64
-    ensures { result ≤ 10 }
-{
-    if b < b'0' {
-        return 10;
-    }
-    if b > b'9' {
-        return 10;
-    }
-    (b - b'0') as u64
-}
-
-// The digits from `at` on: at least one, and a number below 2^64.
-pub fn read_digits(text: &[u8], at: usize) -> Decimal {
+// The number of the digits from `at` on, and where they end: at least one digit, and a number below 2^64.
+pub fn read_digits(text: &[u8], at: usize) -> Option<(u64, usize)> {
     let mut n = 0u64;
-    let mut i = at;
-    while i < text.len() {
-        let d = digit(text[i]);
-        if d == 10 {
-            break;
-        }
-        if n > (u64::MAX - d) / 10 {
-            return Decimal::Malformed;
-        }
-        n = n * 10 + d;
-        i += 1;
+    let mut end = at;
+    while end < text.len() && text[end].is_ascii_digit() {
+        n = n.checked_mul(10)?.checked_add(u64::from(text[end] - b'0'))?;
+        end += 1;
     }
-    if i == at {
-        return Decimal::Malformed;
-    }
-    Decimal::Number(n, i)
+    if end == at { None } else { Some((n, end)) }
 }
 
-// ---- numbers, and then words
-
-// The number that begins behind the space at `at`.
-fn number_behind_space(text: &[u8], at: usize) -> Decimal {
-    if at < text.len() {
-        if text[at] == b' ' {
-            return read_digits(text, at + 1);
-        }
-    }
-    Decimal::Malformed
+// The number that a part of a line is.
+fn number(part: &[u8]) -> Option<u64> {
+    let (n, end) = read_digits(part, 0)?;
+    if end == part.len() { Some(n) } else { None }
 }
 
-// The k-th number of a line: no space stands before the first.
-fn leading_number(text: &[u8], at: usize, k: usize) -> Decimal {
-    if k == 0 {
-        return read_digits(text, at);
-    }
-    number_behind_space(text, at)
-}
-
-// Reads as many numbers as there is room for.
-fn read_leading(text: &[u8], leading: &mut [u64]) -> Leading {
-    let mut at = 0;
-    let mut k = 0;
-    while k < leading.len() {
-        let read = leading_number(text, at, k);
-        let Decimal::Number(n, end) = read else {
-            return Leading::Malformed;
-        };
-        leading[k] = n;
-        at = end;
-        k += 1;
-    }
-    Leading::End(at)
-}
-
-// So many copies of the word that begins at `at`.
-fn copies(text: &[u8], at: usize, count: u64) -> EqualWords {
-    let read = read_digits(text, at);
-    match read {
-        Decimal::Number(word, end) => EqualWords::Words(count, word, end),
-        Decimal::Malformed => EqualWords::Malformed,
+// How many equal words a part of a line stands for, and the word: `k*w` stands for k words w.
+fn equal_words(part: &[u8]) -> Option<(u64, u64)> {
+    match part.iter().position(|byte| *byte == b'*') {
+        Some(i) => Some((number(&part[..i])?, number(&part[i + 1..])?)),
+        None => Some((1, number(part)?)),
     }
 }
 
-// A word, or several equal words, behind the space at `at`.
-fn next_equal_words(text: &[u8], at: usize) -> EqualWords {
-    let read = number_behind_space(text, at);
-    let Decimal::Number(n, end) = read else {
-        return EqualWords::Malformed;
-    };
-    if end < text.len() {
-        if text[end] == b'*' {
-            return copies(text, end + 1, n);
-        }
-    }
-    EqualWords::Words(1, n, end)
-}
-
-// Puts several equal words behind the first n, and answers how many there are then.
-fn put_equal_words(words: &mut [u64], n: usize, count: u64, word: u64) -> usize
-    requires { n + count ≤ length words.old }
-    ensures { result ≡ n + count }
+// Reads a line: as many numbers as there is room for, then the words, each given once or several times. Answers how many words there
+// are. The numbers are lent, and not answered as an array: no proof is made yet of these loops in a function with a const parameter.
+pub fn read_line(text: &[u8], numbers: &mut [u64], words: &mut [u64]) -> Option<usize>
+    ensures { IfSome result (λ n. n ≤ length words.new) }
 {
-    let end = n + count as usize;
-    let mut i = n;
-    while i < end {
-        words[i] = word;
-        i += 1;
+    let mut parts = text.strip_suffix(b"\n")?.split(|byte| *byte == b' ');
+    for place in numbers {
+        *place = number(parts.next()?)?;
     }
-    i
-}
-
-// Reads the words from `at` on to the line feed, each given once or several times.
-fn read_decimal_words(text: &[u8], at: usize, words: &mut [u64]) -> Words
-    ensures { InRoom words.new result }
-{
     let mut n = 0;
-    let mut i = at;
-    while i < text.len() {
-        if text[i] == b'\n' {
-            return Words::Read(n);
+    for part in parts {
+        let (count, word) = equal_words(part)?;
+        if count == 0 || count > (words.len() - n) as u64 {
+            return None;
         }
-        let read = next_equal_words(text, i);
-        let EqualWords::Words(count, word, end) = read else {
-            return Words::Malformed;
-        };
-        if count == 0 {
-            return Words::Malformed;
-        }
-        if count > (words.len() - n) as u64 {
-            return Words::Malformed;
-        }
-        n = put_equal_words(words, n, count, word);
-        i = end;
+        let end = n + count as usize;
+        words[n..end].fill(word);
+        n = end;
     }
-    Words::Malformed
-}
-
-// Reads a line: a number for each place of `leading`, then the words, with single spaces between them, and a line feed.
-// `k*w` stands for k words w.
-pub fn read_line(text: &[u8], leading: &mut [u64], words: &mut [u64]) -> Words
-    ensures { InRoom words.new result }
-{
-    let read = read_leading(text, leading);
-    let Leading::End(at) = read else {
-        return Words::Malformed;
-    };
-    read_decimal_words(text, at, words)
+    Some(n)
 }

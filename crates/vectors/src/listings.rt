@@ -1,43 +1,32 @@
 // A line of listings: the number of the image's words, the depth, the length and the sum of the listing, then the image's words.
 ghost use Rattle.std.specs.Prelude.{◌≤◌, length};
 
-use crate::line::Words;
-use crate::report::Replayed;
-use crate::{bytes, checksum, line, report};
+use crate::{bytes, checksum, line, room};
 
-// Whether the listing of an input has this length and this sum.
-fn lists(input: &[u8], length: u64, sum: u64) -> bool {
-    let mut text = listing_text::listing_room();
+// Whether the listing of an input has so many bytes and this sum.
+fn lists(input: &[u8], size: u64, sum: u64) -> bool {
+    let mut text = room::filled(0);
     let n = listing_text::listing_text(input, &mut text);
-    if n as u64 != length {
-        return false;
-    }
-    checksum::bytes_checksum(&text[..n]) == sum
+    n as u64 == size && checksum::bytes_checksum(&text[..n]) == sum
 }
 
-// Whether the listing of an image is as a line says.
-fn agrees(image: &[u64], leading: &[u64; 4]) -> bool
+// Whether the listing of an image at a depth has so many bytes and this sum.
+fn agrees(image: &[u64], depth: u64, size: u64, sum: u64) -> bool
     requires { length image.now ≤ 65600 }
 {
-    let mut input = bytes::byte_room();
-    bytes::put_word_bytes(&mut input, 0, leading[1]);
-    bytes::put_words_bytes(&mut input, 8, image);
-    let n = 8 + 8 * image.len();
-    lists(&input[..n], leading[2], leading[3])
+    let mut input = room::filled::<u8, { bytes::BYTES_ROOM }>(0);
+    bytes::put_words(&mut input[..text::WORD_BYTES], &[depth]);
+    bytes::put_words(&mut input[text::WORD_BYTES..], image);
+    lists(&input[..text::WORD_BYTES * (1 + image.len())], size, sum)
 }
 
-// Replays a line.
-pub fn replay_line(text: &[u8], words: &mut [u64]) -> Replayed {
-    let mut leading = [0u64; 4];
-    let read = line::read_line(text, &mut leading, words);
-    let Words::Read(n) = read else {
-        return Replayed::Malformed;
-    };
-    if n as u64 != leading[0] {
-        return Replayed::Malformed;
+// Replays a line: whether the listing is as it says; none where it is malformed.
+pub fn replay_line(text: &[u8], words: &mut [u64]) -> Option<bool> {
+    let mut numbers = [0; 4];
+    let n = line::read_line(text, &mut numbers, words)?;
+    let [image_words, depth, size, sum] = numbers;
+    if n as u64 != image_words || n > line::WORDS_ROOM {
+        return None;
     }
-    if n > line::WORDS_ROOM {
-        return Replayed::Malformed;
-    }
-    report::agreement(agrees(&words[..n], &leading))
+    Some(agrees(&words[..n], depth, size, sum))
 }

@@ -1,4 +1,6 @@
 // The sorts of vectors. A file is named after the sort of its vectors.
+use std::fmt;
+
 #[derive(Clone, Copy)]
 pub enum Sort {
     Numbers,
@@ -9,31 +11,31 @@ pub enum Sort {
     Answers,
 }
 
-#[derive(Clone, Copy)]
-pub enum Named {
-    Sort(Sort),
-    Unknown,
+impl Sort {
+    // The sort of the vectors of a file, by its name.
+    pub fn of_file(name: &[u8]) -> Option<Sort> {
+        match name {
+            b"numbers" => Some(Sort::Numbers),
+            b"images" => Some(Sort::Images),
+            b"tallies" => Some(Sort::Tallies),
+            b"runs" => Some(Sort::Runs),
+            b"listings" => Some(Sort::Listings),
+            b"answers" => Some(Sort::Answers),
+            _ => None,
+        }
+    }
 }
 
-// The sort of the vectors of a file, by its name.
-pub fn sort_of(name: &[u8]) -> Named {
-    if text::same_bytes(name, b"numbers") {
-        return Named::Sort(Sort::Numbers);
+// What the vectors of a sort are called in the report.
+impl fmt::Display for Sort {
+    fn fmt<W: fmt::Write>(&self, f: &mut fmt::Formatter<W>) -> fmt::Result {
+        f.write_str(match self {
+            Sort::Numbers => "vectors",
+            Sort::Images => "images",
+            Sort::Tallies => "tallies",
+            Sort::Runs => "runs",
+            Sort::Listings => "listings",
+            Sort::Answers => "answers",
+        })
     }
-    if text::same_bytes(name, b"images") {
-        return Named::Sort(Sort::Images);
-    }
-    if text::same_bytes(name, b"tallies") {
-        return Named::Sort(Sort::Tallies);
-    }
-    if text::same_bytes(name, b"runs") {
-        return Named::Sort(Sort::Runs);
-    }
-    if text::same_bytes(name, b"listings") {
-        return Named::Sort(Sort::Listings);
-    }
-    if text::same_bytes(name, b"answers") {
-        return Named::Sort(Sort::Answers);
-    }
-    Named::Unknown
 }

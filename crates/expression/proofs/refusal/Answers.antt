@@ -11,5 +11,5 @@ returns-in-ApproximateFail c = refuses_float _ _ _ c.in-ApproximateFail.is
 pub returns-in-FunctionOfFloats : goal.returns-in-FunctionOfFloats
 returns-in-FunctionOfFloats c = refuses_function _ _ c.in-FunctionOfFloats.is
 
-pub returns-in_default : goal.returns-in_default
-returns-in_default c = refuses_overflow c.args.r _ c.in_default.in_default-own.keys4 c.requires
+pub returns-in-Overflow : goal.returns-in-Overflow
+returns-in-Overflow c = refuses_overflow _ _ c.in-Overflow.is

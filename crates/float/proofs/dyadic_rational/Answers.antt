@@ -1,14 +1,11 @@
 -- `dyadic_rational` gives the reduced fraction: each turn of its loop halves the numerator and doubles the power of 2 beside it.
 use Rattle.float.proofs.PowerOfTwoLaws.{halved}
 use Rattle.float.proofs.DyadicLaws.{whole_is, odd_is}
-use mathlib.Core.Path.{◌≡◌, refl, ◌∙◌}
+use mathlib.Core.Path.{◌≡◌, ◌∙◌}
 use Prim.Native.Nat.{◌%◌}
 use native.Mathlib.Omega.{arith}
 use Rattle.float.proofs.dyadic_rational.Goals as goal
 use Rattle.float.proofs.dyadic_rational.Goals.{then-loop-j-test+else-m-eq0, else-loop-j-test}
-
-pub loop-j-init : goal.loop-j-init
-loop-j-init c = (refl, omega arith)
 
 pub loop-j-preserved : goal.loop-j-preserved
 loop-j-preserved c = (halved _ _ c.if-m-eq0.true ∙ c.loop-j.invariant.0, omega arith)

@@ -9,24 +9,17 @@ use Rattle.image_entries.proofs.first_bad_gate.Goals as goal
 
 pub loop-g-init : goal.loop-g-init
 unfolding gate_entries
-loop-g-init c = (omega arith, bad_all _ _ (gates c.args.image.now))
-
-pub gate_ok-requires : goal.gate_ok-requires
-gate_ok-requires c = (c.requires, omega (arith, c.loop-g-test.true))
+loop-g-init c = bad_all _ _ (gates c.args.image.now.words.now)
 
 pub loop-g-preserved : goal.loop-g-preserved
-loop-g-preserved c = let l = c.loop-g in
-    (omega arith, l.invariant.1 ∙ bad_next _ _ l.g (gates c.args.image.now) (omega (arith, c.loop-g-test.true, c.requires.gates_is)) (gate_fine c.args.image.now l.g (sym c.gate_ok.ensures ∙ c.if-gate_ok.true)))
+loop-g-preserved c = let image = c.args.image.now in
+    c.loop-g.invariant ∙ bad_next _ _ c.loop-g.g (gates image.words.now) (omega (arith, c.loop-g-test.true, image.laid.gates_is)) (gate_fine image.words.now c.loop-g.g (sym c.gate_ok.ensures ∙ c.if-not-gate_ok.false))
 
-pub gate_at-requires : goal.gate_at-requires
-gate_at-requires c = let pre = c.requires in
-    (pre.limits, omega (arith, pre.whole, pre.short, c.loop-g-test.true))
-
-pub returns-else-gate_ok : goal.returns-else-gate_ok
-returns-else-gate_ok c = let l = c.loop-g in
-    ap (bad 3) (c.gate_at.ensures.in_image _ c.requires)
-    ∙ sym (l.invariant.1 ∙ bad_here _ _ l.g (gates c.args.image.now) 3 (omega (arith, c.loop-g-test.true, c.requires.gates_is)) (gate_bad c.args.image.now l.g (sym c.gate_ok.ensures ∙ c.if-gate_ok.false)) (λ e. omega arith))
+pub returns-then-not-gate_ok : goal.returns-then-not-gate_ok
+returns-then-not-gate_ok c = let image = c.args.image.now in
+    ap (bad 3) c.gate_at.ensures.is
+    ∙ sym (c.loop-g.invariant ∙ bad_here _ _ c.loop-g.g (gates image.words.now) 3 (omega (arith, c.loop-g-test.true, image.laid.gates_is)) (gate_bad image.words.now c.loop-g.g (sym c.gate_ok.ensures ∙ c.if-not-gate_ok.true)) (λ e. omega arith))
 
 pub returns : goal.returns
-returns c = let l = c.loop-g in
-    sym (l.invariant.1 ∙ bad_none _ _ l.g (gates c.args.image.now) (omega (arith, c.loop-g-test.false, c.requires.gates_is)))
+returns c = let image = c.args.image.now in
+    sym (c.loop-g.invariant ∙ bad_none _ _ c.loop-g.g (gates image.words.now) (omega (arith, c.loop-g-test.false, image.laid.gates_is)))

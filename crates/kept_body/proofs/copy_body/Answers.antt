@@ -9,7 +9,7 @@ use lib.ListN.{length}
 use Rattle.kept_body.specs.Slot.{slot_of, slot_words, same_body, SlotStands}
 use Rattle.kept_body.specs.KeptBodies.{copies}
 use Rattle.kept_body.proofs.SlotLaws.{told, body_kept}
-use Rattle.kept_body.proofs.BodyCopiedLaws.{lent_slot, lent_slot_lem, slot_wide, qubits_behind, room_left, stands_in_slot, kept_in_slot, written_few, silent_copied, records_copied, Asked, answer, of_table, another_body, silent_copies, no_room, distinct_copies, not_copied, was_copied}
+use Rattle.kept_body.proofs.BodyCopiedLaws.{lent_slot, lent_slot_lem, slot_wide, room_left, stands_in_slot, kept_in_slot, written_few, silent_copied, records_copied, Asked, answer, of_table, another_body, silent_copies, distinct_copies, not_copied, was_copied}
 use Rattle.kept_body.proofs.copy_body.Goals as goal
 use Rattle.kept_body.proofs.copy_body.Goals.{Else-is_full, Else-not-is_same_body, Start}
 
@@ -42,23 +42,8 @@ returns-then-not-is_same_body c = (in_table (goal.at.returns-then-not-is_same_bo
 pub returns-then-words-eq0 : goal.returns-then-words-eq0
 returns-then-words-eq0 c = let slot = lent_slot c.args.kept_bodies.now c.args.call.gate in (
   in_table (goal.at.returns-then-words-eq0 c).Start (silent_copies (asked (goal.at.returns-then-words-eq0 c).Start) c.is_same_body.ensures c.if-not-is_same_body.false c.if-words-eq0.true c.requires.in_output.inside),
-  λ image called b. was_copied (silent_copied called slot c.args.angles.now (same (goal.at.returns-then-words-eq0 c).Else-not-is_same_body) c.args.at (slot_wide c.requires.slot (lent_slot_lem c.args.kept_bodies.now c.args.call.gate)) (kept_in_slot c.requires slot (lent_slot_lem c.args.kept_bodies.now c.args.call.gate) (body_kept slot c.args.call c.args.angles.now (same (goal.at.returns-then-words-eq0 c).Else-not-is_same_body)) called b) _ c.if-words-eq0.true c.requires.in_output.inside),
+  λ image called b. was_copied (silent_copied called slot c.args.angles.now c.told-angles (same (goal.at.returns-then-words-eq0 c).Else-not-is_same_body) c.args.at (slot_wide c.requires.slot (lent_slot_lem c.args.kept_bodies.now c.args.call.gate)) (kept_in_slot c.requires slot (lent_slot_lem c.args.kept_bodies.now c.args.call.gate) (body_kept slot c.args.call c.args.angles.now (same (goal.at.returns-then-words-eq0 c).Else-not-is_same_body)) called b) _ c.if-words-eq0.true c.requires.in_output.inside),
 )
-
-pub returns-then-is_full : goal.returns-then-is_full
-returns-then-is_full c = (in_table (goal.at.returns-then-is_full c).Start (no_room (asked (goal.at.returns-then-is_full c).Start) c.is_same_body.ensures c.if-not-is_same_body.false c.is_full.ensures c.if-is_full.true), λ image _ _. not_copied)
-
-pub returns-then-not-are_distinct : goal.returns-then-not-are_distinct
-returns-then-not-are_distinct c = let tested = distinct_copies (asked (goal.at.returns-then-not-are_distinct c).Start) c.is_same_body.ensures c.if-not-is_same_body.false c.if-words-eq0.false (fits (goal.at.returns-then-not-are_distinct c).Else-is_full) c.are_distinct.ensures in
-    (in_table (goal.at.returns-then-not-are_distinct c).Start (sym c.if-not-are_distinct.true ∙ tested), λ image _ _. not_copied)
-
-pub copy_records-written-requires : goal.copy_records-written-requires
-copy_records-written-requires c = let given = c.requires.slot.given in
-    let words = stands (goal.at.copy_records-written-requires c).Else-not-is_same_body in
-    (record { few = given.few; old_given = qubits_behind (lent_slot c.args.kept_bodies.now c.args.call.gate) c.args.call.parameters c.args.call.arguments (slot_wide c.requires.slot (lent_slot_lem c.args.kept_bodies.now c.args.call.gate)); new_sixteen = given.sixteen }, record { after = words.before; fits = fits (goal.at.copy_records-written-requires c).Else-is_full }, words.stands)
-
-pub overflow_add-result : goal.overflow_add-result
-overflow_add-result c = record { fits = omega (arith, (stands (goal.at.overflow_add-result c).Else-not-is_same_body).fewer, fits (goal.at.overflow_add-result c).Else-is_full, c.requires.in_output.fewer) }
 
 pub overflow_add-result-2 : goal.overflow_add-result-2
 overflow_add-result-2 c = record { fits = omega (arith, written_few _ c.copy_records-written.ensures (omega (arith, (stands (goal.at.overflow_add-result-2 c).Else-not-is_same_body).before, fits (goal.at.overflow_add-result-2 c).Else-is_full)), fits (goal.at.overflow_add-result-2 c).Else-is_full) }
@@ -69,8 +54,7 @@ returns c = let slot = lent_slot c.args.kept_bodies.now c.args.call.gate in
     let some_words = c.if-words-eq0.false in
     let distinct = c.are_distinct.ensures in
     let apart = c.if-not-are_distinct.false in
-    let tested = distinct_copies (asked (goal.at.returns c).Start) c.is_same_body.ensures c.if-not-is_same_body.false some_words (fits (goal.at.returns c).Else-is_full) distinct in
-    let qubit_words = length slot - (4 + 6 * c.args.call.parameters) in (
+    let tested = distinct_copies (asked (goal.at.returns c).Start) c.is_same_body.ensures c.if-not-is_same_body.false some_words (fits (goal.at.returns c).Else-is_full) distinct in (
       in_table (goal.at.returns c).Start (sym apart ∙ tested),
-      λ image called b. was_copied (records_copied called slot c.args.angles.now (same (goal.at.returns c).Else-not-is_same_body) c.args.at wide (kept_in_slot c.requires slot (lent_slot_lem c.args.kept_bodies.now c.args.call.gate) (body_kept slot c.args.call c.args.angles.now (same (goal.at.returns c).Else-not-is_same_body)) called b) _ qubit_words some_words (omega (arith, wide)) (told distinct apart) c.requires.slot.given.sixteen (fits (goal.at.returns c).Else-is_full) c.copy_records-written.ensures),
+      λ image called b. was_copied (records_copied called slot c.args.angles.now c.told-angles (same (goal.at.returns c).Else-not-is_same_body) c.args.at wide (kept_in_slot c.requires slot (lent_slot_lem c.args.kept_bodies.now c.args.call.gate) (body_kept slot c.args.call c.args.angles.now (same (goal.at.returns c).Else-not-is_same_body)) called b) _ (4 + 6 * c.args.call.parameters + c.args.call.arguments - (4 + 6 * c.args.call.parameters)) c.args.call.arguments some_words (omega arith) (omega arith) (told distinct apart) c.requires.slot.given.sixteen (fits (goal.at.returns c).Else-is_full) c.copy_records-written.ensures),
     )

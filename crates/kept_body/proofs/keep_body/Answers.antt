@@ -1,12 +1,9 @@
 -- A body that may be copied is put into the slot of its gate, and the other slots stay.
 use mathlib.Core.Path.{◌∙◌}
 use Rattle.kept_body.proofs.SlotLaws.{told}
-use Rattle.kept_body.proofs.KeptBodiesLaws.{bodies_put, body_left, body_put}
+use Rattle.kept_body.proofs.KeptBodiesLaws.{bodies_put, body_put}
 use Rattle.kept_body.proofs.BodyCopiedLaws.{lent_slot_lem, slot_whole}
 use Rattle.kept_body.proofs.keep_body.Goals as goal
-
-pub returns-then-not-may_be_copied : goal.returns-then-not-may_be_copied
-returns-then-not-may_be_copied c = (body_left c.may_be_copied.ensures c.if-not-may_be_copied.true, λ image out out' _ b. b)
 
 pub returns : goal.returns
 returns c = let e = lent_slot_lem c.args.kept_bodies.now c.args.call.gate in

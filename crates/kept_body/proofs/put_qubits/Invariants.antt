@@ -1,12 +1,8 @@
 -- The qubits are put in turn: after i turns of the loop the first i of them stand.
-use Prim.Native.Nat.{◌-◌, ◌≤◌}
 use mathlib.Core.Path.{◌≡◌}
 use lib.ListN.{length, take}
 use lib.Seq.{sets}
 use Rattle.kept_body.proofs.put_qubits.Given as goal
 
 abbrev pub invariant-loop-i : goal.invariant-loop-i
-invariant-loop-i l = (l.i ≤ l.n) × (l.slot ≡ sets l.initial.slot l.start (take l.i l.qubits)) × (length l.slot ≡ length l.initial.slot)
-
-abbrev pub decreases-loop-i : goal.decreases-loop-i
-decreases-loop-i l = l.n - l.i
+invariant-loop-i l = (l.slot ≡ sets l.initial.slot l.start (take l.i l.qubits)) × (length l.slot ≡ length l.initial.slot)

@@ -1,9 +1,8 @@
 -- A run keeps the whole promise: where the trace is too short, where the check finds a flaw, and where the image is accepted.
 use Prim.Native.Nat.{zero-le}
 use native.Mathlib.Omega.{arith}
-use mathlib.Core.Path.{ap, subst}
-use Rattle.model.proofs.Accepted.{accepts}
-use Rattle.image_check.specs.Answer.{LayoutAnswerOf}
+use mathlib.Core.Path.{◌≡◌, ap, subst}
+use Rattle.model.specs.Check.{fine, check}
 use Rattle.gate.proofs.RanStepsLaws.{ran_lengths}
 use Rattle.linearize.proofs.LinearizesLaws.{accepted_run, short_trace_lem, not_accepted}
 use Rattle.linearize.proofs.run.Goals as goal
@@ -13,10 +12,7 @@ returns-then-trace-lt-TRACE_WORDS c = rw c.refused.ensures (short_trace_lem _ _ 
 
 pub run_accepted-requires : goal.run_accepted-requires
 run_accepted-requires c = let if1 = c.if-trace-lt-TRACE_WORDS.false in
-    let checked = subst (LayoutAnswerOf c.args.image.now) c.in-Accepted.is c.accepted_layout.ensures in
     record {
-      laid = checked.laid;
-      accepted = accepts _ checked.accepted;
       in_output = rw c.start.ensures (record { inside = zero-le; fewer = zero-le });
       trace_length = omega (arith, if1);
       no_calls = ap (λ p. p.trace) c.start.ensures;
@@ -28,11 +24,9 @@ shape_of-out c = (ran_lengths c.run_accepted.ensures).0
 pub shape_of-trace : goal.shape_of-trace
 shape_of-trace c = (ran_lengths c.run_accepted.ensures).1
 
-pub returns-in-Accepted : goal.returns-in-Accepted
-returns-in-Accepted c = let if1 = c.if-trace-lt-TRACE_WORDS.false in
-    let checked = subst (LayoutAnswerOf c.args.image.now) c.in-Accepted.is c.accepted_layout.ensures in
-    accepted_run _ _ _ _ checked.accepted (omega (arith, if1)) c.start.ensures c.run_accepted.ensures
+pub returns-in-Ok : goal.returns-in-Ok
+returns-in-Ok c = let same = c.in-Ok.ensures in
+    accepted_run _ _ _ _ (subst (λ words. check words ≡ fine) same c.in-Ok.accepted.accepted) (omega (arith, c.if-trace-lt-TRACE_WORDS.false)) c.start.ensures (rw same at c.run_accepted.ensures)
 
-pub returns-in-Refused : goal.returns-in-Refused
-returns-in-Refused c = let checked = subst (LayoutAnswerOf c.args.image.now) c.in-Refused.is c.accepted_layout.ensures in
-    rw c.refused-in-Refused.ensures (not_accepted _ _ _ _ _ (omega (arith, c.if-trace-lt-TRACE_WORDS.false)) checked)
+pub returns-in-Err : goal.returns-in-Err
+returns-in-Err c = rw c.refused-in-Err.ensures (not_accepted _ _ _ _ _ (omega (arith, c.if-trace-lt-TRACE_WORDS.false)) c.in-Err.ensures)

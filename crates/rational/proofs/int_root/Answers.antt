@@ -4,7 +4,7 @@ use Prim.Native.Nat.{ℕ, ◌^◌, ◌<◌, min}
 use native.Mathlib.Omega.{arith}
 use borrow.Author.Tests.{eq-eqb, ne_eqb}
 use Rattle.rational.specs.Root.{root}
-use Rattle.rational.specs.declared.WholeRoot.TheVariants.{Whole}
+use Rattle.std.specs.Prelude.{Some}
 use Rattle.rational.specs.Rational.{whole_root}
 use Rattle.rational.proofs.int_root.Goals as goal
 
@@ -19,8 +19,8 @@ pub returns-then-capped_pow-n : goal.returns-then-capped_pow-n
 unfolding whole_root
 returns-then-capped_pow-n c = let floor-root = c.floor_root-r.ensures in
     let e : root c.args.k c.args.n ^ c.args.k ≡ c.args.n = held _ _ _ _ c.requires.1 floor-root c.capped_pow.ensures c.if-capped_pow-n.true in
-    ap Whole floor-root ∙ sym (rw (eq-eqb _ _ e))
+    ap Some floor-root ∙ sym (rw (eq-eqb _ _ e))
 
-pub returns : goal.returns
+pub returns-else-capped_pow-n : goal.returns-else-capped_pow-n
 unfolding whole_root
-returns c = sym (rw (ne_eqb (root c.args.k c.args.n ^ c.args.k) c.args.n (λ e. c.if-capped_pow-n.false (found _ _ _ _ c.requires.1 c.floor_root-r.ensures c.capped_pow.ensures e))))
+returns-else-capped_pow-n c = sym (rw (ne_eqb (root c.args.k c.args.n ^ c.args.k) c.args.n (λ e. c.if-capped_pow-n.false (found _ _ _ _ c.requires.1 c.floor_root-r.ensures c.capped_pow.ensures e))))

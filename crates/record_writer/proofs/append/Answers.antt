@@ -1,4 +1,5 @@
 -- A record's words are put after those written if they fit, and it is refused as too long if they do not.
+use Rattle.std.specs.Prelude.{Err}
 use mathlib.Core.Path.{refl, sym, subst, ◌∙◌}
 use borrow.Author.Tests.{ltb-true, ltb-false}
 use Rattle.record_writer.specs.Promise.{AppendedWords}
@@ -8,10 +9,7 @@ use Rattle.record_writer.proofs.append.Goals as goal
 pub returns-then-is_full : goal.returns-then-is_full
 returns-then-is_full c = let args = c.args in
     let pre = c.requires in
-    subst (λ z. AppendedWords args.words.now args.out.now args.at z args.out.now) (sym c.output_full.ensures) (not_appended pre (ltb-true _ _ (sym c.is_full.ensures ∙ c.if-is_full.true)))
-
-pub put_words-requires : goal.put_words-requires
-put_words-requires c = ltb-false _ _ (sym c.is_full.ensures ∙ c.if-is_full.false)
+    subst (λ z. AppendedWords args.words.now args.out.now args.at (Err z) args.out.now) (sym c.output_full.ensures) (not_appended pre (ltb-true _ _ (sym c.is_full.ensures ∙ c.if-is_full.true)))
 
 pub returns : goal.returns
 returns c = let is-full = c.is_full.ensures in

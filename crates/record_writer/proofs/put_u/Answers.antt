@@ -1,15 +1,10 @@
 -- The words that are put are the record of a U, and the position after them is a position in the output.
-use native.Mathlib.Omega.{arith}
 use mathlib.Core.Path.{sym, ap, ◌∙◌}
 use lib.Seq.{sets}
 use Rattle.model.specs.Records.{Record}
-use Rattle.record_writer.proofs.AngleWordsLaws.{u_words, u_long, u_length}
+use Rattle.record_writer.proofs.AngleWordsLaws.{u_words, u_long}
 use Rattle.record_writer.proofs.WroteStepsLaws.{record_written}
 use Rattle.record_writer.proofs.put_u.Goals as goal
-
-pub put_words-requires : goal.put_words-requires
-put_words-requires c = let a = c.args in
-    omega (arith, c.requires.2, u_length a.theta a.phi a.lambda a.qubit c.put_angle.ensures c.put_angle-2.ensures c.put_angle-3.ensures)
 
 pub returns : goal.returns
 returns c = let a = c.args in

@@ -1,11 +1,17 @@
 -- The capped figures are the tally if all are below the limit, and else one is too large.
+use Rattle.std.proofs.Common.{◌-◌, ◌≡◌, min, arith}
+use Rattle.model.specs.Image.{gates}
 use Rattle.tally.proofs.FiguresLaws.{tally_figures, tally_large}
 use Rattle.tally.proofs.accepted_tally.Goals as goal
 
-pub returns-then-largest_figure-lt-FIGURE_LIMIT : goal.returns-then-largest_figure-lt-FIGURE_LIMIT
-returns-then-largest_figure-lt-FIGURE_LIMIT c = tally_figures c.args.image.now c.args.depth _ _ _ c.requires.accepted _ c.requires.laid.gates_is
-    c.opened_levels-n.ensures c.nine_figures-figures.ensures c.largest_figure.ensures c.if-largest_figure-lt-FIGURE_LIMIT.true
+pub returns-then-largest-lt-FIGURE_LIMIT : goal.returns-then-largest-lt-FIGURE_LIMIT
+returns-then-largest-lt-FIGURE_LIMIT c = let a = c.args.accepted.now in
+    let w = a.image.words.now in
+    let e : c.opened_levels-levels.result ≡ min (c.args.depth - 1) (gates w) = rw a.image.laid.gates_is at c.opened_levels-levels.ensures in
+    tally_figures w c.args.depth _ _ a.accepted e c.total_figures-figures.ensures (omega arith)
 
-pub returns-else-largest_figure-lt-FIGURE_LIMIT : goal.returns-else-largest_figure-lt-FIGURE_LIMIT
-returns-else-largest_figure-lt-FIGURE_LIMIT c = tally_large c.args.image.now c.args.depth _ _ _ c.requires.accepted _ c.requires.laid.gates_is c.opened_levels-n.ensures
-    c.nine_figures-figures.ensures c.largest_figure.ensures c.if-largest_figure-lt-FIGURE_LIMIT.false
+pub returns-else-largest-lt-FIGURE_LIMIT : goal.returns-else-largest-lt-FIGURE_LIMIT
+returns-else-largest-lt-FIGURE_LIMIT c = let a = c.args.accepted.now in
+    let w = a.image.words.now in
+    let e : c.opened_levels-levels.result ≡ min (c.args.depth - 1) (gates w) = rw a.image.laid.gates_is at c.opened_levels-levels.ensures in
+    tally_large w c.args.depth _ _ a.accepted e c.total_figures-figures.ensures (omega arith)

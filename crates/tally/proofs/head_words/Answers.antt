@@ -1,7 +1,5 @@
 -- The head has three words, and two for each qubit and each bit.
-use Prim.Native.Nat.{ℕ, ◌≤◌}
-use mathlib.Core.Path.{◌≡◌, ◌∙◌}
-use native.Mathlib.Omega.{arith}
+use Rattle.std.proofs.Common.{ℕ, ◌≤◌, ◌≡◌, ◌∙◌, arith}
 use Rattle.model.specs.Image.{qubits, bits}
 use Rattle.model.proofs.Accepted.{accepts}
 use Rattle.image.proofs.QubitsLaws.{qubits_are, bits_are}
@@ -16,25 +14,25 @@ record Sums (q k w e : ℕ) : Type 0 where
   pub few_bits : e ≤ 4096
 
 sums : (c : After-size_in_all-classical)
-    → (let image = c.args.image.now in Sums c.size_in_all-quantum.result c.size_in_all-classical.result (qubits image) (bits image))
-sums c = let image = c.args.image.now in
-    let a = accepts image c.requires.accepted in
+    → (let w = c.args.accepted.now.image.words.now in Sums c.size_in_all-quantum.result c.size_in_all-classical.result (qubits w) (bits w))
+sums c = let i = c.args.accepted.now.image in
+    let a = accepts i.words.now c.args.accepted.now.accepted in
     record {
-      quantum = c.size_in_all-quantum.ensures ∙ qubits_are image c.args.l c.requires.laid _ (c.quantum_register_at.ensures.in_image _ c.requires.laid);
-      classical = c.size_in_all-classical.ensures ∙ bits_are image c.args.l c.requires.laid _ (c.classical_register_at.ensures.in_image _ c.requires.laid);
+      quantum = c.size_in_all-quantum.ensures ∙ qubits_are i.words.now i.layout i.laid _ c.quantum_register_at.ensures.is;
+      classical = c.size_in_all-classical.ensures ∙ bits_are i.words.now i.layout i.laid _ c.classical_register_at.ensures.is;
       few_qubits = a.few_qubits;
       few_bits = a.few_bits;
     }
 
 pub size_in_all-quantum-requires : goal.size_in_all-quantum-requires
-size_in_all-quantum-requires c = let image = c.args.image.now in
-    let few = (accepts image c.requires.accepted).few_qubits in
-    (c.quantum_register_at.ensures.small, omega arith, omega (arith, few, qubits_are image c.args.l c.requires.laid _ (c.quantum_register_at.ensures.in_image _ c.requires.laid)))
+size_in_all-quantum-requires c = let i = c.args.accepted.now.image in
+    let few = (accepts i.words.now c.args.accepted.now.accepted).few_qubits in
+    (c.quantum_register_at.ensures.small, omega arith, omega (arith, few, qubits_are i.words.now i.layout i.laid _ c.quantum_register_at.ensures.is))
 
 pub size_in_all-classical-requires : goal.size_in_all-classical-requires
-size_in_all-classical-requires c = let image = c.args.image.now in
-    let few = (accepts image c.requires.accepted).few_bits in
-    (c.classical_register_at.ensures.small, omega arith, omega (arith, few, bits_are image c.args.l c.requires.laid _ (c.classical_register_at.ensures.in_image _ c.requires.laid)))
+size_in_all-classical-requires c = let i = c.args.accepted.now.image in
+    let few = (accepts i.words.now c.args.accepted.now.accepted).few_bits in
+    (c.classical_register_at.ensures.small, omega arith, omega (arith, few, bits_are i.words.now i.layout i.laid _ c.classical_register_at.ensures.is))
 
 pub overflow_add-result : goal.overflow_add-result
 overflow_add-result c = let k = sums (goal.at.overflow_add-result c).After-size_in_all-classical in record { fits = omega arith }

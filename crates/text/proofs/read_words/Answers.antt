@@ -1,24 +1,20 @@
 -- The words of some bytes are read one after the other.
-use native.Mathlib.Omega.{arith}
-use Prim.Native.Nat.{ℕ}
-use mathlib.Core.Path.{refl, ap, ◌∙◌}
-use Rattle.model.proofs.WordsOfLaws.{words_more, words_none}
-use lib.ListN.{drop, length-set}
-use lib.Seq.{sets}
-use native.Mathlib.Nat.{le_antisymm}
-use Rattle.model.specs.Listing.{words_of}
+use Rattle.std.proofs.Common.{arith, ◌≡◌, ◌*◌, ◌-◌, length, refl, sym, ◌∙◌, zero-add, drop, length-drop}
+use Rattle.model.proofs.WordsOfLaws.{words_more, words_none, read_front}
+use lib.Seq.{take_all}
 use Rattle.text.proofs.read_words.Goals as goal
 
 pub loop-i-init : goal.loop-i-init
-loop-i-init c = let args = c.args in
-    (omega arith, words_none _ (drop args.from args.input.now), refl)
+loop-i-init c = words_none _ c.args.bytes.now
 
 pub loop-i-preserved : goal.loop-i-preserved
-loop-i-preserved c = (omega (arith, c.loop-i-test.true), words_more _ c.args.input.now c.args.from _ c.loop-i.invariant.1 c.word_at.ensures, length-set c.loop-i.words _ _ ∙ c.loop-i.invariant.2)
-
-pub shape_of-words : goal.shape_of-words
-shape_of-words c = c.loop-i.invariant.2
+loop-i-preserved c =
+    let bytes = c.args.bytes.now in
+    let i = c.loop-i.i in
+    words_more _ bytes 0 i c.loop-i.invariant (c.first_word.ensures ∙ rw (zero-add, take_all (length bytes - 8 * i) (drop (8 * i) bytes) (omega (arith, length-drop (8 * i) bytes))) refl)
 
 pub returns : goal.returns
-returns c = let args = c.args in
-    c.loop-i.invariant.1 ∙ ap (λ (k : ℕ). sets args.words.now 0 (words_of k (drop args.from args.input.now))) (le_antisymm c.loop-i.invariant.0 c.loop-i-test.false)
+returns c =
+    let words = c.args.words.now in
+    let e : c.loop-i.i ≡ length words = omega arith in
+    sym (take_all (length words) c.loop-i.words (omega arith)) ∙ read_front words c.args.bytes.now (omega arith) (rw e at c.loop-i.invariant)

@@ -1,13 +1,12 @@
 -- The numbers of a run's answer are those of document 01.
 use mathlib.Core.Path.{refl}
-use borrow.Author.Rules.{rules}
 use Rattle.model.specs.Run.{answer_numbers}
 use Rattle.unit.proofs.numbers_of.Goals as goal
 
-pub returns-in-Done : goal.returns-in-Done
+pub returns-in-Ok : goal.returns-in-Ok
 unfolding answer_numbers
-returns-in-Done c = record { each = λ t. rw c.in-Done.is refl }
+returns-in-Ok c = record { each = λ t. rw (c.in-Ok.is, c.new.ensures) refl }
 
-pub returns-in-Refused : goal.returns-in-Refused
+pub returns-in-Err : goal.returns-in-Err
 unfolding answer_numbers
-returns-in-Refused c = record { each = λ t. rw c.in-Refused.is (c.refusal_numbers.ensures.each t) }
+returns-in-Err c = record { each = λ t. rw c.in-Err.is (c.from.ensures.each t) }

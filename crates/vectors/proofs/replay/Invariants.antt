@@ -1,12 +1,13 @@
--- Every line of a file is replayed, and no count passes the position.
-use mathlib.Core.Path.{◌≡◌}
-use Prim.Native.Nat.{◌≤◌, ◌-◌}
-use lib.ListN.{length}
+-- There are no more lines than bytes, no more vectors than lines, and no more that agree than vectors; each turn reads a line.
+use Rattle.std.proofs.Common.{◌≤◌, ◌+◌, length}
 use Rattle.vectors.proofs.replay.Given as goal
 
--- a line has at least its line feed
-abbrev pub invariant-loop-at : goal.invariant-loop-at
-invariant-loop-at g l = (l.agree ≤ l.vectors) × ((l.vectors ≤ l.line_number) × ((l.line_number ≤ l.at) × ((l.at ≤ length l.input) × (length l.words ≡ 65600))))
+abbrev pub invariant-loop-text : goal.invariant-loop-text
+invariant-loop-text g l = record {
+  lines : l.line_number + length l.rest ≤ length l.input;
+  vectors : l.vectors ≤ l.line_number;
+  agree : l.agree ≤ l.vectors;
+}
 
-abbrev pub decreases-loop-at : goal.decreases-loop-at
-decreases-loop-at g l = length l.input - l.at
+abbrev pub decreases-loop-text : goal.decreases-loop-text
+decreases-loop-text g l = length l.rest

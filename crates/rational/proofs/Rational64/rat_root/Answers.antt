@@ -10,7 +10,15 @@ pub returns-then-self : goal.returns-then-self
 unfolding rational_root
 returns-then-self c = record { is = sym (rw c.if-self.true); sound = tt }
 
+pub returns-in_err-n : goal.returns-in_err-n
+unfolding rational_root
+returns-in_err-n c = record { is = c.from_residual.ensures ∙ sym (rw (c.if-self.false, sym c.int_root.ensures ∙ c.in_err-n.was)); sound = rw c.from_residual.ensures tt }
+
+pub returns-in_err-d : goal.returns-in_err-d
+unfolding rational_root
+returns-in_err-d c = let r = c.from_residual-in_err-d.ensures in
+    record { is = r ∙ sym (rw (c.if-self.false, sym c.int_root.ensures ∙ c.in_ok-n.was, sym c.int_root-2.ensures ∙ c.in_err-d.was)); sound = rw r tt }
+
 pub returns : goal.returns
 unfolding rational_root
-returns c = checks_to (c.root_ratio.ensures ∙ rw (c.if-self.false, c.int_root-n.ensures, c.int_root-d.ensures))
-    (root_sound c.args.self c.args.k c.requires.0 (omega arith))
+returns c = checks_to (sym (rw (c.if-self.false, sym c.int_root.ensures ∙ c.in_ok-n.was, sym c.int_root-2.ensures ∙ c.in_ok-d.was))) (root_sound c.args.self c.args.k c.requires.0 (omega arith))

@@ -5,13 +5,7 @@ use Rattle.value.proofs.SoundLaws.{evaluates_to, from_float_sound}
 use Rattle.value.specs.Value.{from_float}
 use Rattle.value.proofs.Value.from_float.Goals as goal
 
-pub returns-in_default : goal.returns-in_default
+pub returns-in-Some : goal.returns-in-Some
 unfolding from_float
-returns-in_default c = record { is = sym (rw (sym c.approximate_float-exact.ensures.is ∙ c.in_default.is)); sound = tt }
-
-pub returns : goal.returns
-unfolding from_float
-returns c = let good = c.well_formed in
-    let approximate-float = c.approximate_float-exact.ensures in
-    evaluates_to (c.rational_value.ensures ∙ sym (rw (sym approximate-float.is ∙ c.in-Some.is)))
-    (from_float_sound _ (subst T (sym good.0.1) tt))
+returns-in-Some c =
+    evaluates_to (c.rational_value.ensures ∙ sym (rw (sym c.approximate_float.ensures.is ∙ c.in-Some.is))) (from_float_sound _ (subst T (sym c.well_formed.0.1) tt))

@@ -1,10 +1,6 @@
--- The digits of a number are read while it stays below 2^64.
-use Prim.Native.Nat.{◌-◌}
-use lib.ListN.{length}
+-- Each turn reads a digit.
+use Rattle.std.proofs.Common.{◌-◌, length}
 use Rattle.vectors.proofs.line.read_digits.Given as goal
 
-abbrev pub invariant-loop-i : goal.invariant-loop-i
-invariant-loop-i l = Unit {0}
-
-abbrev pub decreases-loop-i : goal.decreases-loop-i
-decreases-loop-i l = length l.text - l.i
+abbrev pub decreases-loop-end : goal.decreases-loop-end
+decreases-loop-end l = length l.text - l.end

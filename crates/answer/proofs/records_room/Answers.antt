@@ -1,8 +1,0 @@
--- The room has as many bytes as its type says.
-use Prim.Native.Nat.{ℕ}
-use mathlib.Core.Path.{sym}
-use lib.ListN.{length-replicate}
-use Rattle.answer.proofs.records_room.Goals as goal
-
-pub returns : goal.returns
-returns c = sym (length-replicate {A = ℕ} 524289 0)
