@@ -3,12 +3,12 @@ use Prim.Native.Nat.{ℕ, zero, suc, ◌+◌, ◌-◌, ◌<◌}
 use native.Mathlib.Nat.{add-zero}
 use native.Mathlib.Omega.{arith}
 use mathlib.Core.Path.{◌≡◌, refl, sym, ap, subst, fun_ext, ◌∙◌}
+use mathlib.Core.Bool.{Bool, true, false, not}
 use mathlib.Core.List.{List, [], ◌∷◌, ◌++◌, map, flat_map, map-append}
-use borrow.Author.Tests.{ne_eqb, eq-eqb}
 use lib.ListN.{take, length-take}
 use Rattle.value.specs.declared.Value.{Value}
 use Rattle.model.specs.Lists.{range}
-use Rattle.model.specs.Image.{Statement, U, CX, Gate, Barrier, Measure, Reset, Conditional, Unknown, statement, statement_at, gates, gate_arguments, gate_body, variables, scope_statements}
+use Rattle.model.specs.Image.{Statement, U, CX, Gate, Barrier, Measure, Reset, Conditional, Unknown, statement, statement_at, gates, gate_arguments, variables, scope_statements}
 use Rattle.model.specs.Steps.{Frame, Step, enter, in_rounds, qubit_in, push_frame, open_gate, write_opaque, visit_gate, visit_plain, visit_statement, visit_body, opening}
 use Rattle.model.proofs.All.{all-All}
 use Rattle.model.specs.Accepted.{Accepted, PlainFacts, Facts, Declared}
@@ -22,6 +22,15 @@ use Rattle.gate.specs.RanSteps.{plain_steps, opened_steps}
 use Rattle.gate.specs.CallStatement.{CallStatement, call_steps, opened_round}
 
 -- ---- the rounds of a call
+
+-- the two answers of a test by its contrary
+pub not_true : (b : Bool) → not b ≡ true → b ≡ false
+not_true true e = sym e
+not_true false e = refl
+
+pub not_false : (b : Bool) → not b ≡ false → b ≡ true
+not_false true e = refl
+not_false false e = sym e
 
 -- the steps of rounds under a caller's words
 map_under : (u : List ℕ) (xs ys : List Step) → map (under u) (xs ++ ys) ≡ map (under u) xs ++ map (under u) ys
@@ -68,24 +77,24 @@ module _ {image : List ℕ} {call : Call} (c : CallStatement image call) where
     abbrev caller : Frame
     caller = scope_frame image call.site.scope angles qubits
 
-    pub opened_rounds : ¬ (call.body ≡ 0) → map (under pair) (in_rounds (call_rounds image call) (opened_round image qubits call xs)) ≡ call_steps image caller call xs
+    pub opened_rounds : call.has_body ≡ true → map (under pair) (in_rounds (call_rounds image call) (opened_round image qubits call xs)) ≡ call_steps image caller call xs
     unfolding visit_gate push_frame opened_round qubit_in
     opened_rounds h =
         rounds_under pair (opened_round image qubits call xs) (call_rounds image call)
         ∙ ap (in_rounds (call_rounds image call)) (fun_ext λ i.
         sym (opening_under pair image call.site.levels_left (record { scope = suc call.gate; trace = []; values = xs; qubits = map (qubit_in image (scope_frame image call.site.scope [] qubits) i) (range call.argument call.arguments) }) call.gate)
-        ∙ rw (ne_eqb (gate_body image call.gate) 0 (λ e. h (c.body_is ∙ e))) refl)
+        ∙ rw (not_true _ (sym c.body_is ∙ h)) refl)
 
     -- no level is left: the gate itself in each round
-    pub cut_rounds : ¬ (call.body ≡ 0) → call.site.levels_left ≡ 0 → map (under pair) (cut_steps image qubits call) ≡ call_steps image caller call xs
+    pub cut_rounds : call.has_body ≡ true → call.site.levels_left ≡ 0 → map (under pair) (cut_steps image qubits call) ≡ call_steps image caller call xs
     unfolding cut_round opened_round open_gate opening
     cut_rounds h e =
         ap (λ (round : ℕ → List Step). map (under pair) (in_rounds (call_rounds image call) round)) (fun_ext λ i. rw e refl) ∙ opened_rounds h
 
     -- an opaque gate's rounds
-    pub opaque_rounds : call.body ≡ 0 → opaque_steps image qubits call xs ≡ call_steps image caller call xs
+    pub opaque_rounds : call.has_body ≡ false → opaque_steps image qubits call xs ≡ call_steps image caller call xs
     unfolding visit_gate write_opaque qubit_in
-    opaque_rounds h = ap (in_rounds (call_rounds image call)) (fun_ext λ i. rw (eq-eqb (gate_body image call.gate) 0 (sym c.body_is ∙ h)) refl)
+    opaque_rounds h = ap (in_rounds (call_rounds image call)) (fun_ext λ i. rw (not_false _ (sym c.body_is ∙ h)) refl)
 
 -- ---- statements in turn
 

@@ -1,5 +1,5 @@
 -- Calls: what one says of itself and of its gate, what the check accepted of it, and its steps.
-use Rattle.std.specs.Prelude.{ℕ, suc, ◌≤◌, ◌<◌, ◌≡◌, List, [], map}
+use Rattle.std.specs.Prelude.{ℕ, suc, ◌≤◌, ◌<◌, ◌≡◌, true, not, eqb, List, [], map}
 use Rattle.value.specs.declared.Value.{Value}
 use Rattle.model.specs.Lists.{range}
 use Rattle.model.specs.Image.{Gate, statement, all_statements, gates, parameter_at, gate_parameters, gate_arguments, gate_body}
@@ -23,7 +23,7 @@ call_of image site g p a =
       parameters = gate_parameters image g;
       argument = a;
       arguments = gate_arguments image g;
-      body = gate_body image g;
+      has_body = not (eqb (gate_body image g) 0);
     }
 
 -- a call is what the statement of its site says, which the check accepted
@@ -37,7 +37,7 @@ pub record StatedCall (image : List ℕ) (call : Call) : Type 0 where
 pub record CallStatement (image : List ℕ) (call : Call) : Type 0 where
   pub parameters_are : call.parameters ≡ gate_parameters image call.gate
   pub arguments_are : call.arguments ≡ gate_arguments image call.gate
-  pub body_is : call.body ≡ gate_body image call.gate
+  pub body_is : call.has_body ≡ not (eqb (gate_body image call.gate) 0)
   pub listed : call.site.statement < all_statements image
   pub gate_listed : call.gate < gates image
   pub downward : call.gate < nested call.site.scope
@@ -47,7 +47,7 @@ pub record CallStatement (image : List ℕ) (call : Call) : Type 0 where
 -- a call whose gate has a body, for which a level is left
 pub record OpenedCall (image : List ℕ) (call : Call) : Type 0 where
   pub is_call : CallStatement image call
-  pub has_body : ¬ (call.body ≡ 0)
+  pub has_body : call.has_body ≡ true
   pub has_level : ¬ (call.site.levels_left ≡ 0)
 
 -- the rounds of a call, with the angles of its gate

@@ -131,7 +131,7 @@ fn call_at(image: &Image<'_>, site: Site, gate: u64, parameter: u64, argument: u
         parameters: image.word(place),
         argument,
         arguments: image.word(place + 1),
-        body: image.word(place + 2),
+        has_body: image.word(place + 2) != 0,
     }
 }
 
@@ -241,7 +241,7 @@ fn visit_gate(
     ensures { Ran (call_steps program.now.image.words.now (scope_frame program.now.image.words.now call.site.scope [] qubits.now) call (take call.parameters angles))
         program.now.image.words.now run.old at result run.new }
 {
-    if call.body == 0 {
+    if !call.has_body {
         return statement::visit_opaque(program, qubits, call, angles, run.out, at);
     }
     let inside = with_trace_words(at, at.trace + 2);

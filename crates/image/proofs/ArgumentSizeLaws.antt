@@ -3,10 +3,12 @@ use Prim.Native.Nat.{ℕ, zero, suc, ◌+◌, ◌≤◌, max}
 use native.Mathlib.Omega.{arith}
 use native.Mathlib.Nat.{add-zero}
 use mathlib.Core.Path.{◌≡◌, refl, sym, ap, ◌∙◌}
+use mathlib.Core.Bool.{cond}
 use mathlib.Core.List.{List, map}
+use lib.Dec.{eqb}
 use borrow.Author.Tests.{eq-eqb, ne_eqb}
 use Rattle.model.specs.Lists.{range, largest}
-use Rattle.model.specs.Image.{word, quantum_registers, quantum_register_at, classical_register_at, argument_at, argument_size, classical_argument_size}
+use Rattle.model.specs.Image.{word, quantum_registers, quantum_register_at, classical_register_at, argument_at, argument_register, argument_index, argument_size, classical_argument_size}
 use Rattle.model.proofs.Ranges.{largest_next}
 
 -- ---- the size of one argument
@@ -16,22 +18,19 @@ module _ (image : List ℕ) where
   size_one zero a z = absurd (z refl)
   size_one (suc g) a z = refl
 
-  module _ (a p i : ℕ) (at-is : p ≡ argument_at image a) (index_is : i ≡ word image (p + 1)) where
-    pub size_index : (scope : ℕ) → scope ≡ 0 → ¬ (i ≡ 0) → 1 ≡ argument_size image scope a
-    unfolding argument_size
-    size_index scope z h = rw (z, ← at-is, ← index_is, ne_eqb i 0 h) refl
+  pub size_one_index : (a p i : ℕ) → p ≡ argument_at image a → i ≡ word image (p + 1) → ¬ (i ≡ 0) → (registers : ℕ) → 1 ≡ cond (eqb (argument_index image a) 0) (word image (registers + argument_register image a)) 1
+  size_one_index a p i at-is index_is h registers = rw (← at-is, ← index_is, ne_eqb i 0 h) refl
 
-    pub size_whole : (scope f r w : ℕ) → scope ≡ 0 → i ≡ 0 → f ≡ quantum_register_at image 0 → r ≡ word image p → w ≡ word image (f + r) → w ≡ argument_size image scope a
-    unfolding argument_size
-    size_whole scope f r w z h ef er ew = rw (z, ← at-is, ← index_is, ← er, ← ef, ← ew, eq-eqb i 0 h) refl
+  pub size_of_register : (a p i r w registers : ℕ) → p ≡ argument_at image a → i ≡ word image (p + 1) → i ≡ 0 → r ≡ word image p → w ≡ word image (registers + r) → w ≡ cond (eqb (argument_index image a) 0) (word image (registers + argument_register image a)) 1
+  size_of_register a p i r w registers at-is index_is h er ew = rw (← at-is, ← index_is, ← er, eq-eqb i 0 h) ew
 
-    pub classical_size_index : ¬ (i ≡ 0) → 1 ≡ classical_argument_size image a
-    unfolding classical_argument_size
-    classical_size_index h = rw (← at-is, ← index_is, ne_eqb i 0 h) refl
+  pub quantum_in_main : (a f : ℕ) {w : ℕ} → f ≡ quantum_register_at image 0 → w ≡ cond (eqb (argument_index image a) 0) (word image (f + argument_register image a)) 1 → w ≡ argument_size image 0 a
+  unfolding argument_size
+  quantum_in_main a f e w-is = rw e at w-is
 
-    pub classical_size_whole : (f r w : ℕ) → i ≡ 0 → f ≡ classical_register_at image 0 → r ≡ word image p → w ≡ word image (f + r) → w ≡ classical_argument_size image a
-    unfolding classical_argument_size
-    classical_size_whole f r w h ef er ew = rw (← at-is, ← index_is, ← er, ← add-zero (quantum_register_at image (quantum_registers image)), ← ef, ← ew, eq-eqb i 0 h) refl
+  pub classical_in_main : (a f : ℕ) {w : ℕ} → f ≡ classical_register_at image 0 → w ≡ cond (eqb (argument_index image a) 0) (word image (f + argument_register image a)) 1 → w ≡ classical_argument_size image a
+  unfolding classical_argument_size
+  classical_in_main a f e w-is = rw (e, add-zero (quantum_register_at image (quantum_registers image))) at w-is
 
 -- ---- the largest of some numbers
 module _ (f : ℕ → ℕ) where

@@ -1,9 +1,9 @@
 // The program image: the widths and limits of its format, its counts, where its entries stand, sizes, the statements of a scope, and what the check answers.
 #![tactic(auto)]
 
-ghost use Rattle.std.specs.Prelude.{◌≡◌, map, length, ◌+◌, ◌*◌, ◌≤◌, min};
+ghost use Rattle.std.specs.Prelude.{◌≡◌, map, length, ◌+◌, ◌*◌, ◌≤◌, min, cond, eqb};
 ghost use Rattle.model.specs.Lists.{range, sum};
-ghost use Rattle.model.specs.Image.{word, quantum_register_at, classical_register_at, gate_at, statement_at, argument_at, parameter_at, expression_at, argument_size, classical_argument_size, rounds};
+ghost use Rattle.model.specs.Image.{word, quantum_register_at, classical_register_at, gate_at, statement_at, argument_at, argument_register, argument_index, parameter_at, expression_at, argument_size, classical_argument_size, rounds};
 ghost use Rattle.model.specs.Limits.{most_elements, most_words};
 ghost use Rattle.image.specs.Answer.{refusal_flaw, number_in, place_in};
 ghost use Rattle.image.specs.Layout.{CappedCounts, FewEntries, contents_with, LayoutOf, Small, SmallPlace, PlaceIs, GatesAccepted};
@@ -255,6 +255,18 @@ impl Image<'_> {
 // ---- arguments and statements
 
 impl Image<'_> {
+    // The size of an argument in main: 1 for an index, else that of its register, of those whose sizes stand from a place on.
+    fn size_in_main(&self, a: u64, registers: u64) -> u64
+        requires { a ≤ most_words }
+        ensures { result ≡ cond (eqb (argument_index self.now.words.now a) 0) (word self.now.words.now (registers + argument_register self.now.words.now a)) 1 }
+    {
+        let at = self.argument_at(a);
+        if self.word(at + 1) != 0 {
+            return 1;
+        }
+        self.word_after(registers, self.word(at))
+    }
+
     // The size of an argument: 1 for an index, and for a formal argument in a body; else its register's.
     pub fn argument_size(&self, scope: u64, a: u64) -> u64
         requires { a ≤ most_words }
@@ -263,11 +275,7 @@ impl Image<'_> {
         if scope != 0 {
             return 1;
         }
-        let at = self.argument_at(a);
-        if self.word(at + 1) != 0 {
-            return 1;
-        }
-        self.word_after(self.quantum_register_at(0), self.word(at))
+        self.size_in_main(a, self.quantum_register_at(0))
     }
 
     // The size of a classical argument, which main alone has.
@@ -275,11 +283,7 @@ impl Image<'_> {
         requires { a ≤ most_words }
         ensures { result ≡ classical_argument_size self.now.words.now a }
     {
-        let at = self.argument_at(a);
-        if self.word(at + 1) != 0 {
-            return 1;
-        }
-        self.word_after(self.classical_register_at(0), self.word(at))
+        self.size_in_main(a, self.classical_register_at(0))
     }
 
     // The largest size of some arguments, 0 of none: the rounds of a statement.

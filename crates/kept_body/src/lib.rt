@@ -205,16 +205,6 @@ fn put_angles(slot: &mut [u64], angles: &[Value; image::FRAME_ANGLES], n: usize)
     }
 }
 
-// Puts the first n of sixteen qubits into a slot, from a place on.
-fn put_qubits(slot: &mut [u64], start: usize, qubits: &[u64; image::FRAME_QUBITS], n: usize)
-    requires { (start + n ≤ length slot.old) × QubitsGiven qubits.now n }
-    ensures { slot.new ≡ sets slot.old start (take n qubits.now) }
-{
-    for i in 0..n {
-        slot[start + i] = qubits[i];
-    }
-}
-
 // Fills a slot with the body of a call that was run between two positions.
 fn put_body(
     slot: &mut [u64],
@@ -237,7 +227,7 @@ fn put_body(
     let n = call.parameters as usize;
     put_angles(slot, angles, n);
     let behind_angles = ANGLES_AT + VALUE_WORDS * n;
-    put_qubits(slot, behind_angles, qubits, call.arguments as usize);
+    record_writer::put_words(slot, behind_angles, &qubits[..call.arguments as usize]);
 }
 
 // Whether a body that wrote so many words with these qubits may be copied for others: with a qubit twice it may do something else than with two

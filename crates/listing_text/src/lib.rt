@@ -24,7 +24,7 @@ const OUTPUT_WORDS: usize = 8192;
 // Room for the longest listing.
 pub const LISTING_BYTES: usize = 262144;
 
-// Puts the lines of all records of some words.
+// Puts the lines of all records of some words. The next record begins where one ends: no index is counted.
 fn put_records(text: &mut Text, words: &[u64])
     requires records { WordsOfRecords words.now }
     requires room { RoomFor (21 * length words.now) text.old }

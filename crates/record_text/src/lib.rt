@@ -27,7 +27,7 @@ struct Front {
     records: usize,
 }
 
-// Puts the lines of the records at the front of some words, up to where no whole one stands.
+// Puts the lines of the records at the front of some words, up to where no whole one stands. The next record begins where one ends: no index is counted.
 fn put_front(text: &mut Text, words: &[u64]) -> Front
     requires { RoomFor (21 * length words.now) text.old }
     ensures { ReadFront words.now text.old result text.new }

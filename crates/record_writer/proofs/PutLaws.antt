@@ -7,5 +7,5 @@ use lib.ListN.{length, take, drop}
 use lib.Seq.{sets, sets-eq, drop-drop}
 use borrow.Rule.Slice.PartMut.{put_mid}
 
-pub part_put : (out ws : List ℕ) (start n : ℕ) → n ≡ length ws → start + n ≤ length out → put_mid start n out ws ≡ sets out start ws
-part_put out ws start n e h = ap (λ (l : List ℕ). take start out ++ (ws ++ l)) (drop-drop n start out ∙ ap (λ (k : ℕ). drop (start + k) out) e) ∙ sym (append_assoc (take start out) ws (drop (start + length ws) out)) ∙ sym (sets-eq ws out start (omega (arith, e)))
+pub part_put : {A : Type 0} (out ws : List A) (start n : ℕ) → n ≡ length ws → start + n ≤ length out → put_mid start n out ws ≡ sets out start ws
+part_put {A} out ws start n e h = ap (λ (l : List A). take start out ++ (ws ++ l)) (drop-drop n start out ∙ ap (λ (k : ℕ). drop (start + k) out) e) ∙ sym (append_assoc (take start out) ws (drop (start + length ws) out)) ∙ sym (sets-eq ws out start (omega (arith, e)))

@@ -6,7 +6,7 @@ ghost use Rattle.tally.specs.Weights.{capped, capped_figures, figure, nine_of};
 // The first figure that is refused: what passes it is capped to it.
 pub(crate) const FIGURE_LIMIT: u64 = 0x1_0000_0000;
 
-// The records of kinds 1 to 7, the body entries and the word bound.
+// The records of kinds 1 to 7, the body entries and the word bound. The figures have names, and no array holds them by number: what a record adds is said by its name.
 #[derive(Clone, Copy)]
 pub struct Figures {
     pub u: u64,

@@ -37,7 +37,7 @@ impl From<CheckRefusal> for TallyError {
 const ROWS: usize = MOST_GATES as usize;
 
 // The words of the head are these, and two for each qubit and each bit.
-const HEAD_WORDS: u64 = 3;
+const HEAD_WORDS: u64 = record_kind::HEAD_START_WORDS as u64;
 
 // ---- the bodies
 

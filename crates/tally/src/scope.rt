@@ -14,31 +14,31 @@ use image::{Image, Statement};
 // What a record of each kind adds, if its words are not counted by its qubits. An if has two records: its start of four words, and its end of one.
 const U_RECORD: Figures = Figures {
     u: 1,
-    words: 14,
+    words: record_kind::U_WORDS as u64,
     ..Figures::NONE
 };
 
 const CX_RECORD: Figures = Figures {
     cx: 1,
-    words: 3,
+    words: record_kind::CX_WORDS as u64,
     ..Figures::NONE
 };
 
 const MEASURE_RECORD: Figures = Figures {
     measure: 1,
-    words: 3,
+    words: record_kind::MEASURE_WORDS as u64,
     ..Figures::NONE
 };
 
 const RESET_RECORD: Figures = Figures {
     reset: 1,
-    words: 2,
+    words: record_kind::RESET_WORDS as u64,
     ..Figures::NONE
 };
 
 const CONDITIONAL_RECORDS: Figures = Figures {
     conditional: 1,
-    words: 5,
+    words: (record_kind::CONDITIONAL_START_WORDS + record_kind::CONDITIONAL_END_WORDS) as u64,
     ..Figures::NONE
 };
 
@@ -49,11 +49,11 @@ const ENTRY: Figures = Figures {
 };
 
 // The words of a barrier and of an opaque gate's call are these and one for each qubit, those of an opaque gate's call also four for each angle.
-const BARRIER_WORDS: u64 = 2;
+const BARRIER_WORDS: u64 = record_kind::BARRIER_START_WORDS as u64;
 
-const OPAQUE_WORDS: u64 = 4;
+const OPAQUE_WORDS: u64 = record_kind::OPAQUE_START_WORDS as u64;
 
-const ANGLE_WORDS: u64 = 4;
+const ANGLE_WORDS: u64 = record_kind::ANGLE_WORDS as u64;
 
 // What an opaque gate's record of some words adds.
 fn opaque_record(words: u64) -> Figures

@@ -43,7 +43,7 @@ fn records_agree<F: Fn(&[u8]) -> bool>(input: &[u8], is_expected: F) -> bool
     is_expected(&text[..n])
 }
 
-// Whether an operation answers this.
+// Whether an operation answers this. A line of vectors names an operation by its number, and here alone a number is an operation.
 fn agrees(operation: u64, input: &[u8], expected: &[u64]) -> bool {
     match operation {
         1 => line_agrees(answer_text::check_answer, input, expected),

@@ -19,7 +19,8 @@ pub fn first_line(input: &[u8]) -> Option<(&[u8], &[u8])>
     Some(input.split_at(end))
 }
 
-// The number of the digits from `at` on, and where they end: at least one digit, and a number below 2^64.
+// The number of the digits from `at` on, and where they end: at least one digit, and a number below 2^64. Where they end is found by reading them, so that
+// a `for` over all that is left would count the end beside itself.
 pub fn read_digits(text: &[u8], at: usize) -> Option<(u64, usize)> {
     let mut n = 0u64;
     let mut end = at;

@@ -10,7 +10,7 @@ use Rattle.expression.proofs.NamedExpressionLaws.{named}
 use Rattle.statement.proofs.LoopedLaws.{looped_start}
 use Rattle.gate.proofs.RanStepsLaws.{ran_answer, wrote_ran, ran_next, ran_stop, ran_done, ran_popped, ran_enter, ran_lengths, ran_steps, ran_from, ran_still, visited_start, visited_next, visited_stop, visited_done}
 use Rattle.gate.proofs.CallStatementLaws.{statement_is, states, calls, named_listed, gate_given, gate_refused}
-use Rattle.gate.proofs.OpenGateLaws.{opened_round_lem, opened_rounds, cut_rounds, opaque_rounds, open_steps}
+use Rattle.gate.proofs.OpenGateLaws.{not_true, not_false, opened_round_lem, opened_rounds, cut_rounds, opaque_rounds, open_steps}
 use Rattle.gate.proofs.BodiesKeptLaws.{called_gate, slot_given, copy_given, body_run, copied_ran, context_same, ran_same_output, bodies_ran, bodies_at, bodies_popped}
 use Rattle.gate.proofs.RunContextLaws.{holds_body, with_angles, context_kept, inside_output, context_on, context_opened, context_in_body, statement_in_body, step_in_body}
 use borrow.Author.Rules.{rules}
@@ -100,23 +100,23 @@ visit_call-returns-in_err-values t c = let pre = c.requires in
     let w = ran_answer (handed_on _ c.from_residual.ensures.1) (ran_steps (gate_refused program.image.laid program.accepted pre.2 pre.1 pre.0.run.context.in_scope c.args.angles.now ends.1.1) (wrote_ran _ (refuses _ _ ends.0 ends.1.2 pre.0.run.context.in_output))) in
     record { steps = w; constants = given.1; bodies = bodies_ran w pre.0.run.bodies; lent = search rules }
 
-pub visit_gate-returns-then-call-eq0 : goal.visit_gate-returns-then-call-eq0
-visit_gate-returns-then-call-eq0 t c = let pre = c.requires in
-    let w = ran_steps (opaque_rounds pre.3 c.args.qubits.now [] _ c.if-call-eq0.true) (wrote_ran _ c.visit_opaque.ensures) in
+pub visit_gate-returns-then-not-call : goal.visit_gate-returns-then-not-call
+visit_gate-returns-then-not-call t c = let pre = c.requires in
+    let w = ran_steps (opaque_rounds pre.3 c.args.qubits.now [] _ (not_true _ c.if-not-call.true)) (wrote_ran _ c.visit_opaque.ensures) in
     record { steps = w; constants = pre.0.context.constants; bodies = bodies_ran w pre.0.bodies; lent = search rules }
 
-pub visit_gate-returns-then-call-eq0-2 : goal.visit_gate-returns-then-call-eq0-2
-visit_gate-returns-then-call-eq0-2 t c = let pre = c.requires in
+pub visit_gate-returns-then-call-eq0 : goal.visit_gate-returns-then-call-eq0
+visit_gate-returns-then-call-eq0 t c = let pre = c.requires in
     let image = c.args.program.now.image.words.now in
     let w =
-    ran_steps (cut_rounds pre.3 c.args.qubits.now [] _ c.if-call-eq0.false c.if-call-eq0-2.true)
+    ran_steps (cut_rounds pre.3 c.args.qubits.now [] _ (not_false _ c.if-not-call.false) c.if-call-eq0.true)
     (ran_popped image c.args.call _ (wrote_ran _ c.visit_cut-answer.ensures) c.with_trace_words-inside.ensures c.pop_call.ensures) in
     record { steps = w; constants = pre.0.context.constants; bodies = bodies_ran w pre.0.bodies; lent = search rules }
 
 pub visit_gate-visit_rounds-answer-requires : goal.visit_gate-visit_rounds-answer-requires
 visit_gate-visit_rounds-answer-requires t c = let pre = c.requires in
     let inside = c.with_trace_words-inside.ensures in
-    (omega (arith, c.decreases), (context_kept pre.0 pre.0.context.constants (inside_output pre.0.context.in_output inside) (ap (λ (p : Position). p.words) inside), omega (arith, pre.1, pre.3.downward, ap (λ (p : Position). p.trace) inside), pre.2, record { is_call = pre.3; has_body = c.if-call-eq0.false; has_level = c.if-call-eq0-2.false }))
+    (omega (arith, c.decreases), (context_kept pre.0 pre.0.context.constants (inside_output pre.0.context.in_output inside) (ap (λ (p : Position). p.words) inside), omega (arith, pre.1, pre.3.downward, ap (λ (p : Position). p.trace) inside), pre.2, record { is_call = pre.3; has_body = not_false _ c.if-not-call.false; has_level = c.if-call-eq0.false }))
 
 pub visit_gate-pop_call-requires-2 : goal.visit_gate-pop_call-requires-2
 visit_gate-pop_call-requires-2 t c = let pre = c.requires in
@@ -127,7 +127,7 @@ pub visit_gate-returns : goal.visit_gate-returns
 visit_gate-returns t c = let pre = c.requires in
     let image = c.args.program.now.image.words.now in
     let v = c.visit_rounds-answer.ensures in
-    let w = ran_steps (opened_rounds pre.3 c.args.qubits.now [] _ c.if-call-eq0.false) (ran_popped image c.args.call _ v.steps c.with_trace_words-inside.ensures c.pop_call-2.ensures) in
+    let w = ran_steps (opened_rounds pre.3 c.args.qubits.now [] _ (not_false _ c.if-not-call.false)) (ran_popped image c.args.call _ v.steps c.with_trace_words-inside.ensures c.pop_call-2.ensures) in
     record { steps = w; constants = v.constants; bodies = bodies_popped c.args.call c.args.at c.visit_rounds-answer.result c.visit_rounds-answer.new.run.trace.now c.pop_call-2.result c.pop_call-2.new.trace c.pop_call-2.ensures v.bodies; lent = search rules }
 
 pub visit_rounds-loop-i-init : goal.visit_rounds-loop-i-init
