@@ -1,7 +1,7 @@
 // Answers an operation. Its name is the first argument, its input is standard input, and its answer goes to standard output.
 #![tactic(auto)]
 
-ghost use Rattle.std.specs.Prelude.{ℕ, ◌≤◌, length, vec_len, IfOk};
+ghost use Rattle.std.specs.Prelude.{ℕ, ◌≤◌, length};
 
 use answer_text::LINE_BYTES;
 use std::io;
@@ -9,16 +9,6 @@ use std::rt::Env;
 
 // The most bytes of a name.
 const NAME_BYTES: usize = 4096;
-
-// Reads standard input: so many bytes at most, and the rest of it, which is left out.
-fn read_input<R: Input + Alloc>(rt: &R, most: usize) -> io::Result<Vec<u8, R::A>>
-    ensures { IfOk result (λ input. vec_len input ≤ most) }
-{
-    let mut standard = rt.reader();
-    let input = standard_input::read_most(rt.alloc(), &mut standard, most)?;
-    standard_input::read_rest(&mut standard)?;
-    Ok(input)
-}
 
 // Reads an image, with a depth or without, and writes the line of an answer.
 fn answer_line<F: Fn(&[u8], &mut [u8; LINE_BYTES]) -> usize>(
@@ -28,16 +18,16 @@ fn answer_line<F: Fn(&[u8], &mut [u8; LINE_BYTES]) -> usize>(
     requires can { F.IsAlwaysCallable answer }
     requires inside { (input : _) (text : _) (end : ℕ) (text' : _) → F.post answer input text end text' → end ≤ length text'.now }
 {
-    let input = read_input(rt, text::INPUT_BYTES)?;
+    let input = standard_input::read_input(rt, text::INPUT_BYTES)?;
     let mut text = [0; LINE_BYTES];
     let end = answer(&input, &mut text);
     rt.write_all(&text[..end])
 }
 
-// Reads records, and writes the line of each, as the listing does, and a last line. This is no call of `answer_line`: the bound of a
-// closure may not name a const parameter yet, and the room is another.
+// Reads records, and writes the line of each, as the listing does, and a last line. This is no call of `answer_line`, whose closure takes
+// other room: no proof is made yet of a function where the bound of a closure names a const parameter, as the room's length would be.
 fn answer_records(rt: &(impl Input + Alloc + Print)) -> io::Result<()> {
-    let input = read_input(rt, record_text::INPUT_BYTES)?;
+    let input = standard_input::read_input(rt, record_text::INPUT_BYTES)?;
     let mut text = [0; record_text::LINES_BYTES];
     let end = record_text::read_back(&input, &mut text);
     rt.write_all(&text[..end])
@@ -48,7 +38,8 @@ fn refuse_operation(rt: &impl Print) -> io::Result<()> {
     rt.write_all(b"no such operation\n")
 }
 
-// The first argument, empty where it is missing or too long.
+// The first argument, empty where it is missing or too long. The `argument` of vectors tells these two apart, which nothing here asks for;
+// and standard_input, which both programs use, is no place for what reads arguments.
 fn first_argument<'a>(rt: &impl Env, room: &'a mut [u8]) -> &'a [u8] {
     match rt.arg(1, room) {
         Ok(n) => &room[..n],

@@ -1,11 +1,11 @@
 -- The answers of check and tally are the lines of what was read of the image, and of a malformed input 1 and zeros.
 use Prim.Native.Nat.{ℕ, ◌-◌, ◌/◌, ◌%◌, ◌≤◌, ◌<◌, min}
 use native.Mathlib.Omega.{arith}
-use mathlib.Core.Logic.{◌⊎◌, inl, inr}
 use mathlib.Core.Path.{◌≡◌, refl, ap, ◌∙◌}
 use mathlib.Core.List.{List, [], ◌∷◌}
-use borrow.Author.Tests.{eq-eqb, ne_eqb, lt-leb, le-leb}
+use borrow.Author.Tests.{eq-eqb, ne_eqb}
 use lib.ListN.{length, take, drop}
+use Rattle.std.specs.Prelude.{◌&&◌, eqb, leb, true, false}
 use Rattle.model.specs.Check.{bad, check}
 use Rattle.model.specs.Tally.{refused, if_accepted, tally}
 use Rattle.model.specs.Listing.{little_endian, words_of}
@@ -52,12 +52,10 @@ tally_put input {depth} r d a p =
     in
     put_same (ap numbers_line (a ∙ ap (λ (l : List ℕ). tally_words (tally l depth)) r ∙ ap tally_words (same ∙ ap (tally (tallied_image input)) d))) p
 
-pub tally_malformed : (bytes : List ℕ) → (¬ (length bytes % 8 ≡ 0)) ⊎ ((length bytes % 8 ≡ 0) × (length bytes < 8)) → numbers_line (tally_words (refused 1 0)) ≡ tally_answer bytes
+pub tally_malformed : (bytes : List ℕ) → (eqb (length bytes % 8) 0 && leb 8 (length bytes)) ≡ false → numbers_line (tally_words (refused 1 0)) ≡ tally_answer bytes
 unfolding tally_answer
-tally_malformed bytes (inl h) = rw (ne_eqb (length bytes % 8) 0 h) refl
-tally_malformed bytes (inr h) = rw (eq-eqb (length bytes % 8) 0 h.0, lt-leb 8 (length bytes) h.1) refl
+tally_malformed bytes h = rw h refl
 
-pub tally_whole : (bytes : List ℕ) → length bytes % 8 ≡ 0 → 8 ≤ length bytes → tally_line bytes ≡ tally_answer bytes
+pub tally_whole : (bytes : List ℕ) → (eqb (length bytes % 8) 0 && leb 8 (length bytes)) ≡ true → 8 ≤ length bytes → tally_line bytes ≡ tally_answer bytes
 unfolding tally_answer
-tally_whole bytes h k =
-    rw (eq-eqb (length bytes % 8) 0 h, le-leb 8 (length bytes) k) (parted (λ (l : List ℕ) (n : ℕ). numbers_line (tally_words (tally l n))) bytes (omega arith))
+tally_whole bytes h k = rw h (parted (λ (l : List ℕ) (n : ℕ). numbers_line (tally_words (tally l n))) bytes (omega arith))

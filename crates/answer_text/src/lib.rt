@@ -19,9 +19,7 @@ fn put_check(text: &mut Text, input: &[u8])
     ensures { Put (check_line input.now) text.old text.new }
 {
     let mut room = [0; text::WORDS_LOOKED_AT];
-    let n = (input.len() / text::WORD_BYTES).min(text::WORDS_LOOKED_AT);
-    let image = &mut room[..n];
-    text::read_words(image, input);
+    let image = text::words_in(&mut room, input);
     let mut answer = [0; 2];
     unit_words::cowhirame_check(image, &mut answer);
     text.put_number_line(&answer);
@@ -39,7 +37,9 @@ fn put_check_answer(text: &mut Text, input: &[u8])
     }
 }
 
-// Puts the answer of the check to some input in front of a text, and answers its length.
+// Puts the answer of the check to some input in front of a text, and answers its length. tally_answer, listing_text and read_back are made
+// alike. One function over a closure was tried: its contract has to say what room the closure finds, and that the closure leaves the text
+// where it stands, which is longer than these lines; and each call of it has as much to prove as each of the four has now.
 pub fn check_answer(input: &[u8], bytes: &mut [u8; LINE_BYTES]) -> usize
     ensures { InFront (check_answer input.now) bytes.old result bytes.new }
 {
@@ -57,9 +57,7 @@ fn put_tally(text: &mut Text, input: &[u8])
     ensures { Put (tally_line input.now) text.old text.new }
 {
     let mut room = [0; text::WORDS_LOOKED_AT];
-    let n = (input.len() / text::WORD_BYTES - 1).min(text::WORDS_LOOKED_AT);
-    let image = &mut room[..n];
-    text::read_words(image, &input[text::WORD_BYTES..]);
+    let image = text::words_in(&mut room, &input[text::WORD_BYTES..]);
     let depth = text::first_word(input);
     let mut answer = [0; 11];
     unit_words::cowhirame_tally(image, depth, &mut answer);
@@ -71,10 +69,10 @@ fn put_tally_answer(text: &mut Text, input: &[u8])
     requires { RoomFor 256 text.old }
     ensures { Put (tally_answer input.now) text.old text.new }
 {
-    if input.len() % text::WORD_BYTES != 0 || input.len() < text::WORD_BYTES {
-        text.put_number_line(&[RefusalNumber::Contents as u64, 0, 0, 0, 0, 0, 0, 0, 0, 0, 0]);
-    } else {
+    if text::is_depth_and_words(input) {
         put_tally(text, input);
+    } else {
+        text.put_number_line(&[RefusalNumber::Contents as u64, 0, 0, 0, 0, 0, 0, 0, 0, 0, 0]);
     }
 }
 

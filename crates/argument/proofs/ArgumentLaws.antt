@@ -200,6 +200,12 @@ module _ {image : List ℕ} (acc : Accepted image) where
   unfolding bit_in
   bit_range c i k e h = omega (arith, bit_below image acc c i k h, acc.few_bits, ap (λ (y : Argument). number_in_round y i) e)
 
+  -- the rounds of a classical argument are few
+  pub few_bit_rounds : (c : ℕ) {y : Argument} → T (classical_argument_ok image c) → y ≡ classical_argument image c → y.size ≤ 4096
+  unfolding bit_in
+  few_bit_rounds c {y} k e =
+      rw e (last_below (classical_argument image c).first (classical_argument_size image c) (λ h. omega (arith, bit_below image acc c (classical_argument_size image c - 1) k h, acc.few_bits)))
+
   -- the words of an argument entry name a part of a register
   module _ {l : Layout} (laid : LayoutOf image l) (a : ℕ) {at : ℕ} (ea : at ≡ argument_at image a) (near : a < arguments image) (k : T (classical_argument_ok image a)) where
     low_bits : at ≤ 16384

@@ -15,7 +15,9 @@ use Rattle.model.specs.Steps.{qubit_in}
 use Rattle.model.proofs.ListLaws.{get_d_take, entry_of_map, range_snoc}
 use Rattle.model.proofs.All.{all-All, of-All, range-All}
 use Rattle.model.proofs.StepsSound.{matched}
-use Rattle.argument.specs.Frames.{scope_frame, CallArguments, RoundQubits}
+use Rattle.model.specs.Accepted.{Accepted}
+use Rattle.argument.specs.Frames.{scope_frame, ScopeContext, CallArguments, RoundQubits}
+use Rattle.argument.proofs.ArgumentLaws.{few_rounds}
 
 map_snoc : (f : ℕ → ℕ) (a n : ℕ) → map f (range a (n + 1)) ≡ map f (range a n) ++ f (a + n) ∷ []
 map_snoc f a n = ap (map f) (range_snoc a n) ∙ map-append f (range a n) ((a + n) ∷ [])
@@ -55,3 +57,8 @@ largest_few : (f : ℕ → ℕ) (a n : ℕ) → ((j : ℕ) → a ≤ j → j < a
 unfolding largest range
 largest_few f a zero h = omega arith
 largest_few f a (suc n) h = omega (arith, h a (omega arith) (omega arith), largest_few f (suc a) n (λ j p q. h j (omega arith) (omega arith)))
+
+pub call_rounds_few : {image : List ℕ} {scope : ℕ} {qubits : List ℕ} {a n : ℕ} → Accepted image → ScopeContext image scope qubits → CallArguments image scope a n → rounds image scope (range a n) ≤ 4096
+unfolding rounds
+call_rounds_few {image} {scope} {a = a} {n} acc s c =
+    largest_few (argument_size image scope) a n λ j p q. few_rounds acc s j (range-All {P = λ b. T (argument_ok image scope b)} a n j (all-All _ _ c.each) p q) refl

@@ -1,10 +1,11 @@
--- That an image is accepted has one proof at most, so that a struct may hold it beside the image.
-use Rattle.std.specs.Prelude.{ℕ, ◌≡◌, List, [], ◌∷◌}
+-- That an image is accepted has one proof at most, and so has that statements are run in a scope: a struct may hold either beside what it is said of.
+use Rattle.std.specs.Prelude.{ℕ, zero, suc, ◌≡◌, List, [], ◌∷◌}
 use Rattle.std.specs.List.{AllByRecursion, AllByRecursion-prop}
 use Rattle.std.proofs.Common.{refl, sym, ap, ◌∙◌}
 use Rattle.std.proofs.Props.{props}
 use Rattle.model.specs.All.{All, nil, cons}
-use Rattle.model.specs.Accepted.{Accepted}
+use Rattle.model.specs.Accepted.{Accepted, FrameOk}
+use Rattle.argument.specs.Frames.{ScopeContext}
 
 module _ {A : Type 0} (P : A → Type 0) where
   parts : {xs : List A} → All P xs → AllByRecursion P xs
@@ -25,3 +26,11 @@ module _ {A : Type 0} (P : A → Type 0) where
 
 pub accepted_prop : (image : List ℕ) → IsProp (Accepted image)
 accepted_prop image = hlevel (props, all_prop)
+
+-- a frame is judged by whether its scope is main or a body, and in either case in one way at most
+frame_prop : (image : List ℕ) (scope : ℕ) (qubits : List ℕ) → IsProp (FrameOk image scope [] qubits)
+frame_prop image zero qubits = hlevel props
+frame_prop image (suc g) qubits = hlevel (props, all_prop)
+
+pub scope_context_prop : (image : List ℕ) (scope : ℕ) (qubits : List ℕ) → IsProp (ScopeContext image scope qubits)
+scope_context_prop image scope qubits = hlevel (props, frame_prop)

@@ -2,14 +2,14 @@
 #![tactic(auto)]
 
 ghost use Rattle.std.specs.Prelude.{◌≡◌, ◌^◌, ◌<◌};
-ghost use Rattle.model.specs.Lists.{range};
-ghost use Rattle.model.specs.Image.{rounds};
-ghost use Rattle.argument.specs.Frames.{ScopeContext, AcceptedArgument, AcceptedBits, number_in_round, RegisterEntry, register_argument, quantum_argument, classical_argument, CallArguments, RoundQubits};
+ghost use Rattle.argument.specs.Frames.{AcceptedBits, number_in_round, RegisterEntry, register_argument, classical_argument};
 
 mod program;
+mod run_scope;
 
 use image::Image;
 pub use program::Program;
+pub use run_scope::RunScope;
 
 // An argument's first qubit or bit, and its size.
 #[derive(Clone, Copy)]
@@ -53,26 +53,6 @@ fn register_part(image: &Image<'_>, starts: &[u64], sizes: u64, at: u64) -> Argu
 }
 
 impl Program<'_> {
-    // A quantum argument of a scope: a part of a register in main, a qubit of the frame in a body.
-    pub fn resolve_qreg(&self, scope: u64, qubits: &[u64; image::FRAME_QUBITS], a: u64) -> Argument
-        requires { ScopeContext self.now.image.words.now scope qubits.now × AcceptedArgument self.now.image.words.now scope a }
-        ensures { result ≡ quantum_argument self.now.image.words.now scope qubits.now a }
-    {
-        let image = &self.image;
-        let at = image.argument_at(a);
-        if scope == 0 {
-            return register_part(
-                image,
-                self.register_starts,
-                image.quantum_register_at(0),
-                at,
-            );
-        }
-        let i = image.word(at) as usize;
-        let first = qubits[i];
-        Argument { first, size: 1 }
-    }
-
     // A classical argument, which main alone has: a part of a register.
     pub fn resolve_creg(&self, c: u64) -> Argument
         requires { AcceptedBits self.now.image.words.now c }
@@ -87,26 +67,5 @@ impl Program<'_> {
             image.classical_register_at(0),
             at,
         )
-    }
-
-    // The qubits that n arguments have in a round, in front of sixteen.
-    pub fn qubits_in_round(
-        &self,
-        scope: u64,
-        qubits: &[u64; image::FRAME_QUBITS],
-        a: u64,
-        n: u64,
-        i: u64,
-    ) -> [u64; image::FRAME_QUBITS]
-        requires { ScopeContext self.now.image.words.now scope qubits.now
-            × CallArguments self.now.image.words.now scope a n
-            × (i < rounds self.now.image.words.now scope (range a n)) }
-        ensures { RoundQubits self.now.image.words.now scope qubits.now a n i result }
-    {
-        let mut found = [0; image::FRAME_QUBITS];
-        for j in 0..n {
-            found[j as usize] = self.resolve_qreg(scope, qubits, a + j).number_in_round(i);
-        }
-        found
     }
 }

@@ -8,6 +8,7 @@ use lib.Dec.{eqb}
 use borrow.Author.Tests.{eqb-true, eqb-false}
 use lib.ListN.{get_or, set, length-set, replicate, get_or-replicate}
 use lib.Seq.{get_or-set_same, get_or-set_other}
+use Rattle.rational.specs.declared.Rational64.{Rational64}
 use Rattle.value.specs.declared.Value.{Value}
 use Rattle.value.specs.Value.{Sound}
 use Rattle.model.specs.Evaluate.{zero_value}
@@ -24,3 +25,7 @@ put_sound found i x l s h = record { sixteen = length-set found i x ∙ s.sixtee
     go : (j : ℕ) → j < 16 → (b : Bool) → eqb j i ≡ b → Sound (get_or (set found i x) j zero_value)
     go j m true e = rw (eqb-true j i e, get_or-set_same found i x zero_value (omega (arith, s.sixteen))) h
     go j m false e = rw (get_or-set_other found i j x zero_value (eqb-false j i e)) (s.each j m)
+
+-- fractions with the same parts are the same
+pub same_fraction_lem : (s t : Bool) (m n c d : ℕ) → s ≡ t → m ≡ n → c ≡ d → ◌≡◌ {A = Rational64} (record { negative = s; numer = m; denom = c }) (record { negative = t; numer = n; denom = d })
+same_fraction_lem s t m n c d e f g = rw (e, f, g) refl

@@ -1,8 +1,12 @@
 -- What the check says of an accepted expression entry, and the entry's value by its operands' values.
+use types.Run.{OneOf}
+use denote.Enum.Declared.{tag_of}
+use Rattle.value.specs.contracts.Evaluation.{the_type}
+use mathlib.Core.Logic.{⊎_elim}
 use Prim.Native.Nat.{ℕ, ◌≤◌, ◌<◌, ◌^◌}
 use native.Mathlib.Omega.{arith}
 use mathlib.Core.Path.{◌≡◌, refl, sym, ap, ◌∙◌, subst}
-use mathlib.Core.List.{List, []}
+use mathlib.Core.List.{List, [], ◌∷◌}
 use lib.Dec.{T, ltb→lt}
 use lib.ListN.{get_or}
 use Rattle.std.proofs.lemmas.List.{get_or_default}
@@ -20,6 +24,13 @@ use Rattle.model.proofs.EvaluateLaws.{operand, node}
 use Rattle.record_writer.specs.Promise.{SoundAngles}
 use Rattle.expression.specs.Operands.{AcceptedExpression, NoValue}
 use Rattle.expression.specs.KeptValues.{operands_within}
+
+-- an evaluation that is no value: its tag is another than a value's
+abbrev pub Refused : Evaluation → Type 0
+Refused r = OneOf (1 ∷ 2 ∷ 3 ∷ 4 ∷ []) (tag_of the_type r)
+
+pub no_value : (r : Evaluation) → Refused r → NoValue r
+no_value r k x e = absurd (⊎_elim (λ e. omega arith) (λ h. ⊎_elim (λ e. omega arith) (λ i. ⊎_elim (λ e. omega arith) (λ e. omega arith) i) h) (subst Refused e k))
 
 -- ---- accepted entries
 

@@ -66,7 +66,7 @@ pub enum KeptValue {
 }
 
 // The value that is known of an entry: a constant's, or one that is marked as found in this evaluation. The marks stand beside the values, since only
-// they are cleared for each evaluation: clearing the values too would take as long as many an evaluation.
+// they are cleared for each evaluation: 128 marks are 128 bytes and 128 values are 7 KiB, which would take as long to clear as many an evaluation takes.
 fn known_value(known: &[bool], kept_values: &[KeptValue], e: u64) -> Option<Value>
     requires { (e < length known.now) × (e < length kept_values.now) }
     ensures { result ≡ known_value (get_or known.now e false) (get_or kept_values.now e KeptValue.Nothing) }
@@ -121,6 +121,9 @@ fn keep_evaluation(
 }
 
 // ---- expressions
+// The image, the angles and the table of what is kept go side by side: the table is written, and each function that took a struct of the three would have to promise
+// that it lends the same table.
+// `AcceptedExpression` speaks of a number by which an entry, a statement or a call names an expression: a struct of the number with that fact would be made at each such name.
 
 // The angle of an expression, read back if it is known, or why it has none. An operand has a smaller number than its user. A refusal ends the whole evaluation, so that only values are kept.
 fn evaluate(
@@ -186,6 +189,7 @@ fn evaluate_entries<const N: usize>(
 }
 
 // The angle of an expression where no value is known but those of constants. A constant, and a parameter alone, are read straight away.
+// The choice between the two numbers of marks is no function of its own: it would take what is done with the marks as a closure, and no closure has a const parameter.
 fn evaluate_anew(
     image: &Image<'_>,
     angles: &[Value; image::FRAME_ANGLES],
@@ -213,17 +217,14 @@ fn evaluate_anew(
 pub fn zero() -> Value
     ensures { (result ≡ zero_value) × Sound result }
 {
+    let fraction = Rational64 {
+        negative: false,
+        numer: 0,
+        denom: 1,
+    };
     Value {
-        a: Rational64 {
-            negative: false,
-            numer: 0,
-            denom: 1,
-        },
-        b: Rational64 {
-            negative: false,
-            numer: 0,
-            denom: 1,
-        },
+        a: fraction,
+        b: fraction,
     }
 }
 

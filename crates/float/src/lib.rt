@@ -55,7 +55,7 @@ fn capped_power_of_two(e: u64) -> u64
 }
 
 // ±q * 2^k / 2^149 as a fraction, if it is in range. The loop finds how often q can be halved; `trailing_zeros` does too, but not
-// at zero, which would take a case of its own.
+// at zero, which would take a case of its own. The loop is no `for`: it halves a number and counts how often, up to a bound, so that where it ends is what it finds.
 fn dyadic_rational(negative: bool, q: u64, k: u64) -> Option<Rational64>
     requires { (q < significand_limit) × (k < 254) }
     ensures { result ≡ checked (reduced negative (q * 2 ^ k) (2 ^ 149)) }

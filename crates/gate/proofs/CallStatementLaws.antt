@@ -47,10 +47,7 @@ named_is image p n = parameters_from image p 0 n ∙ ap (λ (m : ℕ). map (para
 pub statement_is : {x : Option code.Statement} {entry : code.Statement} {stated : Statement} → statement_read x ≡ stated → x ≡ Some entry → as_statement entry ≡ stated
 statement_is r u = rw u at r
 
-module _ {image : List ℕ} {l : Layout} (laid : LayoutOf image l) (acc : Accepted image) (site : Site) (f : PlainStatement image site) where
-  abbrev scope : ℕ
-  scope = site.scope
-
+module _ {image : List ℕ} {l : Layout} (laid : LayoutOf image l) (acc : Accepted image) {scope : ℕ} (site : Site) (f : PlainStatement image scope site) where
   below : (g : ℕ) → g < gates image → (scope : ℕ) → T (downward scope g) → g < nested scope
   unfolding downward
   below g h zero d = omega (arith, acc.few_gates)
@@ -60,7 +57,7 @@ module _ {image : List ℕ} {l : Layout} (laid : LayoutOf image l) (acc : Accept
     abbrev call_facts : PlainFacts image scope (Gate g p a)
     call_facts = subst (PlainFacts image scope) stated f.facts
 
-    pub calls : CallStatement image (call_of image site g p a)
+    pub calls : CallStatement image scope (call_of image site g p a)
     calls =
         record {
           parameters_are = refl;
@@ -73,45 +70,42 @@ module _ {image : List ℕ} {l : Layout} (laid : LayoutOf image l) (acc : Accept
           arguments_fit = record { few = few_arguments acc g call_facts.0; listed = call_facts.2; each = call_facts.5; match = call_facts.6 };
         }
 
-    pub states : StatedCall image (call_of image site g p a)
+    pub states : StatedCall image scope (call_of image site g p a)
     states = record { accepted = f; parameter = p; stated = stated; expressions_at = refl }
 
-module _ {image : List ℕ} {l : Layout} (laid : LayoutOf image l) (acc : Accepted image) {call : Call} (c : CallStatement image call) (s : StatedCall image call) {qubits : List ℕ} (st : ScopeContext image call.site.scope qubits) where
-  abbrev call_scope : ℕ
-  call_scope = call.site.scope
-
+module _ {image : List ℕ} {l : Layout} (laid : LayoutOf image l) (acc : Accepted image) {scope : ℕ} {call : Call} (c : CallStatement image scope call) (s : StatedCall image scope call) {qubits : List ℕ} (st : ScopeContext image scope qubits) where
   -- the words that name its parameters
   named : named_at image call.expressions call.parameters ≡ map (parameter image) (range s.parameter (gate_parameters image call.gate))
   named = rw (s.expressions_at, c.parameters_are) (named_is image s.parameter (gate_parameters image call.gate))
 
-  pub named_listed : ListedExpressions image (variables image call_scope) call.expressions call.parameters
-  named_listed = let k = subst (PlainFacts image call_scope) s.stated s.accepted.facts in
+  pub named_listed : ListedExpressions image (variables image scope) call.expressions call.parameters
+  named_listed = let k = subst (PlainFacts image scope) s.stated s.accepted.facts in
       record {
-        few = (c.few_parameters, few_variables image acc call_scope _ st.frame);
+        few = (c.few_parameters, few_variables image acc scope _ st.frame);
         near = omega (arith, s.expressions_at, c.parameters_are, k.1, laid.whole, laid.short);
-        each = subst (λ (es : List ℕ). T (all (expression_ok image (variables image call_scope) 32) es)) (sym named) (All-all _ (All-of (parameter image) (all-All _ _ k.4)));
+        each = subst (λ (es : List ℕ). T (all (expression_ok image (variables image scope) 32) es)) (sym named) (All-all _ (All-of (parameter image) (all-All _ _ k.4)));
       }
 
   -- ---- its steps
 
   module _ (angles : List Value) where
     abbrev frame : Frame
-    frame = scope_frame image call_scope angles qubits
+    frame = scope_frame image scope angles qubits
 
     gate_steps : plain_steps image call.site.levels_left frame call.site.statement ≡ with_values image frame (named_at image call.expressions call.parameters) (call_steps image frame call)
     unfolding visit_plain
     gate_steps = rw (s.stated, named, c.arguments_are) refl
 
     -- the caller's angles do not show in the rounds
-    same_call : (xs : List Value) → call_steps image (scope_frame image call.site.scope [] qubits) call xs ≡ call_steps image frame call xs
+    same_call : (xs : List Value) → call_steps image (scope_frame image scope [] qubits) call xs ≡ call_steps image frame call xs
     unfolding visit_gate write_opaque push_frame qubit_in
     same_call xs = refl
 
     pub gate_given : {xs : List Value} → parameter_values image angles (named_at image call.expressions call.parameters) ≡ have xs
-        → call_steps image (scope_frame image call.site.scope [] qubits) call xs ≡ plain_steps image call.site.levels_left frame call.site.statement
+        → call_steps image (scope_frame image scope [] qubits) call xs ≡ plain_steps image call.site.levels_left frame call.site.statement
     unfolding with_values given
-    gate_given {xs} h = same_call xs ∙ sym (gate_steps ∙ rw (listed_values image (variables image call_scope) angles named_listed ∙ h) refl)
+    gate_given {xs} h = same_call xs ∙ sym (gate_steps ∙ rw (listed_values image (variables image scope) angles named_listed ∙ h) refl)
 
     pub gate_refused : {x : Refusal} → parameter_values image angles (named_at image call.expressions call.parameters) ≡ lack x → refuse [] x ∷ [] ≡ plain_steps image call.site.levels_left frame call.site.statement
     unfolding with_values given
-    gate_refused h = sym (gate_steps ∙ rw (listed_values image (variables image call_scope) angles named_listed ∙ h) refl)
+    gate_refused h = sym (gate_steps ∙ rw (listed_values image (variables image scope) angles named_listed ∙ h) refl)

@@ -45,13 +45,13 @@ rounds_under : (u : List ℕ) (h : ℕ → List Step) (n : ℕ) → map (under u
 unfolding in_rounds
 rounds_under u h n = range_under u h (range 0 n)
 
-module _ {image : List ℕ} {call : Call} (c : CallStatement image call) where
+module _ {image : List ℕ} {scope : ℕ} {call : Call} (c : CallStatement image scope call) where
   -- the frame that it opens a body with
-  module _ {qubits : List ℕ} {i : ℕ} {q : List ℕ} (k : RoundQubits image call.site.scope qubits call.argument call.arguments i q) where
-    new_qubits : take (gate_arguments image call.gate) q ≡ map (qubit_in image (scope_frame image call.site.scope [] qubits) i) (range call.argument call.arguments)
+  module _ {qubits : List ℕ} {i : ℕ} {q : List ℕ} (k : RoundQubits image scope qubits call.argument call.arguments i q) where
+    new_qubits : take (gate_arguments image call.gate) q ≡ map (qubit_in image (scope_frame image scope [] qubits) i) (range call.argument call.arguments)
     new_qubits = ap (λ (n : ℕ). take n q) (sym c.arguments_are) ∙ k.front
 
-    pub opened_in_scope : (acc : Accepted image) → ScopeContext image call.site.scope qubits → i < call_rounds image call → ScopeContext image (suc call.gate) q
+    pub opened_in_scope : (acc : Accepted image) → ScopeContext image scope qubits → i < call_rounds image scope call → ScopeContext image (suc call.gate) q
     unfolding scope_qubits
     opened_in_scope acc st h =
         record {
@@ -61,40 +61,40 @@ module _ {image : List ℕ} {call : Call} (c : CallStatement image call) where
             omega arith,
             length-take (gate_arguments image call.gate) q ∙ omega (arith, c.arguments_are, c.arguments_fit.few, k.sixteen),
             subst (Declared image) (sym new_qubits)
-                (all_below image acc (scope_frame image call.site.scope [] qubits) st.frame i (range call.argument call.arguments) (all-All _ _ c.arguments_fit.each) c.arguments_fit.match h),
+                (all_below image acc (scope_frame image scope [] qubits) st.frame i (range call.argument call.arguments) (all-All _ _ c.arguments_fit.each) c.arguments_fit.match h),
           );
         }
 
-    pub opened_round_lem : (angles : List Value) → opened_steps image call angles q ≡ opened_round image qubits call (take call.parameters angles) i
+    pub opened_round_lem : (angles : List Value) → opened_steps image call angles q ≡ opened_round image scope qubits call (take call.parameters angles) i
     unfolding opened_round scope_qubits variables
     opened_round_lem angles = rw (new_qubits, c.parameters_are) refl
 
   -- the steps of the rounds inside the call, under the call's pair of words
   module _ (qubits : List ℕ) (angles xs : List Value) where
     abbrev pair : List ℕ
-    pair = call.site.scope ∷ statement_at image call.site.statement ∷ []
+    pair = scope ∷ statement_at image call.site.statement ∷ []
 
     abbrev caller : Frame
-    caller = scope_frame image call.site.scope angles qubits
+    caller = scope_frame image scope angles qubits
 
-    pub opened_rounds : call.has_body ≡ true → map (under pair) (in_rounds (call_rounds image call) (opened_round image qubits call xs)) ≡ call_steps image caller call xs
+    pub opened_rounds : call.has_body ≡ true → map (under pair) (in_rounds (call_rounds image scope call) (opened_round image scope qubits call xs)) ≡ call_steps image caller call xs
     unfolding visit_gate push_frame opened_round qubit_in
     opened_rounds h =
-        rounds_under pair (opened_round image qubits call xs) (call_rounds image call)
-        ∙ ap (in_rounds (call_rounds image call)) (fun_ext λ i.
-        sym (opening_under pair image call.site.levels_left (record { scope = suc call.gate; trace = []; values = xs; qubits = map (qubit_in image (scope_frame image call.site.scope [] qubits) i) (range call.argument call.arguments) }) call.gate)
+        rounds_under pair (opened_round image scope qubits call xs) (call_rounds image scope call)
+        ∙ ap (in_rounds (call_rounds image scope call)) (fun_ext λ i.
+        sym (opening_under pair image call.site.levels_left (record { scope = suc call.gate; trace = []; values = xs; qubits = map (qubit_in image (scope_frame image scope [] qubits) i) (range call.argument call.arguments) }) call.gate)
         ∙ rw (not_true _ (sym c.body_is ∙ h)) refl)
 
     -- no level is left: the gate itself in each round
-    pub cut_rounds : call.has_body ≡ true → call.site.levels_left ≡ 0 → map (under pair) (cut_steps image qubits call) ≡ call_steps image caller call xs
+    pub cut_rounds : call.has_body ≡ true → call.site.levels_left ≡ 0 → map (under pair) (cut_steps image scope qubits call) ≡ call_steps image caller call xs
     unfolding cut_round opened_round open_gate opening
     cut_rounds h e =
-        ap (λ (round : ℕ → List Step). map (under pair) (in_rounds (call_rounds image call) round)) (fun_ext λ i. rw e refl) ∙ opened_rounds h
+        ap (λ (round : ℕ → List Step). map (under pair) (in_rounds (call_rounds image scope call) round)) (fun_ext λ i. rw e refl) ∙ opened_rounds h
 
     -- an opaque gate's rounds
-    pub opaque_rounds : call.has_body ≡ false → opaque_steps image qubits call xs ≡ call_steps image caller call xs
+    pub opaque_rounds : call.has_body ≡ false → opaque_steps image scope qubits call xs ≡ call_steps image caller call xs
     unfolding visit_gate write_opaque qubit_in
-    opaque_rounds h = ap (in_rounds (call_rounds image call)) (fun_ext λ i. rw (not_false _ (sym c.body_is ∙ h)) refl)
+    opaque_rounds h = ap (in_rounds (call_rounds image scope call)) (fun_ext λ i. rw (not_false _ (sym c.body_is ∙ h)) refl)
 
 -- ---- statements in turn
 

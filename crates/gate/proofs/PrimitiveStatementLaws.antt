@@ -11,8 +11,8 @@ use Rattle.model.specs.Accepted.{Accepted, FrameOk, PlainFacts}
 use Rattle.record_writer.specs.declared.Position.{Position}
 use Rattle.record_writer.specs.Promise.{RunResult, WroteSteps}
 use Rattle.statement.specs.declared.Site.{Site}
-use Rattle.argument.specs.Frames.{scope_frame, ScopeContext}
-use Rattle.statement.specs.Statements.{UStatement, u_steps, cx_steps, barrier_steps, measure_steps, reset_steps}
+use Rattle.argument.specs.Frames.{scope_frame, ScopeContext, AcceptedArgument, AcceptedArguments}
+use Rattle.statement.specs.Statements.{CXArguments, MeasureArguments, UStatement, u_steps, cx_steps, barrier_steps, measure_steps, reset_steps}
 use Rattle.gate.specs.PlainStatement.{PlainStatement}
 use Rattle.gate.specs.RanSteps.{plain_steps}
 
@@ -22,10 +22,7 @@ unfolding variables
 few_variables image acc zero qubits f = omega arith
 few_variables image acc (suc g) qubits f = few_parameters acc g f.0
 
-module _ {image : List ℕ} (acc : Accepted image) (site : Site) {qubits : List ℕ} (st : ScopeContext image site.scope qubits) (f : PlainStatement image site) where
-  abbrev scope : ℕ
-  scope = site.scope
-
+module _ {image : List ℕ} (acc : Accepted image) {scope : ℕ} (site : Site) {qubits : List ℕ} (st : ScopeContext image scope qubits) (f : PlainStatement image scope site) where
   abbrev stands : Statement → Type 0
   stands x = statement image site.statement ≡ x
 
@@ -37,6 +34,20 @@ module _ {image : List ℕ} (acc : Accepted image) (site : Site) {qubits : List 
   pub u_needs : {theta phi lambda q : ℕ} → stands (U theta phi lambda q) → UStatement image scope theta phi lambda q
   u_needs e = let g = known e in
       record { few = few_variables image acc scope _ st.frame; expressions = g.4; argument = record { listed = g.3; ok = g.5 } }
+
+  pub cx_needs : {a b : ℕ} → stands (CX a b) → CXArguments image scope a b
+  cx_needs e = let g = known e in
+      record { control = record { listed = g.0; ok = g.2 }; target = record { listed = g.1; ok = g.3 }; match = g.4 }
+
+  pub barrier_needs : {a n : ℕ} → stands (Barrier a n) → AcceptedArguments image scope a n
+  barrier_needs e = let g = known e in record { listed = g.0; each = g.1 }
+
+  pub measure_needs : {q c : ℕ} → stands (Measure q c) → MeasureArguments image scope q c
+  measure_needs e = let g = known e in
+      record { qubits = record { listed = g.1; ok = g.3 }; bits = record { listed = g.2; ok = g.4 }; match = g.5 }
+
+  pub reset_needs : {q : ℕ} → stands (Reset q) → AcceptedArgument image scope q
+  reset_needs e = let g = known e in record { listed = g.1; ok = g.2 }
 
   -- what it does. The frame's angles show in a U alone.
 

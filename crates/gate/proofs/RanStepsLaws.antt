@@ -183,36 +183,37 @@ module _ (u : List ℕ) where
   deeper_trace kind.ShortTrace t h = absurd h
 
 -- a call that comes back, and one that is refused: its pair of words stands in front
-module _ {ss : List Step} {out out' trace trace' : List ℕ} {position opened-at : Position} {r : RunResult} {k : ℕ}
-    (w : RanSteps ss out opened-at trace r out' trace') (d : opened-at ≡ record { records = position.records; words = position.words; trace = k + 2 }) (level : k ≡ position.trace) where
-  pub ran_returned : (u : List ℕ) {p next : Position} → r ≡ Ok p → next ≡ record { records = p.records; words = p.words; trace = k } → WroteSteps (map (under u) ss) out position (Ok next) out' × (trace' ≡ trace)
+module _ {ss : List Step} {out out' trace trace' : List ℕ} (position : Position) {r : RunResult}
+    (w : RanSteps ss out (record { records = position.records; words = position.words; trace = position.trace + 2 }) trace r out' trace') where
+  pub ran_returned : (u : List ℕ) {p next : Position} → r ≡ Ok p → next ≡ record { records = p.records; words = p.words; trace = position.trace } → WroteSteps (map (under u) ss) out position (Ok next) out' × (trace' ≡ trace)
   unfolding under_answer
   ran_returned u e f =
       let v = ran_wrote w e in
-      (record { plays = rw f (plays_under u (rw d at v.0.plays)); level = ap (λ (x : Position). x.trace) f ∙ level }, v.1)
+      (record { plays = rw f (plays_under u v.0.plays); level = ap (λ (x : Position). x.trace) f }, v.1)
 
-  pub ran_refused : (a b : ℕ) {place : ℕ} {x : LinearizeError} {trace'' : List ℕ} → r ≡ Err x → place ≡ b → trace'' ≡ sets trace' k (a ∷ place ∷ []) → RanSteps (map (under (a ∷ b ∷ [])) ss) out position trace (Err x) out' trace''
+  pub ran_refused : (a b : ℕ) {place : ℕ} {x : LinearizeError} {trace'' : List ℕ} → r ≡ Err x → place ≡ b → trace'' ≡ sets trace' position.trace (a ∷ place ∷ []) → RanSteps (map (under (a ∷ b ∷ [])) ss) out position trace (Err x) out' trace''
   ran_refused a b {place} {x} {trace''} e g f =
+      let k = position.trace in
       let here : Position = record { records = position.records; words = position.words; trace = k + 2 } in
-      let v : RanSteps ss out here trace (Err x) out' trace' = rw (d, e) at w in
+      let v : RanSteps ss out here trace (Err x) out' trace' = rw e at w in
       let t = trace_of (refusal_answer x.kind v.calls) in
       let inner : Inner (refusal_answer x.kind v.calls) = subst Inner (sym v.plays.answers) (play_inner _ ss) in
       let longer = deeper_trace (a ∷ b ∷ []) x.kind v.calls inner in
       record {
         calls = a ∷ b ∷ v.calls;
         plays = rw (deeper_answer (a ∷ b ∷ []) x.kind v.calls) (plays_under (a ∷ b ∷ []) v.plays);
-        tracing = f ∙ ap (λ (p : ℕ). sets trace' k (a ∷ p ∷ [])) g ∙ ap (λ (l : List ℕ). sets l k (a ∷ b ∷ [])) v.tracing ∙ pair_before trace k a b t ∙ rw (longer, ← level) refl;
-        level = v.level ∙ rw (longer, ← level) (omega arith);
+        tracing = f ∙ ap (λ (p : ℕ). sets trace' k (a ∷ p ∷ [])) g ∙ ap (λ (l : List ℕ). sets l k (a ∷ b ∷ [])) v.tracing ∙ pair_before trace k a b t ∙ rw longer refl;
+        level = v.level ∙ rw longer (omega arith);
       }
 
 -- a call comes back, however it ended
-pub ran_popped : (image : List ℕ) (call : Call) {ss : List Step} {out out' trace trace' trace'' : List ℕ} {at inside : Position} (answer : RunResult) {r : RunResult}
-    → RanSteps ss out inside trace answer out' trace' → inside ≡ record { records = at.records; words = at.words; trace = at.trace + 2 } → Popped image call at answer trace' r trace''
-    → RanSteps (map (under (call.site.scope ∷ statement_at image call.site.statement ∷ [])) ss) out at trace r out' trace''
-ran_popped image call {trace = trace} {at = at} (Ok next) w d p =
-    let v = ran_returned w d refl (call.site.scope ∷ statement_at image call.site.statement ∷ []) refl refl in
+pub ran_popped : (image : List ℕ) (scope : ℕ) (call : Call) {ss : List Step} {out out' trace trace' trace'' : List ℕ} {at : Position} (answer : RunResult) {r : RunResult}
+    → RanSteps ss out (record { records = at.records; words = at.words; trace = at.trace + 2 }) trace answer out' trace' → Popped image scope call at answer trace' r trace''
+    → RanSteps (map (under (scope ∷ statement_at image call.site.statement ∷ [])) ss) out at trace r out' trace''
+ran_popped image scope call {trace = trace} {at = at} (Ok next) w p =
+    let v = ran_returned at w (scope ∷ statement_at image call.site.statement ∷ []) refl refl in
     rw p.0 (ran_still (p.1 ∙ v.1) (wrote_ran trace v.0))
-ran_popped image call (Err e) w d p = rw p.0 (ran_refused w d refl call.site.scope (statement_at image call.site.statement) refl refl p.1)
+ran_popped image scope call {at = at} (Err e) w p = rw p.0 (ran_refused at w scope (statement_at image call.site.statement) refl refl p.1)
 
 -- a body is entered
 pub ran_enter : (t : List ℕ) (g : ℕ) {ss : List Step} {out out' trace trace' : List ℕ} {at : Position} {r : RunResult} → RanSteps ss out at trace r out' trace' → RanSteps (enter t g ∷ ss) out at trace r out' trace'

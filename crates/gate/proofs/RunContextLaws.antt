@@ -2,7 +2,7 @@
 use Prim.Native.Nat.{ℕ, suc, ◌+◌, ◌-◌, ◌≤◌, ◌<◌}
 use native.Mathlib.Numerals.{add-one}
 use native.Mathlib.Omega.{arith}
-use mathlib.Core.Path.{◌≡◌, sym, subst}
+use mathlib.Core.Path.{◌≡◌, refl, sym, subst}
 use mathlib.Core.List.{List}
 use lib.ListN.{length}
 use Rattle.value.specs.declared.Value.{Value}
@@ -18,67 +18,54 @@ use Rattle.record_writer.specs.Promise.{RunResult, InOutput, WroteSteps, SoundAn
 use Rattle.record_writer.proofs.WroteStepsLaws.{wrote_open}
 use Rattle.expression.specs.declared.KeptValue.{KeptValue}
 use Rattle.expression.specs.KeptValues.{ConstantsKept, AngleContext}
-use Rattle.argument.specs.Frames.{scope_frame, RoundQubits}
-use Rattle.statement.specs.declared.Call.{Call}
-use Rattle.statement.specs.Statements.{call_rounds}
+use Rattle.argument.specs.Frames.{scope_frame, ScopeContext}
 use Rattle.statement.proofs.LoopedLaws.{Looped}
 use Rattle.kept_body.specs.KeptBodies.{BodiesKept}
 use Rattle.kept_body.proofs.KeptBodiesLaws.{bodies_later}
-use Rattle.gate.specs.RunContext.{most_trace_words, StatementContext, RunContext, TraceRoom}
+use Rattle.gate.specs.RunContext.{nested, most_trace_words, StatementContext, RunContext, TraceRoom}
 use Rattle.gate.specs.PlainStatement.{PlainStatement}
 use Rattle.gate.specs.RanSteps.{RanSteps, plain_steps}
-use Rattle.gate.specs.CallStatement.{CallStatement}
 use Rattle.gate.proofs.RanStepsLaws.{ran_wrote}
-use Rattle.gate.proofs.OpenGateLaws.{opened_in_scope, body_facts, statement_steps_lem, body_statement}
+use Rattle.gate.proofs.OpenGateLaws.{body_facts, statement_steps_lem, body_statement}
 
 pub holds_body : (image : List ℕ) (g : ℕ) {r : Range ℕ} → StatementsOf image (g + 1) r → scope_statements image (suc g) ≡ range r.start (r.end - r.start)
 holds_body image g h = rw (add-one g) at h.statements_are
 
--- a position inside a call
-pub inside_output : {out : List ℕ} {at inside : Position} {k : ℕ} → InOutput out at → inside ≡ record { records = at.records; words = at.words; trace = k } → InOutput out inside
-inside_output o d = rw d (record { inside = o.inside; fewer = o.fewer })
+-- the calls that may nest in a body
+pub nested_in_body : (g : ℕ) → nested (g + 1) ≡ g
+nested_in_body g = rw (add-one g) refl
 
 module _ {image : List ℕ} where
   -- the frame's angles, beside the rest of a statement's context
-  pub with_angles : {kept-values : List KeptValue} {qubits out : List ℕ} {scope : ℕ} {at : Position} {angles : List Value} → StatementContext image kept-values scope qubits out at → SoundAngles angles → AngleContext image angles kept-values
+  pub with_angles : {kept-values : List KeptValue} {out : List ℕ} {at : Position} {angles : List Value} → StatementContext image kept-values out at → SoundAngles angles → AngleContext image angles kept-values
   with_angles c a = record { sound = a; constants = c.constants }
 
   -- other values are kept, and another position has as many words
-  pub context_kept : {scope : ℕ} {kept-values kept-values' : List KeptValue} {kept-bodies qubits out trace : List ℕ} {at p : Position} → RunContext image kept-values kept-bodies scope qubits out trace at → ConstantsKept image kept-values' → InOutput out p → p.words ≡ at.words
-      → RunContext image kept-values' kept-bodies scope qubits out trace p
+  pub context_kept : {kept-values kept-values' : List KeptValue} {kept-bodies out trace : List ℕ} {at p : Position} → RunContext image kept-values kept-bodies out trace at → ConstantsKept image kept-values' → InOutput out p → p.words ≡ at.words
+      → RunContext image kept-values' kept-bodies out trace p
   context_kept r f o e =
       record {
-        context = record { in_scope = r.context.in_scope; constants = f; in_output = o };
+        context = record { constants = f; in_output = o };
         bodies = rw e r.bodies;
         trace_length = r.trace_length;
       }
 
   -- where a loop over statements or rounds has come to
-  pub context_on : {scope : ℕ} {kept-values kept-values' : List KeptValue} {kept-bodies kept-bodies' qubits out trace out' trace' : List ℕ} {at position : Position} {g : ℕ → List Step} {n i : ℕ} → RunContext image kept-values kept-bodies scope qubits out trace at → Looped g n out at i out' position → trace' ≡ trace → ConstantsKept image kept-values' → BodiesKept image kept-bodies' out' position.words
-      → RunContext image kept-values' kept-bodies' scope qubits out' trace' position
+  pub context_on : {kept-values kept-values' : List KeptValue} {kept-bodies kept-bodies' out trace out' trace' : List ℕ} {at position : Position} {g : ℕ → List Step} {n i : ℕ} → RunContext image kept-values kept-bodies out trace at → Looped g n out at i out' position → trace' ≡ trace → ConstantsKept image kept-values' → BodiesKept image kept-bodies' out' position.words
+      → RunContext image kept-values' kept-bodies' out' trace' position
   context_on r k e f b =
       record {
-        context = record { in_scope = r.context.in_scope; constants = f; in_output = k.in_output };
+        context = record { constants = f; in_output = k.in_output };
         bodies = b;
         trace_length = subst (λ (t : List ℕ). most_trace_words ≤ length t) (sym e) r.trace_length;
       }
 
-  -- the frame of a round
-  pub context_opened : (acc : Accepted image) {i : ℕ} {call : Call} {kept-values : List KeptValue} {kept-bodies qubits found out trace : List ℕ} {at : Position} → RunContext image kept-values kept-bodies call.site.scope qubits out trace at → CallStatement image call
-      → RoundQubits image call.site.scope qubits call.argument call.arguments i found → i < call_rounds image call → RunContext image kept-values kept-bodies (suc call.gate) found out trace at
-  context_opened acc r c k h =
-      record {
-        context = record { in_scope = opened_in_scope c k acc r.context.in_scope h; constants = r.context.constants; in_output = r.context.in_output };
-        bodies = r.bodies;
-        trace_length = r.trace_length;
-      }
-
-  -- where a body runs a statement
-  pub context_in_body : {g : ℕ} {kept-values : List KeptValue} {kept-bodies qubits out trace : List ℕ} {at : Position} → RunContext image kept-values kept-bodies (suc g) qubits out trace at → RunContext image kept-values kept-bodies (g + 1) qubits out trace at
-  context_in_body {g} r = rw (add-one g) r
+  -- the scope of a body, whose number is its gate's and 1
+  pub scope_of_body : {g : ℕ} {qubits : List ℕ} → ScopeContext image (suc g) qubits → ScopeContext image (g + 1) qubits
+  scope_of_body {g} st = rw (add-one g) st
 
   pub statement_in_body : (acc : Accepted image) {g s : ℕ} {r : Range ℕ} → g < gates image → StatementsOf image (g + 1) r → r.start ≤ s → s < r.end → (levels-left : ℕ)
-      → PlainStatement image (record { scope = g + 1; statement = s; levels_left = levels-left })
+      → PlainStatement image (g + 1) (record { statement = s; levels_left = levels-left })
   statement_in_body acc {g} {s} {r} h k from below levels-left =
       let e : r.start + (s - r.start) ≡ s = omega arith in
       record {
@@ -95,12 +82,12 @@ step_in_body image g levels-left angles q s f = rw (add-one g) (statement_steps_
 pub ran_open : {ss : List Step} {out out' trace trace' : List ℕ} {at p : Position} {r : RunResult} → InOutput out at → RanSteps ss out at trace r out' trace' → r ≡ Ok p → InOutput out' p
 ran_open o w e = wrote_open o (ran_wrote w e).0
 
-pub context_wrote : {image : List ℕ} {scope : ℕ} {ss : List Step} {kept-values : List KeptValue} {kept-bodies qubits out out' trace : List ℕ} {at p : Position} {r : RunResult}
-    → RunContext image kept-values kept-bodies scope qubits out trace at → WroteSteps ss out at r out' → r ≡ Ok p → RunContext image kept-values kept-bodies scope qubits out' trace p
+pub context_wrote : {image : List ℕ} {ss : List Step} {kept-values : List KeptValue} {kept-bodies out out' trace : List ℕ} {at p : Position} {r : RunResult}
+    → RunContext image kept-values kept-bodies out trace at → WroteSteps ss out at r out' → r ≡ Ok p → RunContext image kept-values kept-bodies out' trace p
 context_wrote {ss = ss} {out} {out'} {at = at} {p} d w e =
     let v : WroteSteps ss out at (Ok p) out' = rw e at w in
     record {
-      context = record { in_scope = d.context.in_scope; constants = d.context.constants; in_output = wrote_open d.context.in_output v };
+      context = record { constants = d.context.constants; in_output = wrote_open d.context.in_output v };
       bodies = bodies_later v.plays d.bodies;
       trace_length = d.trace_length;
     }

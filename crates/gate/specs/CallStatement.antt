@@ -10,6 +10,7 @@ use Rattle.statement.specs.declared.Site.{Site}
 use Rattle.statement.specs.declared.Call.{Call}
 use Rattle.statement.specs.Statements.{call_rounds}
 use Rattle.argument.specs.Frames.{scope_frame, CallArguments}
+use Rattle.kept_body.specs.KeptBodies.{CalledGate}
 use Rattle.gate.specs.RunContext.{nested}
 use Rattle.gate.specs.PlainStatement.{PlainStatement}
 
@@ -26,44 +27,44 @@ call_of image site g p a =
       has_body = not (eqb (gate_body image g) 0);
     }
 
--- a call is what the statement of its site says, which the check accepted
-pub record StatedCall (image : List ℕ) (call : Call) : Type 0 where
-  pub accepted : PlainStatement image call.site
+-- a call is what the statement of its site says, which the check accepted in a scope
+pub record StatedCall (image : List ℕ) (scope : ℕ) (call : Call) : Type 0 where
+  pub accepted : PlainStatement image scope call.site
   pub parameter : ℕ
   pub stated : statement image call.site.statement ≡ Gate call.gate parameter call.argument
   pub expressions_at : call.expressions ≡ parameter_at image parameter
 
--- a call that says of its gate what the image does, and that the check accepted in its scope
-pub record CallStatement (image : List ℕ) (call : Call) : Type 0 where
+-- a call that says of its gate what the image does, and that the check accepted in a scope
+pub record CallStatement (image : List ℕ) (scope : ℕ) (call : Call) : Type 0 where
   pub parameters_are : call.parameters ≡ gate_parameters image call.gate
   pub arguments_are : call.arguments ≡ gate_arguments image call.gate
   pub body_is : call.has_body ≡ not (eqb (gate_body image call.gate) 0)
   pub listed : call.site.statement < all_statements image
   pub gate_listed : call.gate < gates image
-  pub downward : call.gate < nested call.site.scope
+  pub downward : call.gate < nested scope
   pub few_parameters : call.parameters ≤ most_parameters
-  pub arguments_fit : CallArguments image call.site.scope call.argument call.arguments
+  pub arguments_fit : CallArguments image scope call.argument call.arguments
 
 -- a call whose gate has a body, for which a level is left
 pub record OpenedCall (image : List ℕ) (call : Call) : Type 0 where
-  pub is_call : CallStatement image call
+  pub called : CalledGate image call
   pub has_body : call.has_body ≡ true
   pub has_level : ¬ (call.site.levels_left ≡ 0)
 
 -- the rounds of a call, with the angles of its gate
 abbrev pub call_steps : List ℕ → Steps.Frame → Call → List Value → List Step
 call_steps image frame call angles =
-    in_rounds (call_rounds image call)
+    in_rounds (call_rounds image frame.scope call)
     (visit_gate image (opening image call.site.levels_left) frame call.site.statement call.gate (range call.argument call.arguments) angles)
 
 -- a round of a call whose body is opened, inside the call
-unfoldable pub opened_round : List ℕ → List ℕ → Call → List Value → ℕ → List Step
-opened_round image qubits call angles i =
+unfoldable pub opened_round : List ℕ → ℕ → List ℕ → Call → List Value → ℕ → List Step
+opened_round image scope qubits call angles i =
     open_gate (opening image call.site.levels_left)
     (record {
       scope = suc call.gate;
       trace = [];
       values = angles;
-      qubits = map (qubit_in image (scope_frame image call.site.scope [] qubits) i) (range call.argument call.arguments);
+      qubits = map (qubit_in image (scope_frame image scope [] qubits) i) (range call.argument call.arguments);
     })
     call.gate

@@ -4,10 +4,10 @@ use Rattle.model.specs.Image.{Statement, U, CX, Gate, Barrier, Measure, Reset, C
 use Rattle.model.specs.Accepted.{PlainFacts}
 use Rattle.statement.specs.declared.Site.{Site}
 
--- the image has the statement of a site, which is no conditional and which the check accepted in its scope
-pub record PlainStatement (image : List ℕ) (site : Site) : Type 0 where
+-- the image has the statement of a site, which is no conditional and which the check accepted in a scope
+pub record PlainStatement (image : List ℕ) (scope : ℕ) (site : Site) : Type 0 where
   pub listed : site.statement < all_statements image
-  pub facts : PlainFacts image site.scope (statement image site.statement)
+  pub facts : PlainFacts image scope (statement image site.statement)
 
 -- a statement that opens no gate
 abbrev pub IsPrimitive : Statement → Type 0

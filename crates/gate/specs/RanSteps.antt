@@ -24,15 +24,15 @@ pub record RanSteps (ss : List Step) (out : List ℕ) (at : Position) (trace : L
 abbrev pub plain_steps : List ℕ → ℕ → Steps.Frame → ℕ → List Step
 plain_steps image levels-left frame s = visit_plain image (λ r v t. []) (opening image levels-left) frame s (statement image s)
 
--- the steps of the statement of a site, which is no conditional, with the angles and qubits that its frame has
-abbrev pub statement_steps : List ℕ → List Value → List ℕ → Site → List Step
-statement_steps image angles qubits site = plain_steps image site.levels_left (scope_frame image site.scope angles qubits) site.statement
+-- the steps of the statement of a site, which is no conditional, with the angles and qubits that the frame of its scope has
+abbrev pub statement_steps : List ℕ → ℕ → List Value → List ℕ → Site → List Step
+statement_steps image scope angles qubits site = plain_steps image site.levels_left (scope_frame image scope angles qubits) site.statement
 
 -- the steps of a called gate that has a body, from its frame: those of the body, or the gate itself where no level is left
 abbrev pub opened_steps : List ℕ → Call → List Value → List ℕ → List Step
 opened_steps image call angles qubits = open_gate (opening image call.site.levels_left) (scope_frame image (suc call.gate) angles qubits) call.gate
 
--- a call comes back from the position inside it: where it is done, the trace is as before it; where it is refused, its pair of words is put in front
-abbrev pub Popped : List ℕ → Call → Position → RunResult → List ℕ → RunResult → List ℕ → Type 0
-Popped image call at (Ok next) trace r trace' = (r ≡ Ok (record { records = next.records; words = next.words; trace = at.trace })) × (trace' ≡ trace)
-Popped image call at (Err e) trace r trace' = (r ≡ Err e) × (trace' ≡ sets trace at.trace (call.site.scope ∷ statement_at image call.site.statement ∷ []))
+-- a call of a scope comes back from the position inside it: where it is done, the trace is as before it; where it is refused, its pair of words is put in front
+abbrev pub Popped : List ℕ → ℕ → Call → Position → RunResult → List ℕ → RunResult → List ℕ → Type 0
+Popped image scope call at (Ok next) trace r trace' = (r ≡ Ok (record { records = next.records; words = next.words; trace = at.trace })) × (trace' ≡ trace)
+Popped image scope call at (Err e) trace r trace' = (r ≡ Err e) × (trace' ≡ sets trace at.trace (scope ∷ statement_at image call.site.statement ∷ []))

@@ -6,8 +6,6 @@ use Rattle.record_writer.specs.declared.Position.{Position}
 use Rattle.record_writer.specs.Promise.{InOutput, SoundAngles}
 use Rattle.expression.specs.declared.KeptValue.{KeptValue}
 use Rattle.expression.specs.KeptValues.{ConstantsKept}
-use Rattle.argument.specs.Frames.{ScopeContext}
-use Rattle.statement.specs.declared.Site.{Site}
 use Rattle.kept_body.specs.KeptBodies.{BodiesKept}
 
 -- the calls that may nest in a scope: each goes to a gate of smaller number
@@ -19,15 +17,14 @@ nested (suc g) = g
 abbrev pub most_trace_words : ℕ
 most_trace_words = 2 * most_gates
 
--- where a statement of a scope is run that opens no gate: the frame has its qubits, the values kept are those of constants, and the position lies in the output
-pub record StatementContext (image : List ℕ) (kept-values : List KeptValue) (scope : ℕ) (qubits out : List ℕ) (at : Position) : Type 0 where
-  pub in_scope : ScopeContext image scope qubits
+-- where a statement is run that opens no gate: the values kept are those of constants, and the position lies in the output
+pub record StatementContext (image : List ℕ) (kept-values : List KeptValue) (out : List ℕ) (at : Position) : Type 0 where
   pub constants : ConstantsKept image kept-values
   pub in_output : InOutput out at
 
--- where any statement of a scope is run: the bodies kept stand in the output, and the trace is long enough, too
-pub record RunContext (image : List ℕ) (kept-values : List KeptValue) (kept-bodies : List ℕ) (scope : ℕ) (qubits out trace : List ℕ) (at : Position) : Type 0 where
-  pub context : StatementContext image kept-values scope qubits out at
+-- where any statement is run: the bodies kept stand in the output, and the trace is long enough, too
+pub record RunContext (image : List ℕ) (kept-values : List KeptValue) (kept-bodies out trace : List ℕ) (at : Position) : Type 0 where
+  pub context : StatementContext image kept-values out at
   pub bodies : BodiesKept image kept-bodies out at.words
   pub trace_length : most_trace_words ≤ length trace
 
@@ -35,8 +32,8 @@ pub record RunContext (image : List ℕ) (kept-values : List KeptValue) (kept-bo
 abbrev pub TraceRoom : Position → ℕ → Type 0
 TraceRoom at n = at.trace + 2 * n ≤ most_trace_words
 
--- where the statement of a site is run, with the angles that its frame has: the trace has room for every call that may nest in its scope
-pub record SiteContext (image : List ℕ) (kept-values : List KeptValue) (kept-bodies : List ℕ) (angles : List Value) (qubits : List ℕ) (site : Site) (out trace : List ℕ) (at : Position) : Type 0 where
-  pub run : RunContext image kept-values kept-bodies site.scope qubits out trace at
-  pub room : TraceRoom at (nested site.scope)
+-- where any statement of a scope is run, with the angles that its frame has: the trace has room for every call that may nest in the scope
+pub record FrameContext (image : List ℕ) (kept-values : List KeptValue) (kept-bodies : List ℕ) (scope : ℕ) (angles : List Value) (out trace : List ℕ) (at : Position) : Type 0 where
+  pub run : RunContext image kept-values kept-bodies out trace at
+  pub room : TraceRoom at (nested scope)
   pub sound : SoundAngles angles

@@ -6,23 +6,22 @@ use Rattle.record_writer.specs.declared.Position.{Position}
 use Rattle.record_writer.specs.Promise.{RunResult, WroteSteps, position_of}
 use Rattle.expression.specs.KeptValues.{ConstantsKept}
 use Rattle.kept_body.specs.KeptBodies.{BodiesKept}
-use Rattle.statement.specs.declared.Site.{Site}
 use Rattle.gate.specs.declared.Run.{Run}
-use Rattle.gate.specs.RunContext.{StatementContext, RunContext, SiteContext}
+use Rattle.gate.specs.RunContext.{StatementContext, RunContext, FrameContext}
 use Rattle.gate.specs.RanSteps.{RanSteps}
 
 module _ (image : List ℕ) (run : Run) where
-  -- where a statement of a scope is run that opens no gate
-  abbrev pub InScope : ℕ → List ℕ → Position → Type 0
-  InScope scope qubits at = StatementContext image run.kept_values.now scope qubits run.out.now at
+  -- where a statement is run that opens no gate
+  abbrev pub RunsPrimitive : Position → Type 0
+  RunsPrimitive at = StatementContext image run.kept_values.now run.out.now at
 
-  -- where any statement of a scope is run
-  abbrev pub Runs : ℕ → List ℕ → Position → Type 0
-  Runs scope qubits at = RunContext image run.kept_values.now run.kept_bodies.now scope qubits run.out.now run.trace.now at
+  -- where any statement is run
+  abbrev pub Runs : Position → Type 0
+  Runs at = RunContext image run.kept_values.now run.kept_bodies.now run.out.now run.trace.now at
 
-  -- where the statement of a site is run
-  abbrev pub AtSite : List Value → List ℕ → Site → Position → Type 0
-  AtSite angles qubits site at = SiteContext image run.kept_values.now run.kept_bodies.now angles qubits site run.out.now run.trace.now at
+  -- where any statement of a scope is run, with the angles that its frame has
+  abbrev pub InFrame : ℕ → List Value → Position → Type 0
+  InFrame scope angles at = FrameContext image run.kept_values.now run.kept_bodies.now scope angles run.out.now run.trace.now at
 
 -- the same four slices are lent
 pub record SameLent (run run' : Run) : Type 0 where

@@ -1,7 +1,7 @@
 // Opens gate calls: a statement runs a gate's body, and the body its statements, in turn.
 #![tactic(auto)]
 
-ghost use Rattle.std.specs.Prelude.{◌≡◌, [], ◌∷◌, suc, ◌+◌, ◌-◌, ◌^◌, ◌≤◌, ◌<◌, length, take};
+ghost use Rattle.std.specs.Prelude.{◌≡◌, [], ◌∷◌, suc, ◌+◌, ◌-◌, ◌≤◌, ◌<◌, length, take};
 ghost use Rattle.std.proofs.lemmas.List.Edits.{sets};
 ghost use Rattle.model.specs.Image.{gates, statement};
 ghost use Rattle.model.specs.Steps.{in_rounds};
@@ -9,29 +9,24 @@ ghost use Rattle.model.specs.Limits.{most_words};
 ghost use Rattle.image.specs.Entries.{as_statement};
 ghost use Rattle.image.specs.Layout.{Small};
 ghost use Rattle.record_writer.specs.Promise.{SoundAngles, AnglesGiven};
-ghost use Rattle.argument.specs.Frames.{scope_frame};
+ghost use Rattle.argument.specs.Frames.{scope_frame, ScopeContext};
 ghost use Rattle.statement.specs.Statements.{call_rounds};
 ghost use Rattle.gate.specs.RunContext.{nested, TraceRoom};
-ghost use Rattle.gate.specs.Running.{InScope, Runs, AtSite, Wrote, Ran};
+ghost use Rattle.gate.specs.Running.{RunsPrimitive, Runs, InFrame, Wrote, Ran};
 ghost use Rattle.gate.specs.PlainStatement.{PlainStatement, IsPrimitive};
 ghost use Rattle.gate.specs.RanSteps.{statement_steps, opened_steps, Popped};
 ghost use Rattle.gate.specs.CallStatement.{call_of, StatedCall, CallStatement, OpenedCall, call_steps, opened_round};
 
-use argument::Program;
+use argument::{Program, RunScope};
 use expression::KeptValue;
 use image::{Image, Statement};
+use kept_body::Frame;
 use record_writer::{Linearized, Position};
 use statement::{Call, Site};
 use value::Value;
 
-// What the body of a gate has at hand: an angle for each parameter and a qubit for each argument.
-#[derive(Clone, Copy)]
-pub struct Frame {
-    pub angles: [Value; image::FRAME_ANGLES],
-    pub qubits: [u64; image::FRAME_QUBITS],
-}
-
 // What a run writes: what is kept of values and bodies, and the output and the trace that the caller lends.
+// What is known of the four slices is no ghost field, since they are written one by one and the position that it speaks of is none of them: `Runs` and `InFrame` say it.
 #[derive(Drop)]
 pub struct Run<'a> {
     pub kept_values: &'a mut [KeptValue],
@@ -50,37 +45,25 @@ fn write_trace_pair(trace: &mut [u64], at: u64, scope: u64, place: u64)
     trace[i + 1] = place;
 }
 
-// A position with another number of trace words.
-fn with_trace_words(at: Position, trace: u64) -> Position
-    ensures { result ≡ record { records = at.records; words = at.words; trace = trace } }
-{
-    Position {
-        records: at.records,
-        words: at.words,
-        trace,
-    }
-}
-
 // ---- statements that open no gate
 
 // A U, CX, barrier, measurement or reset: a statement that opens no gate.
 fn visit_primitive(
-    program: &Program<'_>,
+    scope: &RunScope<'_>,
     run: &mut Run<'_>,
     angles: &[Value; image::FRAME_ANGLES],
-    qubits: &[u64; image::FRAME_QUBITS],
     site: Site,
     entry: Statement,
     at: Position,
 ) -> Linearized
-    requires { InScope program.now.image.words.now run.old site.scope qubits.now at
+    requires { RunsPrimitive scope.now.program.now.image.words.now run.old at
         × SoundAngles angles.now
-        × PlainStatement program.now.image.words.now site
-        × (as_statement entry ≡ statement program.now.image.words.now site.statement)
+        × PlainStatement scope.now.program.now.image.words.now scope.now.number site
+        × (as_statement entry ≡ statement scope.now.program.now.image.words.now site.statement)
         × IsPrimitive (as_statement entry) }
-    ensures { Wrote (statement_steps program.now.image.words.now angles.now qubits.now site) program.now.image.words.now run.old at result run.new }
+    ensures { Wrote (statement_steps scope.now.program.now.image.words.now scope.now.number angles.now scope.now.qubits.now site)
+        scope.now.program.now.image.words.now run.old at result run.new }
 {
-    let scope = site.scope;
     match entry {
         Statement::U {
             theta,
@@ -88,11 +71,9 @@ fn visit_primitive(
             lambda,
             argument,
         } => statement::visit_u(
-            program,
-            run.kept_values,
             scope,
+            run.kept_values,
             angles,
-            qubits,
             theta,
             phi,
             lambda,
@@ -101,17 +82,15 @@ fn visit_primitive(
             at,
         ),
         Statement::CX { control, target } => {
-            statement::visit_cx(program, scope, qubits, control, target, run.out, at)
+            statement::visit_cx(scope, control, target, run.out, at)
         }
         Statement::Barrier { argument, count } => {
-            statement::visit_barrier(program, scope, qubits, argument, count, run.out, at)
+            statement::visit_barrier(scope, argument, count, run.out, at)
         }
         Statement::Measure { from, to } => {
-            statement::visit_measure(program, scope, qubits, from, to, run.out, at)
+            statement::visit_measure(scope, from, to, run.out, at)
         }
-        Statement::Reset { argument } => {
-            statement::visit_reset(program, scope, qubits, argument, run.out, at)
-        }
+        Statement::Reset { argument } => statement::visit_reset(scope, argument, run.out, at),
         Statement::Gate { .. } | Statement::Conditional { .. } => unreachable!(),
     }
 }
@@ -137,147 +116,157 @@ fn call_at(image: &Image<'_>, site: Site, gate: u64, parameter: u64, argument: u
 
 // The end of a call whose body, or whose gate, was run with the call on the stack. A refusal has the call in its trace.
 fn pop_call(
-    image: &Image<'_>,
+    scope: &RunScope<'_>,
     call: Call,
     trace: &mut [u64],
     at: Position,
     answer: Linearized,
 ) -> Linearized
     requires { (at.trace + 1 < length trace.old) × Small call.site.statement }
-    ensures { Popped image.now.words.now call at answer trace.old result trace.new }
+    ensures { Popped scope.now.program.now.image.words.now scope.now.number call at answer trace.old result trace.new }
 {
     match answer {
-        Ok(next) => Ok(with_trace_words(next, at.trace)),
+        Ok(next) => Ok(Position {
+            trace: at.trace,
+            ..next
+        }),
         Err(e) => {
-            let place = image.statement_at(call.site.statement);
-            write_trace_pair(trace, at.trace, call.site.scope, place);
+            let place = scope.program.image.statement_at(call.site.statement);
+            write_trace_pair(trace, at.trace, scope.number, place);
             Err(e)
         }
     }
 }
 
-// Where a statement of the body of a called gate stands.
+// A statement of the body of a called gate, which has a level less left.
 fn body_site(call: Call, statement: u64) -> Site
-    requires { (call.gate + 1 < 2 ^ 64)
-        × (1 ≤ call.site.levels_left) }
-    ensures { result ≡ record { scope = call.gate + 1; statement = statement; levels_left = call.site.levels_left - 1 } }
+    requires { 1 ≤ call.site.levels_left }
+    ensures { result ≡ record { statement = statement; levels_left = call.site.levels_left - 1 } }
 {
     Site {
-        scope: call.gate + 1,
         statement,
         levels_left: call.site.levels_left - 1,
     }
 }
 
 // ---- the cycle
+// `TraceRoom`, `PlainStatement`, `CallStatement` and `OpenedCall` are no ghost fields, since each speaks of two values that go side by side: a position and how many calls may nest,
+// or a site or a call and the image, some with the scope.
+// A scope, a run and a position go through the cycle side by side: the run is written, and each function answers another position, so that a struct of them would be made anew at each call.
 
 // A statement that is no conditional.
 #[cycle(visit)]
 pub fn visit_statement(
-    program: &Program<'_>,
+    scope: &RunScope<'_>,
     run: &mut Run<'_>,
     angles: &[Value; image::FRAME_ANGLES],
-    qubits: &[u64; image::FRAME_QUBITS],
     site: Site,
     at: Position,
 ) -> Linearized
-    requires { AtSite program.now.image.words.now run.old angles.now qubits.now site at × PlainStatement program.now.image.words.now site }
-    ensures { Ran (statement_steps program.now.image.words.now angles.now qubits.now site) program.now.image.words.now run.old at result run.new }
+    requires { InFrame scope.now.program.now.image.words.now run.old scope.now.number angles.now at
+        × PlainStatement scope.now.program.now.image.words.now scope.now.number site }
+    ensures { Ran (statement_steps scope.now.program.now.image.words.now scope.now.number angles.now scope.now.qubits.now site)
+        scope.now.program.now.image.words.now run.old at result run.new }
 {
-    let entry = program.image.statement(site.statement).unwrap();
+    let image = &scope.program.image;
+    let entry = image.statement(site.statement).unwrap();
     match entry {
         Statement::Gate {
             gate,
             parameter,
             argument,
         } => {
-            let call = call_at(&program.image, site, gate, parameter, argument);
-            visit_call(program, run, angles, qubits, call, at)
+            let call = call_at(image, site, gate, parameter, argument);
+            visit_call(scope, run, angles, call, at)
         }
-        _ => visit_primitive(program, run, angles, qubits, site, entry, at),
+        _ => visit_primitive(scope, run, angles, site, entry, at),
     }
 }
 
 // A call: its parameters are worked out before anything else.
 #[cycle(visit)]
 fn visit_call(
-    program: &Program<'_>,
+    scope: &RunScope<'_>,
     run: &mut Run<'_>,
     angles: &[Value; image::FRAME_ANGLES],
-    qubits: &[u64; image::FRAME_QUBITS],
     call: Call,
     at: Position,
 ) -> Linearized
-    requires { AtSite program.now.image.words.now run.old angles.now qubits.now call.site at
-        × StatedCall program.now.image.words.now call
-        × CallStatement program.now.image.words.now call }
-    ensures { Ran (statement_steps program.now.image.words.now angles.now qubits.now call.site) program.now.image.words.now run.old at result run.new }
+    requires { InFrame scope.now.program.now.image.words.now run.old scope.now.number angles.now at
+        × StatedCall scope.now.program.now.image.words.now scope.now.number call
+        × CallStatement scope.now.program.now.image.words.now scope.now.number call }
+    ensures { Ran (statement_steps scope.now.program.now.image.words.now scope.now.number angles.now scope.now.qubits.now call.site)
+        scope.now.program.now.image.words.now run.old at result run.new }
 {
     let values = expression::parameter_values(
-        &program.image,
+        &scope.program.image,
         angles,
         run.kept_values,
         call.expressions,
         call.parameters,
         at,
     )?;
-    visit_gate(program, run, qubits, call, values, at)
+    visit_gate(scope, run, call, values, at)
 }
 
 // The gate of a call, with its angles: it is opaque, or no level is left for its body, or its body is opened.
 #[cycle(visit)]
 fn visit_gate(
-    program: &Program<'_>,
+    scope: &RunScope<'_>,
     run: &mut Run<'_>,
-    qubits: &[u64; image::FRAME_QUBITS],
     call: Call,
     angles: [Value; image::FRAME_ANGLES],
     at: Position,
 ) -> Linearized
-    requires { Runs program.now.image.words.now run.old call.site.scope qubits.now at
-        × TraceRoom at (nested call.site.scope)
+    requires { Runs scope.now.program.now.image.words.now run.old at
+        × TraceRoom at (nested scope.now.number)
         × AnglesGiven angles call.parameters
-        × CallStatement program.now.image.words.now call }
-    ensures { Ran (call_steps program.now.image.words.now (scope_frame program.now.image.words.now call.site.scope [] qubits.now) call (take call.parameters angles))
-        program.now.image.words.now run.old at result run.new }
+        × CallStatement scope.now.program.now.image.words.now scope.now.number call }
+    ensures { Ran (call_steps scope.now.program.now.image.words.now (scope_frame scope.now.program.now.image.words.now scope.now.number [] scope.now.qubits.now) call
+        (take call.parameters angles))
+        scope.now.program.now.image.words.now run.old at result run.new }
 {
     if !call.has_body {
-        return statement::visit_opaque(program, qubits, call, angles, run.out, at);
+        return statement::visit_opaque(scope, call, angles, run.out, at);
     }
-    let inside = with_trace_words(at, at.trace + 2);
+    let inside = Position {
+        trace: at.trace + 2,
+        ..at
+    };
     if call.site.levels_left == 0 {
-        let answer = statement::visit_cut(program, qubits, call, run.out, inside);
-        return pop_call(&program.image, call, run.trace, at, answer);
+        let answer = statement::visit_cut(scope, call, run.out, inside);
+        return pop_call(scope, call, run.trace, at, answer);
     }
-    let answer = visit_rounds(program, run, qubits, call, angles, inside);
-    pop_call(&program.image, call, run.trace, at, answer)
+    let answer = visit_rounds(scope, run, call, angles, inside);
+    pop_call(scope, call, run.trace, at, answer)
 }
 
 // The rounds of a call whose body is opened.
 #[cycle(visit)]
 fn visit_rounds(
-    program: &Program<'_>,
+    scope: &RunScope<'_>,
     run: &mut Run<'_>,
-    qubits: &[u64; image::FRAME_QUBITS],
     call: Call,
     angles: [Value; image::FRAME_ANGLES],
     at: Position,
 ) -> Linearized
-    requires { Runs program.now.image.words.now run.old call.site.scope qubits.now at
+    requires { Runs scope.now.program.now.image.words.now run.old at
         × TraceRoom at call.gate
         × AnglesGiven angles call.parameters
-        × OpenedCall program.now.image.words.now call }
-    ensures { Ran (in_rounds (call_rounds program.now.image.words.now call) (opened_round program.now.image.words.now qubits.now call (take call.parameters angles)))
-        program.now.image.words.now run.old at result run.new }
+        × CallStatement scope.now.program.now.image.words.now scope.now.number call
+        × OpenedCall scope.now.program.now.image.words.now call }
+    ensures { Ran (in_rounds (call_rounds scope.now.program.now.image.words.now scope.now.number call)
+        (opened_round scope.now.program.now.image.words.now scope.now.number scope.now.qubits.now call (take call.parameters angles)))
+        scope.now.program.now.image.words.now run.old at result run.new }
 {
-    let n = statement::call_rounds(&program.image, call);
+    let n = statement::call_rounds(&scope.program.image, scope.number, call);
     let mut position = at;
     for i in 0..n {
         let frame = Frame {
             angles,
-            qubits: statement::call_qubits(program, qubits, call, i),
+            qubits: statement::call_qubits(scope, call, i),
         };
-        position = open_gate(program, run, frame, call, position)?;
+        position = open_gate(scope.program, run, frame, call, position)?;
     }
     Ok(position)
 }
@@ -291,19 +280,19 @@ fn open_gate(
     call: Call,
     at: Position,
 ) -> Linearized
-    requires { Runs program.now.image.words.now run.old (suc call.gate) frame.qubits at
+    requires { ScopeContext program.now.image.words.now (suc call.gate) frame.qubits
+        × Runs program.now.image.words.now run.old at
         × TraceRoom at call.gate
         × AnglesGiven frame.angles call.parameters
         × OpenedCall program.now.image.words.now call }
     ensures { Ran (opened_steps program.now.image.words.now call frame.angles frame.qubits) program.now.image.words.now run.old at result run.new }
 {
-    let angles = frame.angles;
-    let qubits = frame.qubits;
+    // Both have names of their own, since no part of `run` can be read while another is lent.
     let kept_bodies = &mut *run.kept_bodies;
     let out = &mut *run.out;
-    match kept_body::copy_body(kept_bodies, call, &angles, &qubits, out, at) {
+    match kept_body::copy_body(kept_bodies, call, &frame, out, at) {
         Some(next) => Ok(next),
-        None => visit_body(program, run, &angles, &qubits, call, at),
+        None => visit_body(program, run, &frame, call, at),
     }
 }
 
@@ -312,22 +301,28 @@ fn open_gate(
 fn visit_body(
     program: &Program<'_>,
     run: &mut Run<'_>,
-    angles: &[Value; image::FRAME_ANGLES],
-    qubits: &[u64; image::FRAME_QUBITS],
+    frame: &Frame,
     call: Call,
     at: Position,
 ) -> Linearized
-    requires { Runs program.now.image.words.now run.old (suc call.gate) qubits.now at
+    requires { ScopeContext program.now.image.words.now (suc call.gate) frame.now.qubits
+        × Runs program.now.image.words.now run.old at
         × TraceRoom at call.gate
-        × SoundAngles angles.now
+        × SoundAngles frame.now.angles
         × OpenedCall program.now.image.words.now call }
-    ensures { Ran (opened_steps program.now.image.words.now call angles.now qubits.now) program.now.image.words.now run.old at result run.new }
+    ensures { Ran (opened_steps program.now.image.words.now call frame.now.angles frame.now.qubits) program.now.image.words.now run.old at result run.new }
 {
-    let body = program.image.statements_of(call.gate + 1);
+    // The program is lent again, since a scope has its program for as long as its qubits.
+    let scope = RunScope {
+        program: &*program,
+        number: call.gate + 1,
+        qubits: &frame.qubits,
+    };
+    let body = program.image.statements_of(scope.number);
     let mut position = at;
-    for s in body.start..body.end {
-        position = visit_statement(program, run, angles, qubits, body_site(call, s), position)?;
+    for s in body {
+        position = visit_statement(&scope, run, &frame.angles, body_site(call, s), position)?;
     }
-    kept_body::keep_body(run.kept_bodies, call, angles, qubits, at, position);
+    kept_body::keep_body(run.kept_bodies, call, frame, at, position);
     Ok(position)
 }

@@ -37,6 +37,18 @@ pub record LayoutOf (image : List ℕ) (l : Layout) : Type 0 where
   pub short : length image ≤ most_words
   pub few_gates : gates image ≤ most_gates
 
+-- counts with which each place up to the image's end is a small number
+pub record WithinLimits (l : Layout) : Type 0 where
+  pub small : (e : ℕ) → e ≤ l.expressions → Small (expression_at (contents_with l) e)
+
+-- r is the place of entry i: `at` says of which list, as gate_at
+pub record PlaceIn (l : Layout) (at : List ℕ → ℕ → ℕ) (i r : ℕ) : Type 0 where
+  pub small : SmallPlace r
+  -- by the counts alone
+  pub counted : r ≡ at (contents_with l) i
+  -- in each image that has them
+  pub in_image : (image : List ℕ) → LayoutOf image l → r ≡ at image i
+
 -- r is a place, and so small that no place near it wraps
 pub record PlaceIs (place r : ℕ) : Type 0 where
   pub small : SmallPlace r

@@ -6,7 +6,7 @@ ghost use Rattle.model.specs.Lists.{range, sum};
 ghost use Rattle.model.specs.Image.{word, quantum_register_at, classical_register_at, gate_at, statement_at, argument_at, argument_register, argument_index, parameter_at, expression_at, argument_size, classical_argument_size, rounds};
 ghost use Rattle.model.specs.Limits.{most_elements, most_words};
 ghost use Rattle.image.specs.Answer.{refusal_flaw, number_in, place_in};
-ghost use Rattle.image.specs.Layout.{CappedCounts, FewEntries, contents_with, LayoutOf, Small, SmallPlace, PlaceIs, GatesAccepted};
+ghost use Rattle.image.specs.Layout.{CappedCounts, FewEntries, contents_with, LayoutOf, Small, SmallPlace, WithinLimits, PlaceIn, PlaceIs, GatesAccepted};
 ghost use Rattle.image.specs.RegisterStarts.{RegisterStarts, RegisterTable, RegistersFit};
 
 mod expression;
@@ -48,7 +48,8 @@ pub const MOST_PARAMETERS: u64 = 16;
 
 pub const MOST_ARGUMENTS: u64 = 16;
 
-// The entries of a frame: an angle for each parameter that a gate may have, and a qubit for each argument.
+// The entries of a frame: an angle for each parameter that a gate may have, and a qubit for each argument. They are arrays of sixteen with a count beside
+// them, and no slice: document 01 names frames by value with one entry for each formal, and a call says how many of them it has.
 pub const FRAME_ANGLES: usize = MOST_PARAMETERS as usize;
 
 pub const FRAME_QUBITS: usize = MOST_ARGUMENTS as usize;
@@ -97,19 +98,64 @@ impl Layout {
     }
 }
 
-// The word at a place of some words, 0 past their end.
-fn word_of(words: &[u64], place: u64) -> u64
-    ensures { result ≡ word words.now place }
-{
-    let i = place as usize;
-    if i < words.len() { words[i] } else { 0 }
+// Where entries stand, by the counts alone. Each list follows the one before it. `WithinLimits` is no ghost field of a layout, since counts that are just read may be too large,
+// and `Small` none of a number, since the words of an entry are numbers.
+impl Layout {
+    pub fn quantum_register_at(self, r: u64) -> u64
+        requires { WithinLimits self × Small r }
+        ensures { PlaceIn self quantum_register_at r result }
+    {
+        CONTENTS_WORDS + REGISTER_WORDS * r
+    }
+
+    pub fn classical_register_at(self, r: u64) -> u64
+        requires { WithinLimits self × Small r }
+        ensures { PlaceIn self classical_register_at r result }
+    {
+        self.quantum_register_at(self.quantum_registers) + REGISTER_WORDS * r
+    }
+
+    pub fn gate_at(self, g: u64) -> u64
+        requires { WithinLimits self × Small g }
+        ensures { PlaceIn self gate_at g result }
+    {
+        self.classical_register_at(self.classical_registers) + GATE_WORDS * g
+    }
+
+    pub fn statement_at(self, s: u64) -> u64
+        requires { WithinLimits self × Small s }
+        ensures { PlaceIn self statement_at s result }
+    {
+        self.gate_at(self.gates) + STATEMENT_WORDS * s
+    }
+
+    pub fn argument_at(self, a: u64) -> u64
+        requires { WithinLimits self × Small a }
+        ensures { PlaceIn self argument_at a result }
+    {
+        self.statement_at(self.statements) + ARGUMENT_WORDS * a
+    }
+
+    pub fn parameter_at(self, p: u64) -> u64
+        requires { WithinLimits self × Small p }
+        ensures { PlaceIn self parameter_at p result }
+    {
+        self.argument_at(self.arguments) + PARAMETER_WORDS * p
+    }
+
+    pub fn expression_at(self, e: u64) -> u64
+        requires { WithinLimits self × Small e }
+        ensures { PlaceIn self expression_at e result }
+    {
+        self.parameter_at(self.parameters) + EXPRESSION_WORDS * e
+    }
 }
 
 // A count of the contents, capped where it passes any image's length.
 fn capped_count(words: &[u64], place: u64) -> u64
     ensures { result ≡ min (word words.now place) 8193 }
 {
-    word_of(words, place).min(MOST_WORDS + 1)
+    word(words, place).min(MOST_WORDS + 1)
 }
 
 // The counts as they stand in the contents, each capped.
@@ -139,102 +185,111 @@ pub struct Image<'a> {
     pub ghost laid: { LayoutOf words.now layout },
 }
 
-// Where entries stand, by their numbers. Each list follows the one before it.
+// Where entries stand in the image, by their numbers.
 impl Image<'_> {
     pub fn quantum_register_at(&self, r: u64) -> u64
         requires { Small r }
         ensures { PlaceIs (quantum_register_at self.now.words.now r) result }
     {
-        CONTENTS_WORDS + REGISTER_WORDS * r
+        self.layout.quantum_register_at(r)
     }
 
     pub fn classical_register_at(&self, r: u64) -> u64
         requires { Small r }
         ensures { PlaceIs (classical_register_at self.now.words.now r) result }
     {
-        self.quantum_register_at(self.layout.quantum_registers) + REGISTER_WORDS * r
+        self.layout.classical_register_at(r)
     }
 
     pub fn gate_at(&self, g: u64) -> u64
         requires { Small g }
         ensures { PlaceIs (gate_at self.now.words.now g) result }
     {
-        self.classical_register_at(self.layout.classical_registers) + GATE_WORDS * g
+        self.layout.gate_at(g)
     }
 
     pub fn statement_at(&self, s: u64) -> u64
         requires { Small s }
         ensures { PlaceIs (statement_at self.now.words.now s) result }
     {
-        self.gate_at(self.layout.gates) + STATEMENT_WORDS * s
+        self.layout.statement_at(s)
     }
 
     pub fn argument_at(&self, a: u64) -> u64
         requires { Small a }
         ensures { PlaceIs (argument_at self.now.words.now a) result }
     {
-        self.statement_at(self.layout.statements) + ARGUMENT_WORDS * a
+        self.layout.argument_at(a)
     }
 
     pub fn parameter_at(&self, p: u64) -> u64
         requires { Small p }
         ensures { PlaceIs (parameter_at self.now.words.now p) result }
     {
-        self.argument_at(self.layout.arguments) + PARAMETER_WORDS * p
+        self.layout.parameter_at(p)
     }
 
     pub fn expression_at(&self, e: u64) -> u64
         requires { Small e }
         ensures { PlaceIs (expression_at self.now.words.now e) result }
     {
-        self.parameter_at(self.layout.parameters) + EXPRESSION_WORDS * e
+        self.layout.expression_at(e)
     }
 }
 
 // ---- words and registers
+
+// The word at a place of some words, 0 past their end. It asks for no image: reading the contents, from which an image is made, calls it too.
+pub fn word(words: &[u64], place: u64) -> u64
+    ensures { result ≡ word words.now place }
+{
+    let i = place as usize;
+    if i < words.len() { words[i] } else { 0 }
+}
+
+// The word i behind a place, for any i.
+pub fn word_after(words: &[u64], place: u64, i: u64) -> u64
+    ensures { result ≡ word words.now (place + i) }
+{
+    match place.checked_add(i) {
+        Some(at) => word(words, at),
+        None => 0,
+    }
+}
+
+// The sizes of n registers added up, which stand from a place on. This and `first_of_each` take all words with a place, and not a part of them: a word past
+// the end is 0, and a part would ask that it is there.
+pub fn size_in_all(words: &[u64], at: u64, n: u64) -> u64
+    requires { SmallPlace at × (n ≤ most_words) × (sum (map (λ i. word words.now (at + i)) (range 0 n)) ≤ most_elements) }
+    ensures { result ≡ sum (map (λ i. word words.now (at + i)) (range 0 n)) }
+{
+    let mut total = 0;
+    for r in 0..n {
+        total += word(words, at + r);
+    }
+    total
+}
+
+// Where each of n registers starts whose sizes stand from a place on: the first qubit, or bit, of each in one pass.
+pub fn first_of_each(words: &[u64], at: u64, n: u64, firsts: &mut [u64])
+    requires { (at ≤ 2 * most_words)
+        × (n ≤ length firsts.old)
+        × (sum (map (λ i. word words.now (at + i)) (range 0 n)) ≤ most_elements) }
+    ensures { RegisterStarts (λ i. word words.now (at + i)) n firsts.new }
+{
+    let mut total = 0;
+    for r in 0..n {
+        firsts[r as usize] = total;
+        total += word(words, at + r);
+    }
+}
 
 impl Image<'_> {
     // The word at a place, 0 past the end.
     pub fn word(&self, place: u64) -> u64
         ensures { result ≡ word self.now.words.now place }
     {
-        word_of(self.words, place)
-    }
-
-    // The word i behind a place, for any i.
-    pub fn word_after(&self, place: u64, i: u64) -> u64
-        ensures { result ≡ word self.now.words.now (place + i) }
-    {
-        match place.checked_add(i) {
-            Some(at) => self.word(at),
-            None => 0,
-        }
-    }
-
-    // The sizes of n registers added up, which stand from a place on.
-    pub fn size_in_all(&self, at: u64, n: u64) -> u64
-        requires { SmallPlace at × (n ≤ most_words) × (sum (map (λ i. word self.now.words.now (at + i)) (range 0 n)) ≤ most_elements) }
-        ensures { result ≡ sum (map (λ i. word self.now.words.now (at + i)) (range 0 n)) }
-    {
-        let mut total = 0;
-        for r in 0..n {
-            total += self.word(at + r);
-        }
-        total
-    }
-
-    // Where each of n registers starts whose sizes stand from a place on: the first qubit, or bit, of each in one pass.
-    pub fn first_of_each(&self, at: u64, n: u64, firsts: &mut [u64])
-        requires { (at ≤ 2 * most_words)
-            × (n ≤ length firsts.old)
-            × (sum (map (λ i. word self.now.words.now (at + i)) (range 0 n)) ≤ most_elements) }
-        ensures { RegisterStarts (λ i. word self.now.words.now (at + i)) n firsts.new }
-    {
-        let mut total = 0;
-        for r in 0..n {
-            firsts[r as usize] = total;
-            total += self.word(at + r);
-        }
+        word(self.words, place)
     }
 
     // Where each register starts, in one table: the first qubit of each quantum register, then the first bit of each classical one.
@@ -243,8 +298,9 @@ impl Image<'_> {
         ensures { RegisterTable self.now.words.now starts.new }
     {
         let quantum = self.layout.quantum_registers;
-        self.first_of_each(self.quantum_register_at(0), quantum, starts);
-        self.first_of_each(
+        first_of_each(self.words, self.quantum_register_at(0), quantum, starts);
+        first_of_each(
+            self.words,
             self.classical_register_at(0),
             self.layout.classical_registers,
             &mut starts[quantum as usize..],
@@ -264,7 +320,7 @@ impl Image<'_> {
         if self.word(at + 1) != 0 {
             return 1;
         }
-        self.word_after(registers, self.word(at))
+        word_after(self.words, registers, self.word(at))
     }
 
     // The size of an argument: 1 for an index, and for a formal argument in a body; else its register's.
@@ -286,7 +342,8 @@ impl Image<'_> {
         self.size_in_main(a, self.classical_register_at(0))
     }
 
-    // The largest size of some arguments, 0 of none: the rounds of a statement.
+    // The largest size of some arguments, 0 of none: the rounds of a statement. The first number and the count stand side by side, and in no range, as the
+    // two words of an entry have them.
     pub fn rounds_of(&self, scope: u64, a: u64, n: u64) -> u64
         requires { a + n ≤ most_words }
         ensures { result ≡ rounds self.now.words.now scope (range a n) }

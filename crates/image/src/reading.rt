@@ -3,7 +3,7 @@ ghost use Rattle.std.specs.Prelude.{◌≤◌};
 ghost use Rattle.image.specs.Layout.{GatesAccepted};
 ghost use Rattle.image.specs.Reading.{ReadAs, StatementsOf};
 
-use crate::{CONTENTS_WORDS, Image, MOST_GATES, MOST_WORDS, capped_counts, word_of};
+use crate::{CONTENTS_WORDS, Image, MOST_GATES, MOST_WORDS, capped_counts, word};
 use std::ops::Range;
 
 // The image that some words are, if the contents add up to them.
@@ -17,7 +17,7 @@ pub fn read(words: &[u64]) -> Option<Image<'_>>
     if MOST_WORDS < n {
         return None;
     }
-    if word_of(words, 0) != n {
+    if word(words, 0) != n {
         return None;
     }
     let layout = capped_counts(words);

@@ -41,7 +41,9 @@ impl StatementFlaw {
 
 // ---- the statements of an image
 
-// The first bad statement where the judgements of the expressions are at hand: main's in order, then the bodies' by gate number.
+// The first bad statement where the judgements of the expressions are at hand: main's in order, then the bodies' by gate number. That the gates
+// are accepted is asked for by this and the next two functions and held by `JudgedScope`. It is no ghost field of an image: `statements_of`, which asks for it too, is called with
+// accepted images, of which it is known, and a struct between the two kinds of images would be made anew at each call.
 fn first_bad_judged(judged: &JudgedImage<'_>) -> Result<(), CheckRefusal>
     requires { GatesAccepted judged.now.image.words.now }
     ensures { answer_flaw result ≡ statement_entries judged.now.image.words.now }
@@ -68,7 +70,8 @@ fn first_bad_with_table<const N: usize>(image: &Image<'_>) -> Result<(), CheckRe
     })
 }
 
-// The first bad statement of all scopes.
+// The first bad statement of all scopes. The choice between the two lengths of the table is no function of its own: it would take what is done with the table as a
+// closure, and no closure has a const parameter.
 fn first_bad_statement(image: &Image<'_>) -> Result<(), CheckRefusal>
     requires { GatesAccepted image.now.words.now }
     ensures { answer_flaw result ≡ statement_entries image.now.words.now }
@@ -87,12 +90,12 @@ fn first_bad_entry(image: &Image<'_>) -> Result<(), CheckRefusal>
 {
     let layout = image.layout;
     image_entries::first_bad_register(
-        image,
+        image.words,
         image.quantum_register_at(0),
         layout.quantum_registers,
     )?;
     image_entries::first_bad_register(
-        image,
+        image.words,
         image.classical_register_at(0),
         layout.classical_registers,
     )?;

@@ -140,11 +140,11 @@ impl JudgedScope<'_> {
         if !judged.parameters_ok(self.scope.variables(), p, image.word(at)) {
             return Err(StatementFlaw::Expression);
         }
-        let n = image.word(at + 1);
-        if !self.scope.arguments_ok(a, n) {
+        let arguments = image.word(at + 1);
+        if !self.scope.arguments_ok(a, arguments) {
             return Err(StatementFlaw::Argument);
         }
-        if !self.scope.sizes_match(a, n) {
+        if !image_entries::sizes_match(&image, self.scope.number, a, arguments) {
             return Err(StatementFlaw::Sizes);
         }
         Ok(())
@@ -282,7 +282,7 @@ impl JudgedScope<'_> {
             answer_flaw result ≡ first_bad (λ s. flaw image self.now.scope.number s) (statement_at image) (scope_statements image self.now.scope.number) }
     {
         let span = self.scope.image.statements_of(self.scope.number);
-        for s in span.start..span.end {
+        for s in span {
             if let Err(flaw) = self.statement_flaw(s) {
                 return Err(flaw.at(self.scope.image.statement_at(s)));
             }

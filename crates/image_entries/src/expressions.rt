@@ -1,14 +1,15 @@
 // Judges the expressions of an image: each one once, after its operands.
-ghost use Rattle.std.specs.Prelude.{◌≡◌, cond, ◌&&◌, ltb, length, get_or, ℕ, ◌<◌, ◌≤◌, ◌+◌, suc, Some, None};
+ghost use Rattle.std.specs.Prelude.{◌≡◌, List, cond, ◌&&◌, ltb, length, get_or, ℕ, ◌<◌, ◌≤◌, ◌+◌, suc, Some, None};
 ghost use Rattle.model.specs.Lists.{range, all};
 ghost use Rattle.model.specs.Image.{parameter};
 ghost use Rattle.model.specs.Check.{expression_ok};
 ghost use Rattle.model.specs.Limits.{most_levels, most_parameters, most_words};
 ghost use Rattle.image.specs.Entries.{as_expr};
+ghost use Rattle.image.specs.Layout.{LayoutOf};
 ghost use Rattle.image_entries.specs.Judging.{accepts, words_ok, JudgementTable, JudgementIs};
 
 use crate::Judgement;
-use image::{Expr, Image};
+use image::{Expr, Image, Layout};
 
 // The bits of a real are below this number.
 const REAL_LIMIT: u64 = 0x1_0000_0000;
@@ -105,6 +106,15 @@ pub fn judge_expressions(image: &Image<'_>, judgements: &mut [Option<Judgement>]
     }
 }
 
+// Whether expression e is well formed with v variables, by a table with an entry for each expression of a layout: in each image with this layout whose judgements they are.
+pub fn expression_ok(layout: Layout, judgements: &[Option<Judgement>], v: u64, e: u64) -> bool
+    requires { (layout.expressions ≤ length judgements.now) × (v ≤ most_parameters) }
+    ensures { (image : List ℕ) → LayoutOf image layout → JudgementTable image layout.expressions judgements.now
+        → result ≡ expression_ok image v most_levels e }
+{
+    e < layout.expressions && judgements[e as usize].is_some_and(|j| u64::from(j.variables) <= v)
+}
+
 // An image with the judgement of each of its expressions.
 #[derive(Clone, Copy)]
 pub struct JudgedImage<'a> {
@@ -119,8 +129,7 @@ impl JudgedImage<'_> {
         requires { v ≤ most_parameters }
         ensures { result ≡ expression_ok self.now.image.words.now v most_levels e }
     {
-        e < self.image.layout.expressions
-            && self.judgements[e as usize].is_some_and(|j| u64::from(j.variables) <= v)
+        expression_ok(self.image.layout, self.judgements, v, e)
     }
 
     // Whether the expressions of n parameters from p on are well formed with v variables.

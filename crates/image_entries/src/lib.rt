@@ -14,12 +14,12 @@ mod expressions;
 mod judgement;
 mod scope;
 
-pub use expressions::{JudgedImage, judge_expressions};
+pub use expressions::{JudgedImage, expression_ok, judge_expressions};
 use image::{CheckRefusal, Image};
 pub use judgement::Judgement;
 pub use scope::Scope;
 
-// Whether n entries from a on lie in a list of m.
+// Whether n entries from a on lie in a list of m. They are any two words of an entry, first number and count, whose sum may be too large for a range.
 pub fn fits(a: u64, n: u64, m: u64) -> bool
     ensures { result ≡ leb (a + n) m }
 {
@@ -28,14 +28,15 @@ pub fn fits(a: u64, n: u64, m: u64) -> bool
 
 // ---- registers and gates
 
-// The first bad register of a list: one of size 0, or one that passes the limit in all.
-pub fn first_bad_register(image: &Image<'_>, at: u64, n: u64) -> Result<(), CheckRefusal>
+// The first bad register of a list: one of size 0, or one that passes the limit in all. It takes all words with a place, and not a part of them: a word
+// past the end is 0, and a part would ask that it is there.
+pub fn first_bad_register(words: &[u64], at: u64, n: u64) -> Result<(), CheckRefusal>
     requires { SmallPlace at × (n ≤ most_words) }
-    ensures { answer_flaw result ≡ first_bad (register_flaw (λ i. word image.now.words.now (at + i))) (λ i. at + i) (range 0 n) }
+    ensures { answer_flaw result ≡ first_bad (register_flaw (λ i. word words.now (at + i))) (λ i. at + i) (range 0 n) }
 {
     let mut total = 0;
     for i in 0..n {
-        let size = image.word(at + i);
+        let size = image::word(words, at + i);
         if size == 0 || image::MOST_ELEMENTS - total < size {
             return Err(CheckRefusal::Register(at + i));
         }
@@ -99,6 +100,21 @@ pub fn classical_argument_ok(image: &Image<'_>, a: u64) -> bool
     let register = image.word(at);
     register < image.layout.classical_registers
         && image.word(at + 1) <= image.word(image.classical_register_at(register))
+}
+
+// Whether the sizes of n arguments from a on, other than 1, are equal in a scope. The scope may be any number: sizes differ only between main and the bodies.
+pub fn sizes_match(image: &Image<'_>, scope: u64, a: u64, n: u64) -> bool
+    requires { a + n ≤ most_words }
+    ensures { result ≡ matching (map (argument_size image.now.words.now scope) (range a n)) }
+{
+    let most = image.rounds_of(scope, a, n);
+    for i in 0..n {
+        let size = image.argument_size(scope, a + i);
+        if size != 1 && size != most {
+            return false;
+        }
+    }
+    true
 }
 
 // Whether two sizes are equal, or one is 1; sizes of 0 are no sizes.

@@ -1,13 +1,14 @@
 // Judges the arguments of a scope's statements.
-ghost use Rattle.std.specs.Prelude.{◌≡◌, map, ◌+◌, ◌≤◌};
+ghost use Rattle.std.specs.Prelude.{◌≡◌, ◌+◌, ◌≤◌};
 ghost use Rattle.model.specs.Lists.{range, all};
-ghost use Rattle.model.specs.Image.{variables, argument_size};
-ghost use Rattle.model.specs.Check.{argument_ok, matching};
+ghost use Rattle.model.specs.Image.{variables};
+ghost use Rattle.model.specs.Check.{argument_ok};
 ghost use Rattle.model.specs.Limits.{most_words};
 
 use image::Image;
 
-// Where statements stand: scope 0 is main, and scope gate + 1 is that gate's body.
+// Where statements stand: scope 0 is main, and scope gate + 1 is that gate's body. The number is no enum of main and a gate, since document 01 numbers scopes
+// so in a trace.
 #[derive(Clone, Copy)]
 pub struct Scope<'a> {
     pub image: Image<'a>,
@@ -45,7 +46,7 @@ impl Scope<'_> {
         }
     }
 
-    // Whether n arguments from a on are well formed.
+    // Whether n arguments from a on are well formed. First number and count stand side by side, as the two words of an entry have them.
     #[tactic(auto, using(model::proofs::Ranges::all_start, model::proofs::Ranges::all_next))]
     pub fn arguments_ok(&self, a: u64, n: u64) -> bool
         requires { a + n ≤ most_words }
@@ -53,21 +54,6 @@ impl Scope<'_> {
     {
         for i in 0..n {
             if !self.argument_ok(a + i) {
-                return false;
-            }
-        }
-        true
-    }
-
-    // Whether the sizes of n arguments from a on, other than 1, are equal.
-    pub fn sizes_match(&self, a: u64, n: u64) -> bool
-        requires { a + n ≤ most_words }
-        ensures { result ≡ matching (map (argument_size self.now.image.words.now self.now.number) (range a n)) }
-    {
-        let most = self.image.rounds_of(self.number, a, n);
-        for i in 0..n {
-            let size = self.image.argument_size(self.number, a + i);
-            if size != 1 && size != most {
                 return false;
             }
         }

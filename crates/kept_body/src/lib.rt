@@ -22,14 +22,21 @@ use value::Value;
 // qubits stand behind the angles.
 const ANGLES_AT: usize = 4;
 
-// The words of an angle: sign, numerator and denominator of both parts. A slot has as many as its gate has parameters, so that the slots of a small
-// program are few words to clear: a slot of sixteen angles and sixteen qubits for each gate would be many more.
+// The words of an angle: sign, numerator and denominator of both parts. A slot has as many as its gate has parameters. A struct of sixteen angles
+// and sixteen qubits for each gate takes six times as long to fill, and in a small program twice as long to clear (docs/MEASURES.md).
 const VALUE_WORDS: usize = 6;
 
 // The most words that a slot may have.
 pub const MOST_SLOT_WORDS: usize = ANGLES_AT
     + VALUE_WORDS * image::FRAME_ANGLES
     + image::FRAME_QUBITS;
+
+// What the body of a gate has at hand: an angle for each parameter and a qubit for each argument.
+#[derive(Clone, Copy)]
+pub struct Frame {
+    pub angles: [Value; image::FRAME_ANGLES],
+    pub qubits: [u64; image::FRAME_QUBITS],
+}
 
 // ---- the width of slots
 
@@ -152,21 +159,20 @@ fn are_distinct(qubits: &[u64; image::FRAME_QUBITS], n: u64) -> bool
 pub fn copy_body(
     kept_bodies: &[u64],
     call: Call,
-    angles: &[Value; image::FRAME_ANGLES],
-    qubits: &[u64; image::FRAME_QUBITS],
+    frame: &Frame,
     out: &mut [u64],
     at: Position,
 ) -> Option<Position>
-    requires { CopyGiven kept_bodies.now out.old call qubits.now at }
-    ensures { (is_some result ≡ copies (slot_of kept_bodies.now call.gate) out.old call angles.now qubits.now at)
+    requires { CopyGiven kept_bodies.now out.old call frame.now.qubits at }
+    ensures { (is_some result ≡ copies (slot_of kept_bodies.now call.gate) out.old call frame.now.angles frame.now.qubits at)
         × ((image : List ℕ) → CalledGate image call → BodiesKept image kept_bodies.now out.old at.words
-        → BodyCopied image call angles.now qubits.now out.old at result out.new) }
+        → BodyCopied image call frame.now.angles frame.now.qubits out.old at result out.new) }
 {
     let width = kept_bodies[0] as usize;
     let first = 1 + width * call.gate as usize;
     let end = first + width;
     let slot = &kept_bodies[first..end];
-    if !is_same_body(slot, call, angles) {
+    if !is_same_body(slot, call, &frame.angles) {
         return None;
     }
     let words = slot[2] as usize;
@@ -176,14 +182,14 @@ pub fn copy_body(
     if record_writer::is_full(out, at, words) {
         return None;
     }
-    if !are_distinct(qubits, call.arguments) {
+    if !are_distinct(&frame.qubits, call.arguments) {
         return None;
     }
     let behind_angles = ANGLES_AT + VALUE_WORDS * call.parameters as usize;
     let behind_qubits = behind_angles + call.arguments as usize;
     let renaming = Renaming {
         old: &slot[behind_angles..behind_qubits],
-        new: &qubits[..call.arguments as usize],
+        new: &frame.qubits[..call.arguments as usize],
     };
     let written = copy::copy_records(out, renaming, slot[1] as usize, words, at.words as usize);
     Some(Position {
@@ -206,28 +212,25 @@ fn put_angles(slot: &mut [u64], angles: &[Value; image::FRAME_ANGLES], n: usize)
 }
 
 // Fills a slot with the body of a call that was run between two positions.
-fn put_body(
-    slot: &mut [u64],
-    call: Call,
-    angles: &[Value; image::FRAME_ANGLES],
-    qubits: &[u64; image::FRAME_QUBITS],
-    at: Position,
-    next: Position,
-)
+fn put_body(slot: &mut [u64], call: Call, frame: &Frame, at: Position, next: Position)
     requires { (slot_need call.parameters call.arguments ≤ length slot.old)
-        × (QubitsGiven qubits.now call.arguments × (call.parameters ≤ most_parameters))
+        × (QubitsGiven frame.now.qubits call.arguments × (call.parameters ≤ most_parameters))
         × ((at.words ≤ next.words) × (at.records ≤ next.records)) }
     ensures { SlotFilled slot.new call.site.levels_left at.words (next.words - at.words) (next.records - at.records)
-        call angles.now qubits.now }
+        call frame.now.angles frame.now.qubits }
 {
     slot[0] = call.site.levels_left;
     slot[1] = at.words;
     slot[2] = next.words - at.words;
     slot[3] = next.records - at.records;
     let n = call.parameters as usize;
-    put_angles(slot, angles, n);
+    put_angles(slot, &frame.angles, n);
     let behind_angles = ANGLES_AT + VALUE_WORDS * n;
-    record_writer::put_words(slot, behind_angles, &qubits[..call.arguments as usize]);
+    record_writer::put_words(
+        slot,
+        behind_angles,
+        &frame.qubits[..call.arguments as usize],
+    );
 }
 
 // Whether a body that wrote so many words with these qubits may be copied for others: with a qubit twice it may do something else than with two
@@ -243,24 +246,17 @@ fn may_be_copied(written: u64, qubits: &[u64; image::FRAME_QUBITS], n: u64) -> b
 }
 
 // Keeps the body of a call that was run to its end between two positions, if it may be copied.
-pub fn keep_body(
-    kept_bodies: &mut [u64],
-    call: Call,
-    angles: &[Value; image::FRAME_ANGLES],
-    qubits: &[u64; image::FRAME_QUBITS],
-    at: Position,
-    next: Position,
-)
-    requires { SlotGiven kept_bodies.old call qubits.now × ((at.words ≤ next.words) × (at.records ≤ next.records)) }
-    ensures { BodyPut kept_bodies.old call angles.now qubits.now at next kept_bodies.new
-        × ((image out out' : List ℕ) → BodyRun image call angles.now qubits.now out at next out'
+pub fn keep_body(kept_bodies: &mut [u64], call: Call, frame: &Frame, at: Position, next: Position)
+    requires { SlotGiven kept_bodies.old call frame.now.qubits × ((at.words ≤ next.words) × (at.records ≤ next.records)) }
+    ensures { BodyPut kept_bodies.old call frame.now.angles frame.now.qubits at next kept_bodies.new
+        × ((image out out' : List ℕ) → BodyRun image call frame.now.angles frame.now.qubits out at next out'
         → BodiesKept image kept_bodies.old out' next.words → BodiesKept image kept_bodies.new out' next.words) }
 {
-    if !may_be_copied(next.words - at.words, qubits, call.arguments) {
+    if !may_be_copied(next.words - at.words, &frame.qubits, call.arguments) {
         return;
     }
     let width = kept_bodies[0] as usize;
     let first = 1 + width * call.gate as usize;
     let end = first + width;
-    put_body(&mut kept_bodies[first..end], call, angles, qubits, at, next);
+    put_body(&mut kept_bodies[first..end], call, frame, at, next);
 }

@@ -33,7 +33,7 @@ use Rattle.gate.specs.PlainStatement.{PlainStatement}
 use Rattle.gate.specs.RanSteps.{plain_steps}
 use Rattle.gate.proofs.OpenGateLaws.{statement_steps_lem}
 use Rattle.statement.specs.declared.Site.{Site}
-use Rattle.linearize.specs.MainContext.{StartContext}
+use Rattle.linearize.specs.StartContext.{StartContext}
 use Rattle.linearize.specs.MainStatement.{MainStatement}
 
 -- ---- a main statement by its kind
@@ -48,7 +48,7 @@ plain_facts image scope (Measure q c) h f = f
 plain_facts image scope (Reset q) h f = f
 plain_facts image scope (Conditional r v t) h f = absurd (h r v t refl)
 
-module _ (image : List ℕ) (site : Site) (m : MainStatement image site) where
+module _ (image : List ℕ) {scope : ℕ} (site : Site) (m : MainStatement image scope site) where
   abbrev s : ℕ
   s = site.statement
 
@@ -57,11 +57,11 @@ module _ (image : List ℕ) (site : Site) (m : MainStatement image site) where
     facts_in_main : PlainFacts image 0 (statement image s)
     facts_in_main = rw (← e) (plain_facts image 0 x h (rw e m.facts))
 
-    pub plain_in_main : PlainStatement image site
+    pub plain_in_main : PlainStatement image scope site
     plain_in_main = record { listed = m.listed; facts = rw m.in_main facts_in_main }
 
     pub plain_steps_lem : (angles : List Value) (qubits : List ℕ)
-        → plain_steps image site.levels_left (scope_frame image site.scope angles qubits) s ≡ visit_statement image (opening image site.levels_left) (scope_frame image 0 angles qubits) s
+        → plain_steps image site.levels_left (scope_frame image scope angles qubits) s ≡ visit_statement image (opening image site.levels_left) (scope_frame image 0 angles qubits) s
     plain_steps_lem angles qubits = rw m.in_main (statement_steps_lem image 0 site.levels_left (scope_frame image 0 angles qubits) s facts_in_main)
 
   -- a conditional's steps: its start, its inner statement, its end
@@ -69,32 +69,32 @@ module _ (image : List ℕ) (site : Site) (m : MainStatement image site) where
     pub if_facts : Facts image 0 (model.Conditional r v t)
     if_facts = subst (Facts image 0) is m.facts
 
-    pub inner_listed : (levels-left : ℕ) → PlainStatement image (record { scope = 0; statement = t; levels_left = levels-left })
-    inner_listed levels-left = record { listed = if_facts.3; facts = if_facts.5 }
+    pub inner_listed : (levels-left : ℕ) → PlainStatement image scope (record { statement = t; levels_left = levels-left })
+    inner_listed levels-left = record { listed = if_facts.3; facts = rw m.in_main if_facts.5 }
 
     module _ {register-starts : List ℕ} (starts : RegisterTable image register-starts) {n : ℕ} (en : n ≡ quantum_registers image) where
       pub conditional_steps : (angles : List Value) (qubits : List ℕ) {size at : ℕ} → size ≡ word image at → at ≡ classical_register_at image r
-          → (write [] (Record.ConditionalStart (get_or register-starts (n + r) 0) size v) ∷ []) ++ (plain_steps image site.levels_left (scope_frame image 0 angles qubits) t ++ write [] Record.ConditionalEnd ∷ [])
+          → (write [] (Record.ConditionalStart (get_or register-starts (n + r) 0) size v) ∷ []) ++ (plain_steps image site.levels_left (scope_frame image scope angles qubits) t ++ write [] Record.ConditionalEnd ∷ [])
           ≡ visit_statement image (opening image site.levels_left) (scope_frame image 0 angles qubits) s
       unfolding visit_statement visit_plain visit_conditional first_bit
       conditional_steps angles qubits {size} ez ea =
           let here : get_or register-starts (n + r) 0 ≡ get_or (drop (quantum_registers image) register-starts) r 0 = ap (λ (k : ℕ). get_or register-starts (k + r) 0) en ∙ sym (get_or-drop (quantum_registers image) register-starts r 0) in
           let first : get_or register-starts (n + r) 0 ≡ first_bit image r = here ∙ starts.classical.each _ if_facts.1 in
           let b : size ≡ classical_size image r = ez ∙ ap (word image) ea in
-          sym (rw (is, ← first, ← b) refl)
+          sym (rw (m.in_main, is, ← first, ← b) refl)
 
 -- ---- the statements of main
 
 -- where main's statements are run
-pub main_context : {image : List ℕ} {kept-values : List KeptValue} {kept-bodies qubits out trace : List ℕ} {at : Position} → StartContext out trace at → ConstantsKept image kept-values → BodiesKept image kept-bodies out at.words → length qubits ≡ 16 → RunContext image kept-values kept-bodies 0 qubits out trace at
-main_context m f b h =
+pub main_context : {image : List ℕ} {kept-values : List KeptValue} {kept-bodies out trace : List ℕ} {at : Position} → StartContext out trace at → ConstantsKept image kept-values → BodiesKept image kept-bodies out at.words → RunContext image kept-values kept-bodies out trace at
+main_context m f b =
     record {
-      context = record { in_scope = record { sixteen = h; frame = refl }; constants = f; in_output = m.in_output };
+      context = record { constants = f; in_output = m.in_output };
       bodies = b;
       trace_length = m.trace_length;
     }
 
-pub main_statement : {image : List ℕ} (acc : Accepted image) {s levels-left : ℕ} → s < main_statements image → MainStatement image (record { scope = 0; statement = s; levels_left = levels-left })
+pub main_statement : {image : List ℕ} (acc : Accepted image) {s levels-left : ℕ} → s < main_statements image → MainStatement image 0 (record { statement = s; levels_left = levels-left })
 unfolding scope_statements
 main_statement {image} acc {s} h =
     record {
@@ -103,10 +103,16 @@ main_statement {image} acc {s} h =
       facts = subst (λ (k : ℕ). Facts image 0 (statement image k)) (zero-add s) (run_facts image acc 0 0 (main_statements image) s zero-le refl h);
     }
 
-pub main_steps_lem : (image : List ℕ) (levels-left : ℕ) (angles : List Value) (qubits : List ℕ) {n : ℕ} → n ≡ main_statements image
-    → in_rounds n (visit_statement image (opening image levels-left) (scope_frame image 0 angles qubits)) ≡ visit_body image (opening image levels-left) main_frame
-unfolding visit_body scope_statements in_rounds variables scope_qubits
-main_steps_lem image levels-left angles qubits e = rw e refl
+-- main's frame is the same whatever angles and qubits are lent
+pub main_statement_lem : (image : List ℕ) (levels-left : ℕ) (angles : List Value) (qubits : List ℕ) (s : ℕ)
+    → visit_statement image (opening image levels-left) (scope_frame image 0 angles qubits) s ≡ visit_statement image (opening image levels-left) main_frame s
+unfolding variables scope_qubits
+main_statement_lem image levels-left angles qubits s = refl
+
+pub main_steps_lem : (image : List ℕ) (levels-left : ℕ) {n : ℕ} → n ≡ main_statements image
+    → in_rounds n (visit_statement image (opening image levels-left) main_frame) ≡ visit_body image (opening image levels-left) main_frame
+unfolding visit_body scope_statements in_rounds
+main_steps_lem image levels-left e = rw e refl
 
 -- ---- the program
 

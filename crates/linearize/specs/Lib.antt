@@ -1,3 +1,3 @@
-pub mod MainContext
+pub mod StartContext
 pub mod MainStatement
 pub mod Linearizes

@@ -9,9 +9,9 @@ use Rattle.argument.specs.Frames.{scope_frame}
 use Rattle.statement.specs.declared.Site.{Site}
 use Rattle.gate.specs.RanSteps.{statement_steps}
 
--- the site is in main, and the image has its statement, which the check accepted
-pub record MainStatement (image : List ℕ) (site : Site) : Type 0 where
-  pub in_main : site.scope ≡ 0
+-- the scope of a site is main, and the image has the site's statement, which the check accepted
+pub record MainStatement (image : List ℕ) (scope : ℕ) (site : Site) : Type 0 where
+  pub in_main : scope ≡ 0
   pub listed : site.statement < all_statements image
   pub facts : Facts image 0 (statement image site.statement)
 
@@ -20,8 +20,8 @@ abbrev pub main_statement_steps : List ℕ → List Value → List ℕ → Site 
 main_statement_steps image angles qubits site = visit_statement image (opening image site.levels_left) (scope_frame image 0 angles qubits) site.statement
 
 -- what a conditional does after its start: its inner statement, and its end
-abbrev pub inner_steps : List ℕ → List Value → List ℕ → Site → List Step
-inner_steps image angles qubits inner = statement_steps image angles qubits inner ++ write [] Record.ConditionalEnd ∷ []
+abbrev pub inner_steps : List ℕ → ℕ → List Value → List ℕ → Site → List Step
+inner_steps image scope angles qubits inner = statement_steps image scope angles qubits inner ++ write [] Record.ConditionalEnd ∷ []
 
 -- the steps of all main statements
 abbrev pub main_steps : List ℕ → ℕ → List Step

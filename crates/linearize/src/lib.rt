@@ -7,14 +7,14 @@ ghost use Rattle.model.specs.Steps.{steps};
 ghost use Rattle.expression.specs.KeptValues.{ConstantsKept};
 ghost use Rattle.kept_body.specs.Slot.{WideEnough};
 ghost use Rattle.kept_body.specs.KeptBodies.{BodiesKept};
-ghost use Rattle.gate.specs.Running.{AtSite, Ran};
+ghost use Rattle.gate.specs.Running.{InFrame, Ran};
 ghost use Rattle.gate.specs.PlainStatement.{PlainStatement};
 ghost use Rattle.gate.specs.RanSteps.{RanSteps};
-ghost use Rattle.linearize.specs.MainContext.{most_table_entries, StartContext};
+ghost use Rattle.linearize.specs.StartContext.{most_table_entries, StartContext};
 ghost use Rattle.linearize.specs.MainStatement.{MainStatement, main_statement_steps, inner_steps, main_steps};
 ghost use Rattle.linearize.specs.Linearizes.{refused_with, Linearizes};
 
-use argument::Program;
+use argument::{Program, RunScope};
 use expression::KeptValue;
 use gate::Run;
 use image::{Image, Statement};
@@ -38,80 +38,73 @@ const FEW_BODY_WORDS: usize = 1024;
 // The words that are kept of the bodies of any program.
 const MOST_BODY_WORDS: usize = 1 + kept_body::MOST_SLOT_WORDS * (image::MOST_GATES as usize);
 
-// Where a statement of main stands, or the inner statement of a conditional.
-fn main_site(statement: u64, levels_left: u64) -> Site
-    ensures { result ≡ record { scope = 0; statement = statement; levels_left = levels_left } }
-{
-    Site {
-        scope: 0,
-        statement,
-        levels_left,
-    }
-}
-
 // The inner statement of a conditional, and the conditional's end.
 fn visit_inner_statement(
-    program: &Program<'_>,
+    scope: &RunScope<'_>,
     run: &mut Run<'_>,
     angles: &[Value; image::FRAME_ANGLES],
-    qubits: &[u64; image::FRAME_QUBITS],
     site: Site,
     at: Position,
 ) -> Linearized
-    requires { AtSite program.now.image.words.now run.old angles.now qubits.now site at × PlainStatement program.now.image.words.now site }
-    ensures { Ran (inner_steps program.now.image.words.now angles.now qubits.now site) program.now.image.words.now run.old at result run.new }
+    requires { InFrame scope.now.program.now.image.words.now run.old scope.now.number angles.now at
+        × PlainStatement scope.now.program.now.image.words.now scope.now.number site }
+    ensures { Ran (inner_steps scope.now.program.now.image.words.now scope.now.number angles.now scope.now.qubits.now site)
+        scope.now.program.now.image.words.now run.old at result run.new }
 {
-    let next = gate::visit_statement(program, run, angles, qubits, site, at)?;
+    let next = gate::visit_statement(scope, run, angles, site, at)?;
     record_writer::write_conditional_end(run.out, next)
 }
 
 // A conditional over a register: its start, its inner statement, its end.
 fn visit_conditional(
-    program: &Program<'_>,
+    scope: &RunScope<'_>,
     run: &mut Run<'_>,
     angles: &[Value; image::FRAME_ANGLES],
-    qubits: &[u64; image::FRAME_QUBITS],
     site: Site,
     register: u64,
     value: u64,
     inner: u64,
     at: Position,
 ) -> Linearized
-    requires { AtSite program.now.image.words.now run.old angles.now qubits.now site at
-        × MainStatement program.now.image.words.now site
-        × (statement program.now.image.words.now site.statement ≡ Conditional register value inner) }
-    ensures { Ran (main_statement_steps program.now.image.words.now angles.now qubits.now site) program.now.image.words.now run.old at result run.new }
+    requires { InFrame scope.now.program.now.image.words.now run.old scope.now.number angles.now at
+        × MainStatement scope.now.program.now.image.words.now scope.now.number site
+        × (statement scope.now.program.now.image.words.now site.statement ≡ Conditional register value inner) }
+    ensures { Ran (main_statement_steps scope.now.program.now.image.words.now angles.now scope.now.qubits.now site)
+        scope.now.program.now.image.words.now run.old at result run.new }
 {
+    let program = scope.program;
     let image = &program.image;
     let size = image.word(image.classical_register_at(register));
     let first = program.register_starts[(image.layout.quantum_registers + register) as usize];
     let next = record_writer::write_conditional_start(run.out, at, first, size, value)?;
-    let site = main_site(inner, site.levels_left);
-    visit_inner_statement(program, run, angles, qubits, site, next)
+    let inner_site = Site {
+        statement: inner,
+        ..site
+    };
+    visit_inner_statement(scope, run, angles, inner_site, next)
 }
 
 // A main statement, which may be a conditional.
 fn visit_main(
-    program: &Program<'_>,
+    scope: &RunScope<'_>,
     run: &mut Run<'_>,
     angles: &[Value; image::FRAME_ANGLES],
-    qubits: &[u64; image::FRAME_QUBITS],
     site: Site,
     at: Position,
 ) -> Linearized
-    requires { AtSite program.now.image.words.now run.old angles.now qubits.now site at × MainStatement program.now.image.words.now site }
-    ensures { Ran (main_statement_steps program.now.image.words.now angles.now qubits.now site) program.now.image.words.now run.old at result run.new }
+    requires { InFrame scope.now.program.now.image.words.now run.old scope.now.number angles.now at
+        × MainStatement scope.now.program.now.image.words.now scope.now.number site }
+    ensures { Ran (main_statement_steps scope.now.program.now.image.words.now angles.now scope.now.qubits.now site)
+        scope.now.program.now.image.words.now run.old at result run.new }
 {
-    let entry = program.image.statement(site.statement).unwrap();
+    let entry = scope.program.image.statement(site.statement).unwrap();
     match entry {
         Statement::Conditional {
             register,
             value,
             statement,
-        } => visit_conditional(
-            program, run, angles, qubits, site, register, value, statement, at,
-        ),
-        _ => gate::visit_statement(program, run, angles, qubits, site, at),
+        } => visit_conditional(scope, run, angles, site, register, value, statement, at),
+        _ => gate::visit_statement(scope, run, angles, site, at),
     }
 }
 
@@ -129,15 +122,26 @@ fn visit_program(
 {
     let angles = [expression::zero(); image::FRAME_ANGLES];
     let qubits = [0; image::FRAME_QUBITS];
+    let scope = RunScope {
+        program,
+        number: 0,
+        qubits: &qubits,
+    };
     let mut position = at;
     for s in 0..program.image.layout.main_statements {
-        let site = main_site(s, levels_left);
-        position = visit_main(program, run, &angles, &qubits, site, position)?;
+        let site = Site {
+            statement: s,
+            levels_left,
+        };
+        position = visit_main(&scope, run, &angles, site, position)?;
     }
     Ok(position)
 }
 
 // ---- the tables of a run. Each has one of two lengths: a small program should not pay for clearing the tables of a large one.
+// The output and the trace are handed on as they are lent. A struct of both would be taken apart where a `Run` is made, and each function would have to promise
+// that it lends the same two.
+// Each table has its own choice of a length: one function for all would take what is done with the table as a closure, and no closure has a const parameter.
 
 // The main statements, with a table of N words for what is kept of bodies: the width of a slot, and a slot for each gate.
 fn visit_with_kept_bodies<const N: usize>(

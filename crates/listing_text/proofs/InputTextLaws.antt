@@ -1,11 +1,10 @@
 -- The listing of an input is the text of its run, or the line of an input that is no depth and image.
 use Prim.Native.Nat.{ℕ, ◌-◌, ◌/◌, ◌%◌, ◌≤◌, ◌<◌, min}
 use native.Mathlib.Omega.{arith}
-use mathlib.Core.Logic.{◌⊎◌, inl, inr}
 use mathlib.Core.Path.{◌≡◌, refl, ap, ◌∙◌}
 use mathlib.Core.List.{List}
-use borrow.Author.Tests.{lt-leb, le-leb, eq-eqb, ne_eqb}
 use lib.ListN.{length, take, drop}
+use Rattle.std.specs.Prelude.{◌&&◌, eqb, leb, true, false}
 use Rattle.model.specs.Run.{stop, flawed, accepted, runs, numbers}
 use Rattle.model.specs.Listing.{little_endian, words_of, refused_text, run_text, listing}
 use Rattle.text.specs.declared.Text.{Text}
@@ -16,16 +15,15 @@ use Rattle.listing_text.specs.InputText.{input_text}
 
 -- ---- an input that is no depth and image
 
-pub listing_malformed : (bytes : List ℕ) → (¬ (length bytes % 8 ≡ 0)) ⊎ ((length bytes % 8 ≡ 0) × (length bytes < 8)) → refused_text (numbers 1 0 0) ≡ listing bytes
+pub listing_malformed : (bytes : List ℕ) → (eqb (length bytes % 8) 0 && leb 8 (length bytes)) ≡ false → refused_text (numbers 1 0 0) ≡ listing bytes
 unfolding listing
-listing_malformed bytes (inl h) = rw (ne_eqb (length bytes % 8) 0 h) refl
-listing_malformed bytes (inr h) = rw (eq-eqb (length bytes % 8) 0 h.0, lt-leb 8 (length bytes) h.1) refl
+listing_malformed bytes h = rw h refl
 
 -- ---- a depth and an image
 
-pub listing_run : (bytes : List ℕ) → length bytes % 8 ≡ 0 → 8 ≤ length bytes → input_text bytes ≡ listing bytes
+pub listing_run : (bytes : List ℕ) → (eqb (length bytes % 8) 0 && leb 8 (length bytes)) ≡ true → 8 ≤ length bytes → input_text bytes ≡ listing bytes
 unfolding listing
-listing_run bytes h k = rw (eq-eqb (length bytes % 8) 0 h, le-leb 8 (length bytes) k) (parted (λ (l : List ℕ) (n : ℕ). run_text (runs l n 8192 256)) bytes (omega arith))
+listing_run bytes h k = rw h (parted (λ (l : List ℕ) (n : ℕ). run_text (runs l n 8192 256)) bytes (omega arith))
 
 long_run : (depth : ℕ) (image : List ℕ) → 8192 < length image → runs image depth 8192 256 ≡ stop (flawed 1 0)
 unfolding runs accepted

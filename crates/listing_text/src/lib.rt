@@ -116,9 +116,7 @@ fn put_input_run(text: &mut Text, input: &[u8])
     ensures { Put (input_text input.now) text.old text.new }
 {
     let mut room = [0; text::WORDS_LOOKED_AT];
-    let n = (input.len() / text::WORD_BYTES - 1).min(text::WORDS_LOOKED_AT);
-    let image = &mut room[..n];
-    text::read_words(image, &input[text::WORD_BYTES..]);
+    let image = text::words_in(&mut room, &input[text::WORD_BYTES..]);
     put_run(text, image, text::first_word(input));
 }
 
@@ -127,7 +125,9 @@ fn put_listing(text: &mut Text, input: &[u8])
     requires { RoomFor 262144 text.old }
     ensures { Put (listing input.now) text.old text.new }
 {
-    if input.len() % text::WORD_BYTES != 0 || input.len() < text::WORD_BYTES {
+    if text::is_depth_and_words(input) {
+        put_input_run(text, input);
+    } else {
         put_refused(
             text,
             Numbers {
@@ -136,8 +136,6 @@ fn put_listing(text: &mut Text, input: &[u8])
                 second: 0,
             },
         );
-    } else {
-        put_input_run(text, input);
     }
 }
 

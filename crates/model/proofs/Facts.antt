@@ -1,12 +1,12 @@
 -- Laws of `Facts`: each statement of an accepted image has them. One law, for every later operation.
-use Prim.Native.Nat.{ℕ, ◌+◌, ◌≤◌, ◌<◌}
+use Prim.Native.Nat.{ℕ, zero, suc, ◌+◌, ◌≤◌, ◌<◌}
 use native.Mathlib.Omega.{arith}
 use mathlib.Core.Path.{◌≡◌, refl, sym, subst}
 use mathlib.Core.Bool.{Bool, true, false, cond}
 use mathlib.Core.List.{List, Memᴰ}
 use lib.Dec.{T, leb→le, ltb→lt, eqb→eq}
 use Rattle.model.specs.Lists.{range}
-use Rattle.model.specs.Image.{Statement, U, CX, Gate, Barrier, Measure, Reset, Conditional, Unknown, statement, gates, scope_statements}
+use Rattle.model.specs.Image.{statement_of, Statement, U, CX, Gate, Barrier, Measure, Reset, Conditional, Unknown, statement, gates, scope_statements}
 use Rattle.model.specs.Check.{plain_flaw, conditional_ok, conditional_flaw, flaw}
 use Rattle.model.specs.All.{All}
 use Rattle.model.specs.Accepted.{Accepted, PlainFacts, Facts}
@@ -70,3 +70,16 @@ module _ (image : List ℕ) where
   run_facts acc scope first count i within run h =
       let each = All-members {P = λ s. Facts image scope (statement image s)} (scope_statements image scope) (λ s m. facts acc scope s within m) in
       range-All {P = λ s. Facts image scope (statement image s)} first count (first + i) (subst (All (λ s. Facts image scope (statement image s))) run each) (omega arith) (omega arith)
+
+  -- a statement that is no if has the facts of a plain one
+  pub no_if_lem : (scope kind a b c d : ℕ) → ¬ (kind ≡ 7) → Facts image scope (statement_of kind a b c d) → PlainFacts image scope (statement_of kind a b c d)
+  unfolding statement_of
+  no_if_lem scope zero a b c d h f = f
+  no_if_lem scope (suc zero) a b c d h f = f
+  no_if_lem scope (suc (suc zero)) a b c d h f = f
+  no_if_lem scope (suc (suc (suc zero))) a b c d h f = f
+  no_if_lem scope (suc (suc (suc (suc zero)))) a b c d h f = f
+  no_if_lem scope (suc (suc (suc (suc (suc zero))))) a b c d h f = f
+  no_if_lem scope (suc (suc (suc (suc (suc (suc zero)))))) a b c d h f = f
+  no_if_lem scope (suc (suc (suc (suc (suc (suc (suc zero))))))) a b c d h f = absurd (h refl)
+  no_if_lem scope (suc (suc (suc (suc (suc (suc (suc (suc k)))))))) a b c d h f = f

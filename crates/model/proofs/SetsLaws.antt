@@ -1,12 +1,12 @@
 -- Words stored after other words, and the test for room.
-use Prim.Native.Nat.{ℕ, suc, ◌+◌, ◌≤◌, ◌<◌}
+use Prim.Native.Nat.{ℕ, suc, ◌+◌, ◌≤◌}
 use native.Mathlib.Nat.{zero-add}
 use native.Mathlib.Numerals.{add-one}
 use native.Mathlib.Omega.{arith}
 use mathlib.Core.Path.{◌≡◌, refl, ◌∙◌}
 use mathlib.Core.List.{List, [], ◌∷◌, ◌++◌, flat_map}
-use lib.ListN.{length, set, take, drop, get_or}
-use lib.Seq.{sets, sets-eq, take-suc, take-append_seam, length-take-le}
+use lib.ListN.{length, set, take, drop}
+use lib.Seq.{sets, sets-eq, take-append_seam}
 use Rattle.model.specs.Lists.{range}
 use Rattle.model.proofs.ListLaws.{range_snoc, flat_snoc}
 use Rattle.model.proofs.PlayLaws.{sets_append}
@@ -18,13 +18,6 @@ put_more out start i ws vs e h k = k ∙ rw (h, e) (sets_append out start ws vs)
 -- words at the front are what the front holds
 pub front : (ws out : List ℕ) → length ws ≤ length out → take (length ws) (sets out 0 ws) ≡ ws
 front ws out h = rw (sets-eq ws out 0 (omega arith)) (take-append_seam ws (drop (0 + length ws) out))
-
--- the next of some words
-pub put_next_word : {out' : List ℕ} (out : List ℕ) (start i : ℕ) (ws : List ℕ) → i < length ws → out' ≡ sets out start (take i ws)
-    → set out' (start + i) (get_or ws i 0) ≡ sets out start (take (i + 1) ws)
-put_next_word out start i ws h e =
-    let n = length-take-le i ws (omega arith) in
-    put_more out start (start + i) (take i ws) (get_or ws i 0 ∷ []) (omega arith) e refl ∙ rw (add-one i, take-suc ws i 0) refl
 
 pub three_put : (out : List ℕ) (p a b c : ℕ) → set (set (set out p a) (p + 1) b) (p + 2) c ≡ sets out p (a ∷ b ∷ c ∷ [])
 three_put out p a b c = let q : p + 2 ≡ suc (suc p) = omega arith in rw (q, add-one p) refl

@@ -8,6 +8,7 @@ ghost use Rattle.rational.specs.Rational.{magnitude_limit, LowestTerms, reduced,
 ghost use Rattle.rational.specs.Rational.{sum_magnitude, sum_sign, common_denominator, all_in_range, fraction_sum, difference, product, quotient, power, whole_root, rational_root};
 ghost use Rattle.rational.specs.Promise.{ChecksTo};
 
+// A fraction. Lowest terms are no invariant of it, since that would ask more of callers: `range_checked` takes a fraction that is not in lowest terms, and `==` any two.
 #[derive(Clone, Copy, PartialEq, Eq)]
 pub struct Rational64 {
     pub negative: bool,
@@ -24,7 +25,7 @@ const ROOT_LIMIT: u64 = 0x1_0000_0000;
 // 2^63 is the limit of a magnitude.
 pub const MAGNITUDE_BITS: u64 = 63;
 
-// The greatest common divisor, by Euclid's steps.
+// The greatest common divisor, by Euclid's steps. No index is counted: the loop ends where the remainder is 0, so it is no `for`.
 pub fn gcd(a: u64, b: u64) -> u64
     ensures { result ≡ gcd a b }
 {
@@ -121,7 +122,7 @@ fn all_in_range(l: u64, p: u64, q: u64, s: u64) -> bool
     l < MAGNITUDE_LIMIT && p < MAGNITUDE_LIMIT && q < MAGNITUDE_LIMIT && s < MAGNITUDE_LIMIT
 }
 
-// The whole part of the k-th root, by halving the interval that it lies in.
+// The whole part of the k-th root, by halving the interval that it lies in. No index is counted: the loop ends where the interval is one number, so it is no `for`.
 fn floor_root(n: u64, k: u64) -> u64
     requires { (1 < k) × (n < magnitude_limit) }
     ensures { result ≡ root k n }
@@ -177,11 +178,9 @@ impl Rational64 {
         requires { LowestTerms self }
         ensures { (result ≡ opposite self) × LowestTerms result }
     {
-        let s = sign_unless_zero(!self.negative, self.numer);
         Rational64 {
-            negative: s,
-            numer: self.numer,
-            denom: self.denom,
+            negative: sign_unless_zero(!self.negative, self.numer),
+            ..self
         }
     }
 

@@ -30,12 +30,17 @@ pub const CONDITIONAL_START_WORDS: usize = 4;
 
 pub const CONDITIONAL_END_WORDS: usize = 1;
 
-// The words that stand before the pairs of a head, before the angles of an opaque gate and before the qubits of a barrier.
+// The words that stand before the pairs of a head, before the angles of a U and of an opaque gate, and before the qubits of a barrier.
 pub const HEAD_START_WORDS: usize = 3;
+
+pub const U_START_WORDS: usize = 1;
 
 pub const OPAQUE_START_WORDS: usize = 4;
 
 pub const BARRIER_START_WORDS: usize = 2;
+
+// The words of a pair in a head: a register's number and an offset.
+pub const PAIR_WORDS: usize = 2;
 
 // The words of an angle in a record.
 pub const ANGLE_WORDS: usize = 4;

@@ -33,6 +33,10 @@ module _ (ws : List ℕ) where
   abbrev pub lengths_by_kind : List ℕ
   lengths_by_kind = (3 + 2 * (get_or ws 1 0 + get_or ws 2 0)) ∷ 14 ∷ 3 ∷ (4 + 4 * get_or ws 2 0 + get_or ws 3 0) ∷ (2 + get_or ws 1 0) ∷ 3 ∷ 2 ∷ 4 ∷ 1 ∷ []
 
+  pub of_kind_lem : (k kind available n r : ℕ) → kind ≡ get_or ws 0 0 → kind ≡ k → get_or lengths_by_kind k 0 ≡ n → r ≡ cond (leb n available) n 0 → r ≡ cond (leb (record_length ws) available) (record_length ws) 0
+  unfolding record_length
+  of_kind_lem k kind available n r e d f h = let z : record_length ws ≡ n = rw (sym e ∙ d) f in h ∙ sym (rw z refl)
+
   pub of_kind : (k n : ℕ) {r : Option ℕ} → get_or ws 0 0 ≡ k → get_or lengths_by_kind k 0 ≡ n → 1 ≤ n → r ≡ length_within (length ws) n → r ≡ whole_length ws
   unfolding record_length
   of_kind k n e f h d = let z : record_length ws ≡ n = rw e f in d ∙ sym (rw (z, le-leb 1 n h) refl)

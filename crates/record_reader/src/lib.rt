@@ -7,6 +7,17 @@ ghost use Rattle.record_reader.specs.Answer.{length_within, whole_length, next_r
 
 use record_kind::RecordKind;
 
+// The words of the parts of a record whose length is no constant, in the type of a record's words.
+const HEAD_START_WORDS: u64 = record_kind::HEAD_START_WORDS as u64;
+
+const PAIR_WORDS: u64 = record_kind::PAIR_WORDS as u64;
+
+const OPAQUE_START_WORDS: u64 = record_kind::OPAQUE_START_WORDS as u64;
+
+const ANGLE_WORDS: u64 = record_kind::ANGLE_WORDS as u64;
+
+const BARRIER_START_WORDS: u64 = record_kind::BARRIER_START_WORDS as u64;
+
 // Where no whole record of a known kind begins, and the words do not end at the position: the answer 17.
 #[derive(Clone, Copy, PartialEq, Eq, Debug)]
 pub struct NoRecord;
@@ -22,46 +33,46 @@ fn record_word(words: &[u64], k: usize) -> u64
 fn head_length(available: u64, qubits: u64, bits: u64) -> Option<u64>
     ensures { result ≡ length_within available (3 + 2 * (qubits + bits)) }
 {
-    if available < 3 {
+    if available < HEAD_START_WORDS {
         return None;
     }
-    let room = (available - 3) / 2;
+    let room = (available - HEAD_START_WORDS) / PAIR_WORDS;
     if room < qubits {
         return None;
     }
     if room - qubits < bits {
         return None;
     }
-    Some(3 + 2 * (qubits + bits))
+    Some(HEAD_START_WORDS + PAIR_WORDS * (qubits + bits))
 }
 
 // The length of the record of a gate that is not opened, if it is within the words available.
 fn opaque_length(available: u64, parameters: u64, arguments: u64) -> Option<u64>
     ensures { result ≡ length_within available (4 + 4 * parameters + arguments) }
 {
-    if available < 4 {
+    if available < OPAQUE_START_WORDS {
         return None;
     }
-    if (available - 4) / 4 < parameters {
+    if (available - OPAQUE_START_WORDS) / ANGLE_WORDS < parameters {
         return None;
     }
-    if available - 4 - 4 * parameters < arguments {
+    if available - OPAQUE_START_WORDS - ANGLE_WORDS * parameters < arguments {
         return None;
     }
-    Some(4 + 4 * parameters + arguments)
+    Some(OPAQUE_START_WORDS + ANGLE_WORDS * parameters + arguments)
 }
 
 // The length of a barrier record of some qubits, if it is within the words available.
 fn barrier_length(available: u64, qubits: u64) -> Option<u64>
     ensures { result ≡ length_within available (2 + qubits) }
 {
-    if available < 2 {
+    if available < BARRIER_START_WORDS {
         return None;
     }
-    if available - 2 < qubits {
+    if available - BARRIER_START_WORDS < qubits {
         return None;
     }
-    Some(2 + qubits)
+    Some(BARRIER_START_WORDS + qubits)
 }
 
 // The length of a record whose kind has a fixed length, if it is within the words available.
@@ -115,7 +126,7 @@ pub fn next_at(words: &[u64], at: usize) -> Result<Option<usize>, NoRecord>
     Err(NoRecord)
 }
 
-// The words of the record at a position, as a part of the slice, or no words if there is no record.
+// The words of the record at a position, as a part of the slice, or no words if there is no record. It is no `Option`, since document 01 names the sub-slice as the reader's form.
 pub fn next_record(words: &[u64], at: usize) -> &[u64]
     ensures { result.now ≡ next_words_of (next_at words.now at) }
 {

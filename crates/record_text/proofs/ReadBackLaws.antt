@@ -4,7 +4,7 @@ use native.Mathlib.Omega.{arith}
 use mathlib.Core.Path.{◌≡◌, refl, sym, ap, ap₂, ◌∙◌}
 use mathlib.Core.Bool.{Bool, true, false, ◌&&◌}
 use mathlib.Core.List.{List, [], ◌∷◌}
-use borrow.Author.Tests.{eq-eqb, ne_eqb}
+use borrow.Author.Tests.{eq-eqb, ne_eqb, le-ltb}
 use lib.Dec.{ltb}
 use lib.ListN.{length}
 use Rattle.model.specs.RecordReader.{records_in}
@@ -18,6 +18,9 @@ use Rattle.record_text.specs.ReadBack.{last_line, records_text, read_back}
 use Rattle.record_text.specs.ReadFront.{ReadFront}
 
 -- ---- which line is the last
+
+pub few_bytes : (n r : ℕ) → n ≤ 524288 → false ≡ (ltb 524288 n && ltb 0 r)
+few_bytes n r h = rw (le-ltb 524288 n h) refl
 
 module _ (n p r : ℕ) {b : Bool} (e : b ≡ (ltb 524288 n && ltb 0 r)) where
   pub last_more : b ≡ true → line (ascii "more" ∷ decimal p ∷ decimal r ∷ []) ≡ last_line n p r

@@ -35,6 +35,7 @@ fn put_front(text: &mut Text, words: &[u64]) -> Front
     let mut at = 0;
     let mut records = 0;
     loop {
+        // The reader answers the sub-slice that holds the record, a form that document 01 names: a slice without words where there is no record.
         let record = unit::next_record(words, at);
         if record.is_empty() {
             return Front { words: at, records };
@@ -75,9 +76,7 @@ fn put_read_back(text: &mut Text, input: &[u8])
     ensures { Put (read_back input.now) text.old text.new }
 {
     let mut room = [0; WORDS_READ];
-    let n = (input.len() / text::WORD_BYTES).min(WORDS_READ);
-    let words = &mut room[..n];
-    text::read_words(words, input);
+    let words = text::words_in(&mut room, input);
     let front = put_front(text, words);
     put_last(text, input.len(), front);
 }

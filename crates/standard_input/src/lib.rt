@@ -31,3 +31,13 @@ pub fn read_rest<R: Read>(input: &mut R) -> io::Result<()>
     io::copy(input, &mut io::sink())?;
     Ok(())
 }
+
+// Reads standard input: so many bytes at most, and the rest of it, which is left out.
+pub fn read_input<R: Input + Alloc>(rt: &R, most: usize) -> io::Result<Vec<u8, R::A>>
+    ensures { IfOk result (λ input. vec_len input ≤ most) }
+{
+    let mut standard = rt.reader();
+    let input = read_most(rt.alloc(), &mut standard, most)?;
+    read_rest(&mut standard)?;
+    Ok(input)
+}

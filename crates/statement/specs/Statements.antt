@@ -16,7 +16,7 @@ use Rattle.record_writer.specs.declared.Position.{Position}
 use Rattle.record_writer.specs.declared.LinearizeErrorKind.TheVariants as kind
 use Rattle.record_writer.specs.declared.LinearizeError.{LinearizeError}
 use Rattle.record_writer.specs.Promise.{RunResult, WroteSteps}
-use Rattle.argument.specs.Frames.{scope_frame, number_in_round, ScopeContext, CallArguments, AcceptedArgument, AcceptedBits}
+use Rattle.argument.specs.Frames.{scope_frame, number_in_round, AcceptedArgument, AcceptedBits}
 use Rattle.argument.specs.declared.Argument.{Argument}
 use Rattle.statement.specs.declared.Call.{Call}
 
@@ -40,11 +40,6 @@ pub record UStatement (image : List ℕ) (scope theta phi lambda q : ℕ) : Type
   pub expressions : T (all (expression_ok image (variables image scope) most_levels) (theta ∷ phi ∷ lambda ∷ []))
   pub argument : AcceptedArgument image scope q
 
--- a call in the frame of its scope: the check accepted its arguments
-pub record CallContext (image qubits : List ℕ) (call : Call) : Type 0 where
-  pub in_scope : ScopeContext image call.site.scope qubits
-  pub arguments_fit : CallArguments image call.site.scope call.argument call.arguments
-
 -- ---- the steps of a statement, from the qubits of its scope's frame
 
 -- a reset of each qubit of argument a
@@ -60,23 +55,23 @@ measure_steps image scope qubits q c =
 abbrev pub cx_steps : List ℕ → ℕ → List ℕ → ℕ → ℕ → List Step
 cx_steps image scope qubits control target = in_rounds (rounds image scope (control ∷ target ∷ [])) (write_cx image (scope_frame image scope [] qubits) control target)
 
--- how many rounds a call has
-abbrev pub call_rounds : List ℕ → Call → ℕ
-call_rounds image call = rounds image call.site.scope (range call.argument call.arguments)
+-- how many rounds a call of a scope has
+abbrev pub call_rounds : List ℕ → ℕ → Call → ℕ
+call_rounds image scope call = rounds image scope (range call.argument call.arguments)
 
 -- an opaque gate in each round of a call, with these angles
-abbrev pub opaque_steps : List ℕ → List ℕ → Call → List Value → List Step
-opaque_steps image qubits call angles =
-    in_rounds (call_rounds image call) (write_opaque image (scope_frame image call.site.scope [] qubits) call.gate (range call.argument call.arguments) angles)
+abbrev pub opaque_steps : List ℕ → ℕ → List ℕ → Call → List Value → List Step
+opaque_steps image scope qubits call angles =
+    in_rounds (call_rounds image scope call) (write_opaque image (scope_frame image scope [] qubits) call.gate (range call.argument call.arguments) angles)
 
 -- a gate whose body is not opened, in a round of a call
-unfoldable pub cut_round : List ℕ → List ℕ → Call → ℕ → List Step
-cut_round image qubits call i =
-    write [] (Record.Opaque call.gate [] (map (qubit_in image (scope_frame image call.site.scope [] qubits) i) (range call.argument call.arguments))) ∷ []
+unfoldable pub cut_round : List ℕ → ℕ → List ℕ → Call → ℕ → List Step
+cut_round image scope qubits call i =
+    write [] (Record.Opaque call.gate [] (map (qubit_in image (scope_frame image scope [] qubits) i) (range call.argument call.arguments))) ∷ []
 
 -- the gate in each round of the call
-abbrev pub cut_steps : List ℕ → List ℕ → Call → List Step
-cut_steps image qubits call = in_rounds (call_rounds image call) (cut_round image qubits call)
+abbrev pub cut_steps : List ℕ → ℕ → List ℕ → Call → List Step
+cut_steps image scope qubits call = in_rounds (call_rounds image scope call) (cut_round image scope qubits call)
 
 -- the qubits of n arguments from a on
 abbrev pub qubits_of_all : List ℕ → ℕ → List ℕ → ℕ → ℕ → List ℕ

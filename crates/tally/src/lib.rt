@@ -36,8 +36,10 @@ impl From<CheckRefusal> for TallyError {
 // while it is filled, its rows are opened to two depths, and what is known of it would have to be said beside the struct again.
 const ROWS: usize = MOST_GATES as usize;
 
-// The words of the head are these, and two for each qubit and each bit.
+// The words of the head are these, and a pair for each qubit and each bit.
 const HEAD_WORDS: u64 = record_kind::HEAD_START_WORDS as u64;
+
+const PAIR_WORDS: u64 = record_kind::PAIR_WORDS as u64;
 
 // ---- the bodies
 
@@ -106,9 +108,18 @@ fn head_words(accepted: &AcceptedImage<'_>) -> u64
 {
     let image = &accepted.image;
     let layout = image.layout;
-    let quantum = image.size_in_all(image.quantum_register_at(0), layout.quantum_registers);
-    let classical = image.size_in_all(image.classical_register_at(0), layout.classical_registers);
-    HEAD_WORDS + 2 * (quantum + classical)
+    let words = image.words;
+    let quantum = image::size_in_all(
+        words,
+        image.quantum_register_at(0),
+        layout.quantum_registers,
+    );
+    let classical = image::size_in_all(
+        words,
+        image.classical_register_at(0),
+        layout.classical_registers,
+    );
+    HEAD_WORDS + PAIR_WORDS * (quantum + classical)
 }
 
 // What the head adds. It comes with the first main statement.

@@ -192,7 +192,7 @@ impl OpenedScope<'_> {
     {
         let span = self.image.statements_of(self.scope);
         let mut total = Figures::NONE;
-        for s in span.start..span.end {
+        for s in span {
             total = total.plus(self.statement_figures(s));
         }
         total

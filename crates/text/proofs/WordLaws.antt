@@ -1,7 +1,6 @@
 -- The word of eight bytes is their number, the low byte first, and words are read into a room for so many at most.
-use Rattle.std.proofs.Common.{◌≡◌, ℕ, ◌≤◌, List, [], ◌∷◌, length, take, min, ap, ◌∙◌, arith}
+use Rattle.std.proofs.Common.{◌≡◌, ℕ, ◌≤◌, ◌-◌, ◌/◌, List, [], ◌∷◌, length, take, drop, min, ap, ap₂, ◌∙◌, arith, length-drop}
 use lib.ListN.{replicate, length-replicate}
-use lib.Seq.{length-take-le}
 use Rattle.std.specs.Int.{w64, from_le_bytes}
 use Rattle.model.specs.Listing.{little_endian, words_of}
 
@@ -17,7 +16,13 @@ eight_bytes (a ∷ b ∷ c ∷ d ∷ e ∷ []) k = absurd (omega arith)
 eight_bytes (a ∷ b ∷ c ∷ d ∷ e ∷ f ∷ []) k = absurd (omega arith)
 eight_bytes (a ∷ b ∷ c ∷ d ∷ e ∷ f ∷ g ∷ []) k = absurd (omega arith)
 
-pub words_read : (most m : ℕ) (bytes : List ℕ) {n : ℕ} {words : List ℕ} → n ≡ min m most → words ≡ words_of (length (take n (replicate {A = ℕ} most 0))) bytes → words ≡ words_of (min m most) bytes
-words_read most m bytes {n} e r =
-    let size : length (take n (replicate {A = ℕ} most 0)) ≡ min m most = omega (arith, length-take-le n (replicate {A = ℕ} most 0), length-replicate {A = ℕ} most 0) in
-    r ∙ ap (λ (k : ℕ). words_of k bytes) size
+-- the words that a room for so many at most has after they are read
+pub words_read : (most m : ℕ) (bytes : List ℕ) {words : List ℕ} → words ≡ words_of (min m (length (replicate {A = ℕ} most 0))) bytes → words ≡ words_of (min m most) bytes
+words_read most m bytes r = r ∙ ap (λ (k : ℕ). words_of (min m k) bytes) (length-replicate {A = ℕ} most 0)
+
+-- the same of the words behind the first eight bytes
+pub words_behind : (most : ℕ) (input : List ℕ) {bytes words : List ℕ} →
+    bytes ≡ drop 8 input → words ≡ words_of (min (length bytes / 8) (length (replicate {A = ℕ} most 0))) bytes → words ≡ words_of (min (length input / 8 - 1) most) (drop 8 input)
+words_behind most input {bytes} e r =
+    let size : length bytes / 8 ≡ length input / 8 - 1 = omega (arith, ap length e, length-drop 8 input) in
+    words_read most _ bytes r ∙ ap₂ (λ (k : ℕ) (l : List ℕ). words_of (min k most) l) size e

@@ -1,7 +1,7 @@
 // Bytes out, words in: decimals, lines and records as text, and words from little-endian bytes.
 #![tactic(auto)]
 
-ghost use Rattle.std.specs.Prelude.{◌≡◌, [], ◌∷◌, ◌+◌, ◌*◌, ◌/◌, ◌≤◌, ◌<◌, length, take, drop};
+ghost use Rattle.std.specs.Prelude.{◌≡◌, [], ◌∷◌, ◌+◌, ◌*◌, ◌/◌, ◌%◌, ◌≤◌, ◌<◌, ◌&&◌, eqb, leb, min, length, take, drop};
 ghost use Rattle.model.specs.Listing.{decimal, little_endian, words_of};
 ghost use Rattle.text.specs.Put.{Room, RoomFor, Put, PutMost};
 ghost use Rattle.text.specs.NumberLine.{spaced_numbers, spaced_most, named_line, named_line_most, numbers_line};
@@ -37,7 +37,8 @@ impl<'a> Text<'a> {
 
     // ---- bytes
 
-    // Puts a byte. Every method puts behind what was put before.
+    // Puts a byte. Every method puts behind what was put before. Each says what room it needs, since it is that of other bytes in each: no fact
+    // about room holds of every text, which a type could state.
     pub fn put_byte(&mut self, byte: u8)
         requires { Room (byte ∷ []) self.old }
         ensures { Put (byte ∷ []) self.old self.new }
@@ -159,17 +160,25 @@ fn is_numerator(words: &[u64], i: usize) -> bool
     requires { i < length words.now }
     ensures { result ≡ numerator words.now i }
 {
-    let kind = words[0];
-    if kind == RecordKind::U as u64 {
-        return i < U_WORDS - 1 && i % 2 == 1;
+    match RecordKind::try_from(words[0]) {
+        Ok(RecordKind::U) => i < U_WORDS - 1 && i % 2 == 1,
+        Ok(RecordKind::Opaque) => {
+            i >= OPAQUE_START_WORDS
+                && (((i - OPAQUE_START_WORDS) / ANGLE_WORDS) as u64) < words[2]
+                && i % 2 == 0
+        }
+        _ => false,
     }
-    kind == RecordKind::Opaque as u64
-        && i >= OPAQUE_START_WORDS
-        && (((i - OPAQUE_START_WORDS) / ANGLE_WORDS) as u64) < words[2]
-        && i % 2 == 0
 }
 
 // ---- words in
+
+// Whether an input is a depth and further whole words.
+pub fn is_depth_and_words(input: &[u8]) -> bool
+    ensures { result ≡ (eqb (length input.now % 8) 0 && leb 8 (length input.now)) }
+{
+    input.len() % WORD_BYTES == 0 && input.len() >= WORD_BYTES
+}
 
 // The word at the front of some bytes, the low byte first.
 pub fn first_word(bytes: &[u8]) -> u64
@@ -180,11 +189,21 @@ pub fn first_word(bytes: &[u8]) -> u64
 }
 
 // Reads as many words as there is room for from the front of some bytes.
-pub fn read_words(words: &mut [u64], bytes: &[u8])
+fn read_words(words: &mut [u64], bytes: &[u8])
     requires { 8 * length words.old ≤ length bytes.now }
     ensures { words.new ≡ words_of (length words.old) bytes.now }
 {
     for i in 0..words.len() {
         words[i] = first_word(&bytes[WORD_BYTES * i..]);
     }
+}
+
+// The words that some bytes hold, of those that there is room for: they are read into the front of the room.
+pub fn words_in<'a>(room: &'a mut [u64], bytes: &[u8]) -> &'a [u64]
+    ensures { result.now ≡ words_of (min (length bytes.now / 8) (length room.old)) bytes.now }
+{
+    let n = (bytes.len() / WORD_BYTES).min(room.len());
+    let words = &mut room[..n];
+    read_words(words, bytes);
+    words
 }

@@ -117,8 +117,5 @@ pub fn numbers_of(r: Linearized) -> Numbers
 pub fn position_of(r: Linearized) -> Position
     ensures { result ≡ position_of r }
 {
-    match r {
-        Ok(at) => at,
-        Err(e) => e.at,
-    }
+    r.unwrap_or_else(|e| e.at)
 }

@@ -31,7 +31,8 @@ pub fn cowhirame_check(image: &[u64], answer: &mut [u64; 2])
     *answer = check_words(unit::check(image));
 }
 
-// The words of a tally's answer: 0 0 and the nine figures, or a refusal's number and place and nine zeros.
+// The words of a tally's answer: 0 0 and the nine figures, or a refusal's number and place and nine zeros. The figures are named one by one,
+// in the order of the header, since an array has no names.
 fn tally_words(tallied: Result<Figures, TallyError>) -> [u64; 11]
     ensures { result ≡ tally_words (tally_answer_of tallied) }
 {

@@ -10,6 +10,7 @@ ghost use Rattle.value.specs.Promise.{EvaluatesTo, IfValue, GivesThen};
 
 use rational::{MAGNITUDE_LIMIT, Rational64};
 
+// An angle a + b·pi. That its parts are in lowest terms is no invariant, as it is none of a fraction.
 #[derive(Clone, Copy, PartialEq, Eq)]
 pub struct Value {
     pub a: Rational64,

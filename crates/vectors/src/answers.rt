@@ -33,8 +33,8 @@ fn line_agrees<F: Fn(&[u8], &mut [u8; LINE_BYTES]) -> usize>(
     has_bytes(&text[..n], expected)
 }
 
-// Whether reading records back gives an answer that is as expected. This is no call of `line_agrees`: the bound of a closure may not
-// name a const parameter yet, and the room is another.
+// Whether reading records back gives an answer that is as expected. This is no call of `line_agrees`, whose closure takes other room: no
+// proof is made yet of a function where the bound of a closure names a const parameter, as the room's length would be.
 fn records_agree<F: Fn(&[u8]) -> bool>(input: &[u8], is_expected: F) -> bool
     requires { F.IsAlwaysCallable is_expected }
 {
@@ -43,7 +43,7 @@ fn records_agree<F: Fn(&[u8]) -> bool>(input: &[u8], is_expected: F) -> bool
     is_expected(&text[..n])
 }
 
-// Whether an operation answers this. A line of vectors names an operation by its number, and here alone a number is an operation.
+// Whether an operation answers this. A line of vectors names an operation by its number, which this match alone reads: an enum of the four would be made and matched in one place.
 fn agrees(operation: u64, input: &[u8], expected: &[u64]) -> bool {
     match operation {
         1 => line_agrees(answer_text::check_answer, input, expected),

@@ -1,6 +1,8 @@
 // The text of a line of vectors: decimals with single spaces between them, and a line feed.
 ghost use Rattle.std.specs.Prelude.{◌≡◌, ◌++◌, ◌≤◌, ◌<◌, length, IfSome};
 
+use std::str;
+
 // Room for the words of a line: for more than an image may have, and for more records than are read back at once.
 pub const WORDS_ROOM: usize = 65600;
 
@@ -19,22 +21,12 @@ pub fn first_line(input: &[u8]) -> Option<(&[u8], &[u8])>
     Some(input.split_at(end))
 }
 
-// The number of the digits from `at` on, and where they end: at least one digit, and a number below 2^64. Where they end is found by reading them, so that
-// a `for` over all that is left would count the end beside itself.
-pub fn read_digits(text: &[u8], at: usize) -> Option<(u64, usize)> {
-    let mut n = 0u64;
-    let mut end = at;
-    while end < text.len() && text[end].is_ascii_digit() {
-        n = n.checked_mul(10)?.checked_add(u64::from(text[end] - b'0'))?;
-        end += 1;
+// The number that a part of a line is: at least one digit, and a number below 2^64.
+pub fn number(part: &[u8]) -> Option<u64> {
+    if !part.iter().all(|byte| byte.is_ascii_digit()) {
+        return None;
     }
-    if end == at { None } else { Some((n, end)) }
-}
-
-// The number that a part of a line is.
-fn number(part: &[u8]) -> Option<u64> {
-    let (n, end) = read_digits(part, 0)?;
-    if end == part.len() { Some(n) } else { None }
+    str::from_utf8(part).ok()?.parse().ok()
 }
 
 // How many equal words a part of a line stands for, and the word: `k*w` stands for k words w.

@@ -9,6 +9,7 @@ mod line;
 mod listings;
 mod number_line;
 mod numbers;
+mod operation;
 mod room;
 mod runs;
 mod sort;
@@ -53,7 +54,8 @@ fn line_agrees(
     Ok(false)
 }
 
-// Replays every line of a file that does not begin with #. There is room for the words of images that are too long.
+// Replays every line of a file that does not begin with #. There is room for the words of images that are too long. The lines are taken
+// from the front and counted: no proof is made yet of a `for` over `split_inclusive` in a function that is generic over what it prints to.
 fn replay(rt: &impl Print, sort: Sort, input: &[u8]) -> io::Result<()> {
     let mut words = room::filled::<u64, { line::WORDS_ROOM }>(0);
     let mut vectors = 0u64;

@@ -2,23 +2,26 @@
 ghost use Rattle.std.specs.Prelude.{◌≤◌, length};
 
 use crate::line;
+use crate::operation::Operation;
 use rational::Rational64;
 use value::Value;
 
 // How many numbers a line has.
 const NUMBERS: usize = 14;
 
-// A case and the four numbers of an angle.
+// A case and the four numbers of an angle. A line writes every result so, a number as the numerator of an angle of zeros, and only its
+// operation tells what the five numbers are: the case is no enum, and a result that is computed is compared with a line's as it stands.
 #[derive(Clone, Copy, PartialEq, Eq)]
 pub struct NumberResult {
     pub case: u64,
     pub value: Value,
 }
 
-// An operation with its operands and its result. The angles are as written, in lowest terms or not.
+// An operation with its operands and its result; none where no operation has the line's number, and then nothing agrees with the line.
+// The angles are as written, in lowest terms or not.
 #[derive(Clone, Copy)]
 pub struct Vector {
-    pub op: u64,
+    pub operation: Option<Operation>,
     pub x: Value,
     pub y: Value,
     pub expected: NumberResult,
@@ -35,21 +38,17 @@ fn may_have_a_sign(k: usize) -> bool {
     matches!(k, 1 | 3 | 5 | 7 | 10 | 12)
 }
 
-// The k-th number, which begins at `at`, and where its digits end. Only a numerator may have a sign.
-fn signed_number(text: &[u8], at: usize, k: usize) -> Option<(SignedNumber, usize)> {
-    let negative = may_have_a_sign(k) && text.get(at) == Some(&b'-');
-    let digits = if negative { at + 1 } else { at };
-    let (magnitude, end) = line::read_digits(text, digits)?;
-    let number = SignedNumber {
+// The k-th number, which is a part of a line. Only a numerator may have a sign.
+fn signed_number(part: &[u8], k: usize) -> Option<SignedNumber> {
+    let (negative, digits) = match part.strip_prefix(b"-") {
+        Some(behind) if may_have_a_sign(k) => (true, behind),
+        _ => (false, part),
+    };
+    let magnitude = line::number(digits)?;
+    Some(SignedNumber {
         negative,
         magnitude,
-    };
-    Some((number, end))
-}
-
-// The byte after the k-th number.
-fn separator(k: usize) -> u8 {
-    if k == NUMBERS - 1 { b'\n' } else { b' ' }
+    })
 }
 
 // The numbers, if the text is just these.
@@ -59,16 +58,11 @@ fn read_numbers(text: &[u8]) -> Option<[SignedNumber; NUMBERS]> {
         magnitude: 0,
     };
     let mut numbers = [zero; NUMBERS];
-    let mut at = 0;
-    for k in 0..NUMBERS {
-        let (number, end) = signed_number(text, at, k)?;
-        if end >= text.len() || text[end] != separator(k) {
-            return None;
-        }
-        numbers[k] = number;
-        at = end + 1;
+    let mut parts = text.strip_suffix(b"\n")?.split(|byte| *byte == b' ');
+    for (k, place) in numbers.iter_mut().enumerate() {
+        *place = signed_number(parts.next()?, k)?;
     }
-    if at == text.len() {
+    if parts.next().is_none() {
         Some(numbers)
     } else {
         None
@@ -98,7 +92,7 @@ fn angle(numbers: &[SignedNumber]) -> Value
 pub fn parse(text: &[u8]) -> Option<Vector> {
     let numbers = read_numbers(text)?;
     Some(Vector {
-        op: numbers[0].magnitude,
+        operation: Operation::try_from(numbers[0].magnitude).ok(),
         x: angle(&numbers[1..5]),
         y: angle(&numbers[5..9]),
         expected: NumberResult {

@@ -5,6 +5,7 @@ ghost use Rattle.value.specs.Value.{Sound};
 
 use crate::number_line;
 use crate::number_line::{NumberResult, Vector};
+use crate::operation::{AngleOperation, NumberOperation, Operation};
 use image::RefusalNumber;
 use rational::Rational64;
 use value::{Evaluation, Value};
@@ -23,6 +24,13 @@ fn is_sound(x: Value) -> bool
     ensures { result ≡ true → Sound x }
 {
     in_lowest_terms(x.a) && in_lowest_terms(x.b)
+}
+
+// Whether an operation on angles takes those of a line.
+fn are_sound(v: Vector) -> bool
+    ensures { result ≡ true → Sound v.x × Sound v.y }
+{
+    is_sound(v.x) && is_sound(v.y)
 }
 
 // A result of one number: the other three are 0.
@@ -45,50 +53,45 @@ fn float_result(case: u64, x: f32) -> NumberResult {
     one_number(case, float::f32_to_bits(x) as u64)
 }
 
-fn evaluation_result(e: Evaluation) -> NumberResult {
-    match e {
-        Evaluation::Value(value) => NumberResult { case: 0, value },
-        Evaluation::DivideByZero => one_number(RefusalNumber::DivideByZero as u64, 0),
-        Evaluation::ApproximateFail(f) => { float_result(RefusalNumber::ApproximateFail as u64, f) }
-        Evaluation::Overflow => one_number(RefusalNumber::NumericalOverflow as u64, 0),
-        Evaluation::FunctionOfFloats => { one_number(RefusalNumber::FunctionOfFloats as u64, 0) }
+impl From<Evaluation> for NumberResult {
+    fn from(evaluation: Evaluation) -> NumberResult {
+        match evaluation {
+            Evaluation::Value(value) => NumberResult { case: 0, value },
+            Evaluation::DivideByZero => one_number(RefusalNumber::DivideByZero as u64, 0),
+            Evaluation::ApproximateFail(f) => {
+                float_result(RefusalNumber::ApproximateFail as u64, f)
+            }
+            Evaluation::Overflow => one_number(RefusalNumber::NumericalOverflow as u64, 0),
+            Evaluation::FunctionOfFloats => {
+                one_number(RefusalNumber::FunctionOfFloats as u64, 0)
+            }
+        }
     }
 }
 
-// Operations 1 to 12. A line of vectors names an operation by its number, and here alone a number is an operation.
-fn evaluated(op: u64, x: Value, y: Value) -> Evaluation
-    requires { Sound x × Sound y }
+// What an operation makes of the angles of a line.
+fn evaluated(operation: AngleOperation, v: Vector) -> Evaluation
+    requires { Sound v.x × Sound v.y }
 {
-    match op {
-        1 => x.checked_add(y),
-        2 => x.checked_sub(y),
-        3 => x.checked_mul(y),
-        4 => x.checked_div(y),
-        5 => x.checked_pow(y),
-        6 => x.checked_neg(),
-        7 => x.checked_sin(),
-        8 => x.checked_cos(),
-        9 => x.checked_tan(),
-        10 => x.checked_exp(),
-        11 => x.checked_ln(),
-        _ => x.checked_sqrt(),
+    match operation {
+        AngleOperation::Add => v.x.checked_add(v.y),
+        AngleOperation::Sub => v.x.checked_sub(v.y),
+        AngleOperation::Mul => v.x.checked_mul(v.y),
+        AngleOperation::Div => v.x.checked_div(v.y),
+        AngleOperation::Pow => v.x.checked_pow(v.y),
+        AngleOperation::Neg => v.x.checked_neg(),
+        AngleOperation::Sin => v.x.checked_sin(),
+        AngleOperation::Cos => v.x.checked_cos(),
+        AngleOperation::Tan => v.x.checked_tan(),
+        AngleOperation::Exp => v.x.checked_exp(),
+        AngleOperation::Ln => v.x.checked_ln(),
+        AngleOperation::Sqrt => v.x.checked_sqrt(),
     }
-}
-
-// Operations 1 to 13, on angles in lowest terms.
-fn angles_result(op: u64, x: Value, y: Value) -> Option<NumberResult> {
-    if !is_sound(x) || !is_sound(y) {
-        return None;
-    }
-    if op == 13 {
-        return Some(float_result(0, x.into_float()));
-    }
-    Some(evaluation_result(evaluated(op, x, y)))
 }
 
 fn word_result(word: u64) -> Option<NumberResult> {
     if word < 0x1_0000_0000 {
-        Some(evaluation_result(Value::from_float(float::f32_from_bits(word))))
+        Some(NumberResult::from(Value::from_float(float::f32_from_bits(word))))
     } else {
         None
     }
@@ -104,29 +107,35 @@ fn root_result(k: u64, v: u64) -> Option<NumberResult> {
     }
 }
 
-// Operations 14 to 17, on plain numbers.
-fn numbers_result(op: u64, n: u64, m: u64) -> Option<NumberResult> {
-    match op {
-        14 => word_result(n),
-        15 => Some(float_result(0, float::nearest_f32(n))),
-        16 => Some(one_number(0, rational::gcd(n, m))),
-        17 => root_result(n, m),
-        _ => None,
+// The result of an operation on the whole numbers of a line: each is the numerator of an angle, and has no sign.
+fn numbers_result(operation: NumberOperation, v: Vector) -> Option<NumberResult> {
+    if v.x.a.negative || v.y.a.negative {
+        return None;
+    }
+    let n = v.x.a.numer;
+    let m = v.y.a.numer;
+    match operation {
+        NumberOperation::FromFloat => word_result(n),
+        NumberOperation::NearestFloat => Some(float_result(0, float::nearest_f32(n))),
+        NumberOperation::Gcd => Some(one_number(0, rational::gcd(n, m))),
+        NumberOperation::IntRoot => root_result(n, m),
     }
 }
 
 // The result of an operation on operands that it takes.
-fn computed(op: u64, x: Value, y: Value) -> Option<NumberResult> {
-    match op {
-        0 => None,
-        1..=13 => angles_result(op, x, y),
-        _ if x.a.negative || y.a.negative => None,
-        _ => numbers_result(op, x.a.numer, y.a.numer),
+fn computed(v: Vector) -> Option<NumberResult> {
+    match v.operation? {
+        Operation::OnAngles(operation) if are_sound(v) => {
+            Some(NumberResult::from(evaluated(operation, v)))
+        }
+        Operation::IntoFloat if are_sound(v) => Some(float_result(0, v.x.into_float())),
+        Operation::OnAngles(_) | Operation::IntoFloat => None,
+        Operation::OnNumbers(operation) => numbers_result(operation, v),
     }
 }
 
 fn agrees(v: Vector) -> bool {
-    computed(v.op, v.x, v.y) == Some(v.expected)
+    computed(v) == Some(v.expected)
 }
 
 // Replays a line.

@@ -44,7 +44,8 @@ impl From<[u64; 12]> for Expected {
     }
 }
 
-// The last number that the check answers.
+// The last number that the check answers. A line's number is compared with it as a number: RefusalNumber has the check's numbers first, so
+// that one test says what eight arms would.
 const LAST_OF_CHECK: u64 = RefusalNumber::Upward as u64;
 
 // The longest output and the longest trace that a line lends.

@@ -7,4 +7,4 @@ use Rattle.answer_text.proofs.put_check.Goals as goal
 pub returns : goal.returns
 returns c =
     let input = c.args.input.now in
-    check_put input (words_read 8193 (length input / 8) input c.min-n.ensures c.read_words.ensures) c.cowhirame_check.ensures c.put_number_line.ensures
+    check_put input (words_read 8193 (length input / 8) input c.words_in-image.ensures) c.cowhirame_check.ensures c.put_number_line.ensures

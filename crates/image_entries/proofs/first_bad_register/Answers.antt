@@ -17,7 +17,7 @@ loop-i-init c = (omega arith, refl, bad_all _ _ c.args.n)
 
 pub returns-then-size-eq0 : goal.returns-then-size-eq0
 returns-then-size-eq0 c = let l = c.loop-i in
-    let size : ℕ → ℕ = λ (i : ℕ). word c.args.image.now.words.now (c.args.at + i) in
+    let size : ℕ → ℕ = λ (i : ℕ). word c.args.words.now (c.args.at + i) in
     let wrong : register_flaw size l.i ≡ 2 = elim c.then-size-eq0.branch [
       | then-size-eq0-via-then-size-eq0 w ↦ register_zero size l.i l.total l.invariant.1 (sym c.word-size.ensures ∙ w.if-size-eq0.true)
       | then-size-eq0-via-else-size-eq0+then-total-size w ↦ register_over size l.i l.total l.invariant.1 (omega (arith, w.if-total-size.true, c.word-size.ensures))
@@ -26,7 +26,7 @@ returns-then-size-eq0 c = let l = c.loop-i in
 
 pub loop-i-preserved : goal.loop-i-preserved
 loop-i-preserved c = let l = c.loop-i in
-    let size : ℕ → ℕ = λ (i : ℕ). word c.args.image.now.words.now (c.args.at + i) in
+    let size : ℕ → ℕ = λ (i : ℕ). word c.args.words.now (c.args.at + i) in
     let w = c.word-size.ensures in (
       omega arith,
       ap (λ (z : ℕ). l.total + z) w ∙ sym (total_next size l.i l.total l.invariant.1),

@@ -16,15 +16,15 @@ pub returns-then-n-gt-MOST_WORDS : goal.returns-then-n-gt-MOST_WORDS
 unfolding contents_ok every
 returns-then-n-gt-MOST_WORDS c = rw (le-leb 9 _ c.if-n-lt-CONTENTS_WORDS.false, lt-leb _ 8192 c.if-n-gt-MOST_WORDS.true) refl
 
-pub returns-then-word_of-n : goal.returns-then-word_of-n
+pub returns-then-word-n : goal.returns-then-word-n
 unfolding contents_ok every
-returns-then-word_of-n c = rw (le-leb 9 _ c.if-n-lt-CONTENTS_WORDS.false, le-leb _ 8192 c.if-n-gt-MOST_WORDS.false, ne_eqb _ _ (λ e. c.if-word_of-n.true (c.word_of.ensures ∙ e))) refl
+returns-then-word-n c = rw (le-leb 9 _ c.if-n-lt-CONTENTS_WORDS.false, le-leb _ 8192 c.if-n-gt-MOST_WORDS.false, ne_eqb _ _ (λ e. c.if-word-n.true (c.word.ensures ∙ e))) refl
 
 pub returns-then-words-n : goal.returns-then-words-n
 unfolding contents_ok every
 returns-then-words-n c = let short = c.if-n-gt-MOST_WORDS.false in
     let long : ¬ _ = λ e. c.if-words-n.true (c.words.ensures ∙ adds_up_capped _ _ c.capped_counts-layout.ensures short e) in
-    rw (le-leb 9 _ c.if-n-lt-CONTENTS_WORDS.false, le-leb _ 8192 short, eq-eqb _ _ (sym c.word_of.ensures ∙ c.if-word_of-n.false), ne_eqb _ _ long) refl
+    rw (le-leb 9 _ c.if-n-lt-CONTENTS_WORDS.false, le-leb _ 8192 short, eq-eqb _ _ (sym c.word.ensures ∙ c.if-word-n.false), ne_eqb _ _ long) refl
 
 pub returns-then-layout-gt-MOST_GATES : goal.returns-then-layout-gt-MOST_GATES
 unfolding contents_ok every
@@ -32,7 +32,7 @@ returns-then-layout-gt-MOST_GATES c = let short = c.if-n-gt-MOST_WORDS.false in
     let total = sym c.words.ensures ∙ c.if-words-n.false in
     let image = c.args.words.now in
     let long = le-leb 9 _ c.if-n-lt-CONTENTS_WORDS.false in
-    let counted = eq-eqb _ _ (sym c.word_of.ensures ∙ c.if-word_of-n.false) in
+    let counted = eq-eqb _ _ (sym c.word.ensures ∙ c.if-word-n.false) in
     rw (long, le-leb _ 8192 short, counted, eq-eqb _ _ (whole_is _ _ c.capped_counts-layout.ensures _ short total), lt-leb (gates image) 128 (omega (arith, c.if-layout-gt-MOST_GATES.true, gates_are _ _ c.capped_counts-layout.ensures _ short total))) refl
 
 pub returns : goal.returns
@@ -40,7 +40,7 @@ unfolding contents_ok every
 returns c = let short = c.if-n-gt-MOST_WORDS.false in
     let total = sym c.words.ensures ∙ c.if-words-n.false in
     let long = le-leb 9 _ c.if-n-lt-CONTENTS_WORDS.false in
-    let counted = eq-eqb _ _ (sym c.word_of.ensures ∙ c.if-word_of-n.false) in
+    let counted = eq-eqb _ _ (sym c.word.ensures ∙ c.if-word-n.false) in
     let image = c.args.words.now in (
       rw (long, le-leb _ 8192 short, counted, eq-eqb _ _ (whole_is _ _ c.capped_counts-layout.ensures _ short total), le-leb (gates image) 128 (omega (arith, c.if-layout-gt-MOST_GATES.false, gates_are _ _ c.capped_counts-layout.ensures _ short total))) refl,
       refl,

@@ -5,12 +5,12 @@ use Rattle.std.proofs.Common.{sym, ◌∙◌}
 use Rattle.image.proofs.GatesAcceptedLaws.{variables_few}
 use Rattle.image_check.proofs.CallFitsLaws.{call_gate, call_parameters, call_arguments, parameters_of, arguments_of}
 use Rattle.image_check.proofs.statements.JudgedScope.call_flaw.Goals as goal
-use Rattle.image_check.proofs.statements.JudgedScope.call_flaw.Goals.{After-word-n}
+use Rattle.image_check.proofs.statements.JudgedScope.call_flaw.Goals.{After-word-arguments}
 
-few_arguments : (c : After-word-n) → c.args.a + c.word-n.result ≤ 8192
+few_arguments : (c : After-word-arguments) → c.args.a + c.word-arguments.result ≤ 8192
 few_arguments c = let a = c.args in
     let image = a.self.now.scope.image in
-    call_arguments image.words.now a.s a.g a.p a.a image.laid (sym c.call_fits.ensures ∙ c.if-not-call_fits.false) _ (arguments_of image.words.now a.g _ c.gate_at-at.ensures.is _ c.word-n.ensures)
+    call_arguments image.words.now a.s a.g a.p a.a image.laid (sym c.call_fits.ensures ∙ c.if-not-call_fits.false) _ (arguments_of image.words.now a.g _ c.gate_at-at.ensures.is _ c.word-arguments.ensures)
 
 pub gate_at-at-requires : goal.gate_at-at-requires
 gate_at-at-requires c = let a = c.args in
@@ -26,7 +26,7 @@ parameters_ok-requires c = let a = c.args in
     )
 
 pub arguments_ok-requires : goal.arguments_ok-requires
-arguments_ok-requires c = few_arguments (goal.at.arguments_ok-requires c).After-word-n
+arguments_ok-requires c = few_arguments (goal.at.arguments_ok-requires c).After-word-arguments
 
 pub sizes_match-requires : goal.sizes_match-requires
-sizes_match-requires c = few_arguments (goal.at.sizes_match-requires c).After-word-n
+sizes_match-requires c = few_arguments (goal.at.sizes_match-requires c).After-word-arguments

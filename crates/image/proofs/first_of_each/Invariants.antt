@@ -6,7 +6,7 @@ use lib.ListN.{length}
 use Rattle.model.specs.Lists.{range, sum}
 use Rattle.model.specs.Image.{word}
 use Rattle.image.specs.RegisterStarts.{RegisterStarts}
-use Rattle.image.proofs.Image.first_of_each.Given as goal
+use Rattle.image.proofs.first_of_each.Given as goal
 
 abbrev pub invariant-loop-r : goal.invariant-loop-r
-invariant-loop-r l = (length l.firsts ≡ length l.initial.firsts) × (l.total ≡ sum (map (λ (i : ℕ). word l.self.words.now (l.at + i)) (range 0 l.r))) × RegisterStarts (λ (i : ℕ). word l.self.words.now (l.at + i)) l.r l.firsts
+invariant-loop-r l = (length l.firsts ≡ length l.initial.firsts) × (l.total ≡ sum (map (λ (i : ℕ). word l.words (l.at + i)) (range 0 l.r))) × RegisterStarts (λ (i : ℕ). word l.words (l.at + i)) l.r l.firsts

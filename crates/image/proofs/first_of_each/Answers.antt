@@ -8,7 +8,7 @@ use Rattle.model.specs.Lists.{range, sum}
 use Rattle.model.specs.Image.{word}
 use Rattle.image.proofs.RegisterStartsLaws.{firsts_none, firsts_next, total_within}
 use Rattle.image.proofs.RegisterStartsLaws.{total_next}
-use Rattle.image.proofs.Image.first_of_each.Goals as goal
+use Rattle.image.proofs.first_of_each.Goals as goal
 
 pub loop-r-init : goal.loop-r-init
 unfolding sum range
@@ -16,11 +16,11 @@ loop-r-init c = (refl, refl, firsts_none _ _)
 
 pub overflow_add-total : goal.overflow_add-total
 overflow_add-total c = let l = c.loop-r in
-    record { fits = omega (arith, c.word-total.ensures, total_within (λ (i : ℕ). word c.args.self.now.words.now (c.args.at + i)) l.r c.args.n l.total c.loop-r-test.true l.invariant.1 c.requires.2) }
+    record { fits = omega (arith, c.word-total.ensures, total_within (λ (i : ℕ). word c.args.words.now (c.args.at + i)) l.r c.args.n l.total c.loop-r-test.true l.invariant.1 c.requires.2) }
 
 pub loop-r-preserved : goal.loop-r-preserved
 loop-r-preserved c = let l = c.loop-r in
-    let size : ℕ → ℕ = λ (i : ℕ). word c.args.self.now.words.now (c.args.at + i) in (
+    let size : ℕ → ℕ = λ (i : ℕ). word c.args.words.now (c.args.at + i) in (
       length-set l.firsts l.r l.total ∙ l.invariant.0,
       ap (λ (z : ℕ). l.total + z) c.word-total.ensures ∙ sym (total_next size l.r l.total l.invariant.1),
       firsts_next size l.r l.total l.firsts (search rules) l.invariant.1 l.invariant.2,
