@@ -8,6 +8,9 @@ use std::alloc::Allocator;
 use std::io;
 use std::io::Read;
 
+#[cfg(test)]
+mod tests;
+
 // Reads until so many bytes are read or the input ends, and answers the bytes.
 pub fn read_most<R: Read, A: Allocator>(
     alloc: A,
