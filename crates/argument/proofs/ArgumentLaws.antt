@@ -174,13 +174,13 @@ module _ {image : List ℕ} (acc : Accepted image) {scope : ℕ} {qubits : List 
           ap₂ (register_argument image) e ea
           ∙ same_argument (main_first image acc qubits a scope (take (scope_qubits image scope) qubits) h) (main_size image acc qubits a scope h)
 
-      pub quantum_part_lem : {register-starts : List ℕ} → RegisterTable image register-starts → {c : ℕ} → c ≡ 9 → scope ≡ 0 → RegisterEntry image register-starts c at
+      pub quantum_part_lem : {register-starts : List ℕ} → RegisterStarts (quantum_size image) (quantum_registers image) register-starts → {c : ℕ} → c ≡ 9 → scope ≡ 0 → RegisterEntry image register-starts c at
       unfolding first_qubit
       quantum_part_lem {register-starts} starts {c} e h =
           let m = main_register image acc qubits a scope h k in
           record {
             count = quantum_registers image;
-            starts = subst (λ (n : ℕ). RegisterStarts (λ i. word image (n + i)) (quantum_registers image) register-starts) (sym e) starts.quantum;
+            starts = subst (λ (n : ℕ). RegisterStarts (λ i. word image (n + i)) (quantum_registers image) register-starts) (sym e) starts;
             few = few_quantum acc;
             listed = subst (λ (n : ℕ). word image n < quantum_registers image) (sym ea) m.0;
             below = subst (λ (x : Argument). x.first < 4096) (sym (quantum_argument_is e h)) (first_below a k);

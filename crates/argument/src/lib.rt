@@ -2,6 +2,7 @@
 #![tactic(auto)]
 
 ghost use Rattle.std.specs.Prelude.{◌≡◌, ◌^◌, ◌<◌};
+ghost use Rattle.image.specs.RegisterStarts.{RegisterTable};
 ghost use Rattle.argument.specs.Frames.{AcceptedBits, number_in_round, RegisterEntry, register_argument, classical_argument};
 
 mod program;
@@ -55,7 +56,8 @@ fn register_part(image: &Image<'_>, starts: &[u64], sizes: u64, at: u64) -> Argu
 impl Program<'_> {
     // A classical argument, which main alone has: a part of a register.
     pub fn resolve_creg(&self, c: u64) -> Argument
-        requires { AcceptedBits self.now.image.words.now c }
+        requires { RegisterTable self.now.image.words.now self.now.register_starts.now
+            × AcceptedBits self.now.image.words.now c }
         ensures { result ≡ classical_argument self.now.image.words.now c }
     {
         let image = &self.image;

@@ -41,7 +41,7 @@ bodies_popped scope call at (Err e) trace r trace' p b = rw p.0 b
 pub ran_same_output : {ss : List Step} {out out₁ out' trace trace' : List ℕ} {at : Position} {r : RunResult} → out₁ ≡ out → RanSteps ss out₁ at trace r out' trace' → RanSteps ss out at trace r out' trace'
 ran_same_output e w = rw (← e) w
 
-pub context_same : {image : List ℕ} {kept-values : List KeptValue} {kept-bodies out out₁ trace : List ℕ} {at : Position} → out₁ ≡ out → RunContext image kept-values kept-bodies out trace at → RunContext image kept-values kept-bodies out₁ trace at
+pub context_same : {image register-starts : List ℕ} {kept-values : List KeptValue} {kept-bodies out out₁ trace : List ℕ} {at : Position} → out₁ ≡ out → RunContext image register-starts kept-values kept-bodies out trace at → RunContext image register-starts kept-values kept-bodies out₁ trace at
 context_same e r = rw e r
 
 -- ---- a called gate
@@ -61,7 +61,7 @@ module _ {image : List ℕ} {call : Call} (c : CalledGate image call) {qubits : 
         room = omega (arith, b.room, slot_ends (slot_width kept-bodies) call.gate (gates image) c.listed);
       }
 
-  pub copy_given : {kept-values : List KeptValue} {kept-bodies out trace : List ℕ} {at : Position} → RunContext image kept-values kept-bodies out trace at → CopyGiven kept-bodies out call qubits at
+  pub copy_given : {register-starts : List ℕ} {kept-values : List KeptValue} {kept-bodies out trace : List ℕ} {at : Position} → RunContext image register-starts kept-values kept-bodies out trace at → CopyGiven kept-bodies out call qubits at
   copy_given r =
       record {
         slot = slot_given r.bodies;
@@ -78,8 +78,8 @@ pub copied_ran : {image : List ℕ} {call : Call} (angles : List Value) (qubits 
     → RanSteps (opened_steps image call angles qubits) out at trace (Ok next) out' trace
 copied_ran angles qubits {trace = trace} c w = ran_steps (called_steps_lem c angles qubits) (wrote_ran trace w)
 
-pub body_run : {image : List ℕ} {kept-values : List KeptValue} {kept-bodies qubits out trace : List ℕ} {at : Position} {call : Call} {angles : List Value} {out' trace' : List ℕ} {next : Position}
-    → RunContext image kept-values kept-bodies out trace at → CalledGate image call → RanSteps (opened_steps image call angles qubits) out at trace (Ok next) out' trace'
+pub body_run : {image register-starts : List ℕ} {kept-values : List KeptValue} {kept-bodies qubits out trace : List ℕ} {at : Position} {call : Call} {angles : List Value} {out' trace' : List ℕ} {next : Position}
+    → RunContext image register-starts kept-values kept-bodies out trace at → CalledGate image call → RanSteps (opened_steps image call angles qubits) out at trace (Ok next) out' trace'
     → BodyRun image call angles qubits out at next out'
 body_run {qubits = qubits} {angles = angles} r c w =
     record { called = c; inside = r.context.in_output.inside; wrote = rw (called_steps_lem c angles qubits) (ran_wrote w refl).0 }

@@ -37,25 +37,25 @@ nested_in_body g = rw (add-one g) refl
 
 module _ {image : List ℕ} where
   -- the frame's angles, beside the rest of a statement's context
-  pub with_angles : {kept-values : List KeptValue} {out : List ℕ} {at : Position} {angles : List Value} → StatementContext image kept-values out at → SoundAngles angles → AngleContext image angles kept-values
+  pub with_angles : {register-starts : List ℕ} {kept-values : List KeptValue} {out : List ℕ} {at : Position} {angles : List Value} → StatementContext image register-starts kept-values out at → SoundAngles angles → AngleContext image angles kept-values
   with_angles c a = record { sound = a; constants = c.constants }
 
   -- other values are kept, and another position has as many words
-  pub context_kept : {kept-values kept-values' : List KeptValue} {kept-bodies out trace : List ℕ} {at p : Position} → RunContext image kept-values kept-bodies out trace at → ConstantsKept image kept-values' → InOutput out p → p.words ≡ at.words
-      → RunContext image kept-values' kept-bodies out trace p
+  pub context_kept : {register-starts : List ℕ} {kept-values kept-values' : List KeptValue} {kept-bodies out trace : List ℕ} {at p : Position} → RunContext image register-starts kept-values kept-bodies out trace at → ConstantsKept image kept-values' → InOutput out p → p.words ≡ at.words
+      → RunContext image register-starts kept-values' kept-bodies out trace p
   context_kept r f o e =
       record {
-        context = record { constants = f; in_output = o };
+        context = record { with_bits = r.context.with_bits; constants = f; in_output = o };
         bodies = rw e r.bodies;
         trace_length = r.trace_length;
       }
 
   -- where a loop over statements or rounds has come to
-  pub context_on : {kept-values kept-values' : List KeptValue} {kept-bodies kept-bodies' out trace out' trace' : List ℕ} {at position : Position} {g : ℕ → List Step} {n i : ℕ} → RunContext image kept-values kept-bodies out trace at → Looped g n out at i out' position → trace' ≡ trace → ConstantsKept image kept-values' → BodiesKept image kept-bodies' out' position.words
-      → RunContext image kept-values' kept-bodies' out' trace' position
+  pub context_on : {register-starts : List ℕ} {kept-values kept-values' : List KeptValue} {kept-bodies kept-bodies' out trace out' trace' : List ℕ} {at position : Position} {g : ℕ → List Step} {n i : ℕ} → RunContext image register-starts kept-values kept-bodies out trace at → Looped g n out at i out' position → trace' ≡ trace → ConstantsKept image kept-values' → BodiesKept image kept-bodies' out' position.words
+      → RunContext image register-starts kept-values' kept-bodies' out' trace' position
   context_on r k e f b =
       record {
-        context = record { constants = f; in_output = k.in_output };
+        context = record { with_bits = r.context.with_bits; constants = f; in_output = k.in_output };
         bodies = b;
         trace_length = subst (λ (t : List ℕ). most_trace_words ≤ length t) (sym e) r.trace_length;
       }
@@ -82,12 +82,12 @@ step_in_body image g levels-left angles q s f = rw (add-one g) (statement_steps_
 pub ran_open : {ss : List Step} {out out' trace trace' : List ℕ} {at p : Position} {r : RunResult} → InOutput out at → RanSteps ss out at trace r out' trace' → r ≡ Ok p → InOutput out' p
 ran_open o w e = wrote_open o (ran_wrote w e).0
 
-pub context_wrote : {image : List ℕ} {ss : List Step} {kept-values : List KeptValue} {kept-bodies out out' trace : List ℕ} {at p : Position} {r : RunResult}
-    → RunContext image kept-values kept-bodies out trace at → WroteSteps ss out at r out' → r ≡ Ok p → RunContext image kept-values kept-bodies out' trace p
+pub context_wrote : {image register-starts : List ℕ} {ss : List Step} {kept-values : List KeptValue} {kept-bodies out out' trace : List ℕ} {at p : Position} {r : RunResult}
+    → RunContext image register-starts kept-values kept-bodies out trace at → WroteSteps ss out at r out' → r ≡ Ok p → RunContext image register-starts kept-values kept-bodies out' trace p
 context_wrote {ss = ss} {out} {out'} {at = at} {p} d w e =
     let v : WroteSteps ss out at (Ok p) out' = rw e at w in
     record {
-      context = record { constants = d.context.constants; in_output = wrote_open d.context.in_output v };
+      context = record { with_bits = d.context.with_bits; constants = d.context.constants; in_output = wrote_open d.context.in_output v };
       bodies = bodies_later v.plays d.bodies;
       trace_length = d.trace_length;
     }

@@ -2,6 +2,7 @@
 use Rattle.std.specs.Prelude.{ℕ, zero, suc, ◌+◌, ◌*◌, ◌≤◌, List, length}
 use Rattle.value.specs.declared.Value.{Value}
 use Rattle.model.specs.Limits.{most_gates}
+use Rattle.image.specs.RegisterStarts.{RegisterTable}
 use Rattle.record_writer.specs.declared.Position.{Position}
 use Rattle.record_writer.specs.Promise.{InOutput, SoundAngles}
 use Rattle.expression.specs.declared.KeptValue.{KeptValue}
@@ -17,14 +18,15 @@ nested (suc g) = g
 abbrev pub most_trace_words : ℕ
 most_trace_words = 2 * most_gates
 
--- where a statement is run that opens no gate: the values kept are those of constants, and the position lies in the output
-pub record StatementContext (image : List ℕ) (kept-values : List KeptValue) (out : List ℕ) (at : Position) : Type 0 where
+-- where a statement is run that opens no gate: the table tells where the registers start, the values kept are those of constants, and the position lies in the output
+pub record StatementContext (image register-starts : List ℕ) (kept-values : List KeptValue) (out : List ℕ) (at : Position) : Type 0 where
+  pub with_bits : RegisterTable image register-starts
   pub constants : ConstantsKept image kept-values
   pub in_output : InOutput out at
 
 -- where any statement is run: the bodies kept stand in the output, and the trace is long enough, too
-pub record RunContext (image : List ℕ) (kept-values : List KeptValue) (kept-bodies out trace : List ℕ) (at : Position) : Type 0 where
-  pub context : StatementContext image kept-values out at
+pub record RunContext (image register-starts : List ℕ) (kept-values : List KeptValue) (kept-bodies out trace : List ℕ) (at : Position) : Type 0 where
+  pub context : StatementContext image register-starts kept-values out at
   pub bodies : BodiesKept image kept-bodies out at.words
   pub trace_length : most_trace_words ≤ length trace
 
@@ -33,7 +35,7 @@ abbrev pub TraceRoom : Position → ℕ → Type 0
 TraceRoom at n = at.trace + 2 * n ≤ most_trace_words
 
 -- where any statement of a scope is run, with the angles that its frame has: the trace has room for every call that may nest in the scope
-pub record FrameContext (image : List ℕ) (kept-values : List KeptValue) (kept-bodies : List ℕ) (scope : ℕ) (angles : List Value) (out trace : List ℕ) (at : Position) : Type 0 where
-  pub run : RunContext image kept-values kept-bodies out trace at
+pub record FrameContext (image register-starts : List ℕ) (kept-values : List KeptValue) (kept-bodies : List ℕ) (scope : ℕ) (angles : List Value) (out trace : List ℕ) (at : Position) : Type 0 where
+  pub run : RunContext image register-starts kept-values kept-bodies out trace at
   pub room : TraceRoom at (nested scope)
   pub sound : SoundAngles angles

@@ -2,6 +2,7 @@
 use Rattle.std.specs.Prelude.{ℕ, ◌≡◌, List}
 use Rattle.value.specs.declared.Value.{Value}
 use Rattle.model.specs.Steps.{Step}
+use Rattle.argument.specs.declared.program.Program.{Program}
 use Rattle.record_writer.specs.declared.Position.{Position}
 use Rattle.record_writer.specs.Promise.{RunResult, WroteSteps, position_of}
 use Rattle.expression.specs.KeptValues.{ConstantsKept}
@@ -10,18 +11,18 @@ use Rattle.gate.specs.declared.Run.{Run}
 use Rattle.gate.specs.RunContext.{StatementContext, RunContext, FrameContext}
 use Rattle.gate.specs.RanSteps.{RanSteps}
 
-module _ (image : List ℕ) (run : Run) where
+module _ (program : Program) (run : Run) where
   -- where a statement is run that opens no gate
   abbrev pub RunsPrimitive : Position → Type 0
-  RunsPrimitive at = StatementContext image run.kept_values.now run.out.now at
+  RunsPrimitive at = StatementContext program.image.words.now program.register_starts.now run.kept_values.now run.out.now at
 
   -- where any statement is run
   abbrev pub Runs : Position → Type 0
-  Runs at = RunContext image run.kept_values.now run.kept_bodies.now run.out.now run.trace.now at
+  Runs at = RunContext program.image.words.now program.register_starts.now run.kept_values.now run.kept_bodies.now run.out.now run.trace.now at
 
   -- where any statement of a scope is run, with the angles that its frame has
   abbrev pub InFrame : ℕ → List Value → Position → Type 0
-  InFrame scope angles at = FrameContext image run.kept_values.now run.kept_bodies.now scope angles run.out.now run.trace.now at
+  InFrame scope angles at = FrameContext program.image.words.now program.register_starts.now run.kept_values.now run.kept_bodies.now scope angles run.out.now run.trace.now at
 
 -- the same four slices are lent
 pub record SameLent (run run' : Run) : Type 0 where

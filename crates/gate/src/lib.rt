@@ -56,7 +56,7 @@ fn visit_primitive(
     entry: Statement,
     at: Position,
 ) -> Linearized
-    requires { RunsPrimitive scope.now.program.now.image.words.now run.old at
+    requires { RunsPrimitive scope.now.program.now run.old at
         × SoundAngles angles.now
         × PlainStatement scope.now.program.now.image.words.now scope.now.number site
         × (as_statement entry ≡ statement scope.now.program.now.image.words.now site.statement)
@@ -163,7 +163,7 @@ pub fn visit_statement(
     site: Site,
     at: Position,
 ) -> Linearized
-    requires { InFrame scope.now.program.now.image.words.now run.old scope.now.number angles.now at
+    requires { InFrame scope.now.program.now run.old scope.now.number angles.now at
         × PlainStatement scope.now.program.now.image.words.now scope.now.number site }
     ensures { Ran (statement_steps scope.now.program.now.image.words.now scope.now.number angles.now scope.now.qubits.now site)
         scope.now.program.now.image.words.now run.old at result run.new }
@@ -192,7 +192,7 @@ fn visit_call(
     call: Call,
     at: Position,
 ) -> Linearized
-    requires { InFrame scope.now.program.now.image.words.now run.old scope.now.number angles.now at
+    requires { InFrame scope.now.program.now run.old scope.now.number angles.now at
         × StatedCall scope.now.program.now.image.words.now scope.now.number call
         × CallStatement scope.now.program.now.image.words.now scope.now.number call }
     ensures { Ran (statement_steps scope.now.program.now.image.words.now scope.now.number angles.now scope.now.qubits.now call.site)
@@ -218,7 +218,7 @@ fn visit_gate(
     angles: [Value; image::FRAME_ANGLES],
     at: Position,
 ) -> Linearized
-    requires { Runs scope.now.program.now.image.words.now run.old at
+    requires { Runs scope.now.program.now run.old at
         × TraceRoom at (nested scope.now.number)
         × AnglesGiven angles call.parameters
         × CallStatement scope.now.program.now.image.words.now scope.now.number call }
@@ -250,7 +250,7 @@ fn visit_rounds(
     angles: [Value; image::FRAME_ANGLES],
     at: Position,
 ) -> Linearized
-    requires { Runs scope.now.program.now.image.words.now run.old at
+    requires { Runs scope.now.program.now run.old at
         × TraceRoom at call.gate
         × AnglesGiven angles call.parameters
         × CallStatement scope.now.program.now.image.words.now scope.now.number call
@@ -281,7 +281,7 @@ fn open_gate(
     at: Position,
 ) -> Linearized
     requires { ScopeContext program.now.image.words.now (suc call.gate) frame.qubits
-        × Runs program.now.image.words.now run.old at
+        × Runs program.now run.old at
         × TraceRoom at call.gate
         × AnglesGiven frame.angles call.parameters
         × OpenedCall program.now.image.words.now call }
@@ -306,7 +306,7 @@ fn visit_body(
     at: Position,
 ) -> Linearized
     requires { ScopeContext program.now.image.words.now (suc call.gate) frame.now.qubits
-        × Runs program.now.image.words.now run.old at
+        × Runs program.now run.old at
         × TraceRoom at call.gate
         × SoundAngles frame.now.angles
         × OpenedCall program.now.image.words.now call }

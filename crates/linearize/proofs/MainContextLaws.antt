@@ -33,7 +33,7 @@ use Rattle.gate.specs.PlainStatement.{PlainStatement}
 use Rattle.gate.specs.RanSteps.{plain_steps}
 use Rattle.gate.proofs.OpenGateLaws.{statement_steps_lem}
 use Rattle.statement.specs.declared.Site.{Site}
-use Rattle.linearize.specs.StartContext.{StartContext}
+use Rattle.linearize.specs.StartContext.{StartContext, MainContext}
 use Rattle.linearize.specs.MainStatement.{MainStatement}
 
 -- ---- a main statement by its kind
@@ -86,12 +86,12 @@ module _ (image : List ℕ) {scope : ℕ} (site : Site) (m : MainStatement image
 -- ---- the statements of main
 
 -- where main's statements are run
-pub main_context : {image : List ℕ} {kept-values : List KeptValue} {kept-bodies out trace : List ℕ} {at : Position} → StartContext out trace at → ConstantsKept image kept-values → BodiesKept image kept-bodies out at.words → RunContext image kept-values kept-bodies out trace at
+pub main_context : {image register-starts : List ℕ} {kept-values : List KeptValue} {kept-bodies out trace : List ℕ} {at : Position} → MainContext image register-starts out trace at → ConstantsKept image kept-values → BodiesKept image kept-bodies out at.words → RunContext image register-starts kept-values kept-bodies out trace at
 main_context m f b =
     record {
-      context = record { constants = f; in_output = m.in_output };
+      context = record { with_bits = m.starts; constants = f; in_output = m.start.in_output };
       bodies = b;
-      trace_length = m.trace_length;
+      trace_length = m.start.trace_length;
     }
 
 pub main_statement : {image : List ℕ} (acc : Accepted image) {s levels-left : ℕ} → s < main_statements image → MainStatement image 0 (record { statement = s; levels_left = levels-left })

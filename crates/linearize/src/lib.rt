@@ -10,7 +10,7 @@ ghost use Rattle.kept_body.specs.KeptBodies.{BodiesKept};
 ghost use Rattle.gate.specs.Running.{InFrame, Ran};
 ghost use Rattle.gate.specs.PlainStatement.{PlainStatement};
 ghost use Rattle.gate.specs.RanSteps.{RanSteps};
-ghost use Rattle.linearize.specs.StartContext.{most_table_entries, StartContext};
+ghost use Rattle.linearize.specs.StartContext.{most_table_entries, StartContext, MainContext};
 ghost use Rattle.linearize.specs.MainStatement.{MainStatement, main_statement_steps, inner_steps, main_steps};
 ghost use Rattle.linearize.specs.Linearizes.{refused_with, Linearizes};
 
@@ -46,7 +46,7 @@ fn visit_inner_statement(
     site: Site,
     at: Position,
 ) -> Linearized
-    requires { InFrame scope.now.program.now.image.words.now run.old scope.now.number angles.now at
+    requires { InFrame scope.now.program.now run.old scope.now.number angles.now at
         × PlainStatement scope.now.program.now.image.words.now scope.now.number site }
     ensures { Ran (inner_steps scope.now.program.now.image.words.now scope.now.number angles.now scope.now.qubits.now site)
         scope.now.program.now.image.words.now run.old at result run.new }
@@ -66,7 +66,7 @@ fn visit_conditional(
     inner: u64,
     at: Position,
 ) -> Linearized
-    requires { InFrame scope.now.program.now.image.words.now run.old scope.now.number angles.now at
+    requires { InFrame scope.now.program.now run.old scope.now.number angles.now at
         × MainStatement scope.now.program.now.image.words.now scope.now.number site
         × (statement scope.now.program.now.image.words.now site.statement ≡ Conditional register value inner) }
     ensures { Ran (main_statement_steps scope.now.program.now.image.words.now angles.now scope.now.qubits.now site)
@@ -92,7 +92,7 @@ fn visit_main(
     site: Site,
     at: Position,
 ) -> Linearized
-    requires { InFrame scope.now.program.now.image.words.now run.old scope.now.number angles.now at
+    requires { InFrame scope.now.program.now run.old scope.now.number angles.now at
         × MainStatement scope.now.program.now.image.words.now scope.now.number site }
     ensures { Ran (main_statement_steps scope.now.program.now.image.words.now angles.now scope.now.qubits.now site)
         scope.now.program.now.image.words.now run.old at result run.new }
@@ -115,7 +115,7 @@ fn visit_program(
     levels_left: u64,
     at: Position,
 ) -> Linearized
-    requires { StartContext run.old.out.now run.old.trace.now at
+    requires { MainContext program.now.image.words.now program.now.register_starts.now run.old.out.now run.old.trace.now at
         × ConstantsKept program.now.image.words.now run.old.kept_values.now
         × BodiesKept program.now.image.words.now run.old.kept_bodies.now run.old.out.now at.words }
     ensures { Ran (main_steps program.now.image.words.now levels_left) program.now.image.words.now run.old at result run.new }
@@ -153,7 +153,7 @@ fn visit_with_kept_bodies<const N: usize>(
     trace: &mut [u64],
     at: Position,
 ) -> Linearized
-    requires { StartContext out.old trace.old at
+    requires { MainContext program.now.image.words.now program.now.register_starts.now out.old trace.old at
         × ConstantsKept program.now.image.words.now kept_values.old
         × WideEnough program.now.image.words.now slot_width
         × (1 + slot_width * program.now.image.layout.gates ≤ N)
@@ -180,7 +180,7 @@ fn visit_keeping_bodies(
     trace: &mut [u64],
     at: Position,
 ) -> Linearized
-    requires { StartContext out.old trace.old at × ConstantsKept program.now.image.words.now kept_values.old }
+    requires { MainContext program.now.image.words.now program.now.register_starts.now out.old trace.old at × ConstantsKept program.now.image.words.now kept_values.old }
     ensures { RanSteps (main_steps program.now.image.words.now levels_left) out.old at trace.old result out.new trace.new }
 {
     let width = kept_body::slot_width(&program.image);
@@ -214,7 +214,7 @@ fn visit_with_kept_values<const N: usize>(
     trace: &mut [u64],
     at: Position,
 ) -> Linearized
-    requires { StartContext out.old trace.old at
+    requires { MainContext program.now.image.words.now program.now.register_starts.now out.old trace.old at
         × (expressions program.now.image.words.now ≤ N)
         × (N ≤ most_table_entries) }
     ensures { RanSteps (main_steps program.now.image.words.now levels_left) out.old at trace.old result out.new trace.new }
@@ -231,7 +231,7 @@ fn visit_keeping_values(
     trace: &mut [u64],
     at: Position,
 ) -> Linearized
-    requires { StartContext out.old trace.old at }
+    requires { MainContext program.now.image.words.now program.now.register_starts.now out.old trace.old at }
     ensures { RanSteps (main_steps program.now.image.words.now levels_left) out.old at trace.old result out.new trace.new }
 {
     if program.image.layout.expressions <= image::FEW_EXPRESSIONS as u64 {

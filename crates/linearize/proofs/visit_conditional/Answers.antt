@@ -28,7 +28,7 @@ pub returns : goal.returns
 returns c = let pre = c.requires in
     let program = c.args.scope.now.program.now in
     let v = c.visit_inner_statement.ensures in
-    let steps = ran_steps (conditional_steps _ _ pre.1 pre.2 program.starts program.image.laid.quantum_registers_is _ _ c.word-size.ensures c.classical_register_at.ensures.is) (wrote_then c.write_conditional_start.ensures c.in_ok-next.was v.steps) in
+    let steps = ran_steps (conditional_steps _ _ pre.1 pre.2 pre.0.run.context.with_bits program.image.laid.quantum_registers_is _ _ c.word-size.ensures c.classical_register_at.ensures.is) (wrote_then c.write_conditional_start.ensures c.in_ok-next.was v.steps) in
     record { steps = steps; constants = v.constants; bodies = v.bodies; lent = search rules }
 
 pub returns-in_err-next : goal.returns-in_err-next
@@ -36,5 +36,5 @@ returns-in_err-next c = let pre = c.requires in
     let program = c.args.scope.now.program.now in
     let w =
     ran_answer (handed_on _ c.from_residual.ensures.1)
-    (ran_steps (conditional_steps _ _ pre.1 pre.2 program.starts program.image.laid.quantum_registers_is _ _ c.word-size.ensures c.classical_register_at.ensures.is) (wrote_stops _ _ c.write_conditional_start.ensures c.in_err-next.was)) in
+    (ran_steps (conditional_steps _ _ pre.1 pre.2 pre.0.run.context.with_bits program.image.laid.quantum_registers_is _ _ c.word-size.ensures c.classical_register_at.ensures.is) (wrote_stops _ _ c.write_conditional_start.ensures c.in_err-next.was)) in
     record { steps = w; constants = pre.0.run.context.constants; bodies = bodies_ran w pre.0.run.bodies; lent = search rules }

@@ -14,12 +14,12 @@ use Rattle.linearize.proofs.visit_program.Goals as goal
 
 pub loop-s-init : goal.loop-s-init
 loop-s-init c = let pre = c.requires in
-    (looped_start _ _ pre.0.in_output, refl, pre.1, pre.2, lent_same _)
+    (looped_start _ _ pre.0.start.in_output, refl, pre.1, pre.2, lent_same _)
 
 pub visit_main-requires : goal.visit_main-requires
 visit_main-requires c = let pre = c.requires in
     let loop = c.loop-s.invariant in
-    (record { run = context_on (main_context pre.0 pre.1 pre.2) loop.0 loop.1 loop.2 loop.3; room = omega (arith, pre.0.no_calls, loop.0.level); sound = rw c.zero-angles.ensures.0 (repeated_sound _ zero_sound) }, main_statement c.args.program.now.accepted (omega (arith, c.loop-s-test.true, c.args.program.now.image.laid.main_statements_is)))
+    (record { run = context_on (main_context pre.0 pre.1 pre.2) loop.0 loop.1 loop.2 loop.3; room = omega (arith, pre.0.start.no_calls, loop.0.level); sound = rw c.zero-angles.ensures.0 (repeated_sound _ zero_sound) }, main_statement c.args.program.now.accepted (omega (arith, c.loop-s-test.true, c.args.program.now.image.laid.main_statements_is)))
 
 pub returns-in_err-position : goal.returns-in_err-position
 returns-in_err-position c = let pre = c.requires in
