@@ -3,11 +3,13 @@ use types.Run.{OneOf}
 use denote.Enum.Declared.{tag_of}
 use Rattle.value.specs.contracts.Evaluation.{the_type}
 use mathlib.Core.Logic.{⊎_elim}
-use Prim.Native.Nat.{ℕ, ◌≤◌, ◌<◌, ◌^◌}
+use Prim.Native.Nat.{ℕ, zero, suc, ◌+◌, ◌-◌, ◌≤◌, ◌<◌, ◌^◌}
+use borrow.Author.Tests.{ltb-true, ltb-false}
 use native.Mathlib.Omega.{arith}
 use mathlib.Core.Path.{◌≡◌, refl, sym, ap, ◌∙◌, subst}
+use mathlib.Core.Bool.{Bool, true, false}
 use mathlib.Core.List.{List, [], ◌∷◌}
-use lib.Dec.{T, ltb→lt}
+use lib.Dec.{T, ltb, ltb→lt}
 use lib.ListN.{get_or}
 use Rattle.std.proofs.lemmas.List.{get_or_default}
 use lib.Ieee.{Float, binary32, of_bits}
@@ -16,7 +18,7 @@ use Rattle.value.specs.declared.Evaluation.{Evaluation}
 use Rattle.value.specs.declared.Evaluation.TheVariants as evaluation
 use Rattle.value.specs.Value.{Sound, and_then, pi, integer, from_float}
 use Rattle.value.specs.Promise.{EvaluatesTo}
-use Rattle.model.specs.Image.{Expr, Pi, Real, Int, Var, Binary, Unary, Binop, Unop, expressions, expression, expression_at}
+use Rattle.model.specs.Image.{Expr, Pi, Real, Int, Var, Binary, Unary, Binop, Add, Sub, Mul, Div, Pow, Unop, Neg, Sin, Cos, Tan, Exp, Ln, Sqrt, expressions, expression, expression_of, expression_at}
 use Rattle.model.specs.Check.{entry_ok, expression_ok}
 use Rattle.model.specs.Evaluate.{unary, binary, value_of, evaluate, zero_value}
 use Rattle.model.proofs.All.{test}
@@ -112,13 +114,13 @@ module _ (values : List Value) (op : ℕ → Evaluation) where
   over_one f a p t = record { is = t.is ∙ sym (rw (sym p.is) refl); sound = t.sound }
 
   -- "The left operand's refusal wins."
-  pub left_refuses : (f : Binop) (a b : ℕ) {r : Evaluation} → EvaluatesTo (op a) r → NoValue r → EvaluatesTo (value_of values op (Binary f a b)) r
+  pub left_refuses_binary : (f : Binop) (a b : ℕ) {r : Evaluation} → EvaluatesTo (op a) r → NoValue r → EvaluatesTo (value_of values op (Binary f a b)) r
   unfolding value_of
-  left_refuses f a b {r} p k = record { is = sym (rw (sym p.is) (sym (stays r _ k))); sound = p.sound }
+  left_refuses_binary f a b {r} p k = record { is = sym (rw (sym p.is) (sym (stays r _ k))); sound = p.sound }
 
-  pub right_refuses : (f : Binop) (a b : ℕ) {x : Value} {r : Evaluation} → EvaluatesTo (op a) (evaluation.Value x) → EvaluatesTo (op b) r → NoValue r → EvaluatesTo (value_of values op (Binary f a b)) r
+  pub right_refuses_binary : (f : Binop) (a b : ℕ) {x : Value} {r : Evaluation} → EvaluatesTo (op a) (evaluation.Value x) → EvaluatesTo (op b) r → NoValue r → EvaluatesTo (value_of values op (Binary f a b)) r
   unfolding value_of
-  right_refuses f a b {r = r} p q k = record { is = sym (rw (sym p.is, sym q.is) (sym (stays r _ k))); sound = q.sound }
+  right_refuses_binary f a b {r = r} p q k = record { is = sym (rw (sym p.is, sym q.is) (sym (stays r _ k))); sound = q.sound }
 
   pub only_refuses : (f : Unop) (a : ℕ) {r : Evaluation} → EvaluatesTo (op a) r → NoValue r → EvaluatesTo (value_of values op (Unary f a)) r
   unfolding value_of
@@ -142,3 +144,52 @@ module _ (values : List Value) (op : ℕ → Evaluation) where
   over_variable i d s h =
       let e : get_or values i d ≡ get_or values i zero_value = get_or_default values i d zero_value (omega (arith, s.sixteen)) in
       record { is = ap evaluation.Value e; sound = rw e (s.each i h) }
+
+-- ---- the value of an entry by the number of its kind
+
+module _ (a b : ℕ) where
+  -- the operation of a kind from 4 to 8, and of one from 9 to 15
+  binop : (kind : ℕ) → 4 ≤ kind → kind < 9 → ((f : Binop) × (expression_of kind a b ≡ Binary f a b))
+  unfolding expression_of
+  binop (suc (suc (suc (suc zero)))) h l = (Add, refl)
+  binop (suc (suc (suc (suc (suc zero))))) h l = (Sub, refl)
+  binop (suc (suc (suc (suc (suc (suc zero)))))) h l = (Mul, refl)
+  binop (suc (suc (suc (suc (suc (suc (suc zero))))))) h l = (Div, refl)
+  binop (suc (suc (suc (suc (suc (suc (suc (suc zero)))))))) h l = (Pow, refl)
+  binop zero h l = absurd (omega arith)
+  binop (suc zero) h l = absurd (omega arith)
+  binop (suc (suc zero)) h l = absurd (omega arith)
+  binop (suc (suc (suc zero))) h l = absurd (omega arith)
+  binop (suc (suc (suc (suc (suc (suc (suc (suc (suc n))))))))) h l = absurd (omega arith)
+
+  unop : (n : ℕ) → n < 7 → ((f : Unop) × (expression_of (9 + n) a b ≡ Unary f a))
+  unfolding expression_of
+  unop zero l = (Neg, refl)
+  unop (suc zero) l = (Sin, refl)
+  unop (suc (suc zero)) l = (Cos, refl)
+  unop (suc (suc (suc zero))) l = (Tan, refl)
+  unop (suc (suc (suc (suc zero)))) l = (Exp, refl)
+  unop (suc (suc (suc (suc (suc zero))))) l = (Ln, refl)
+  unop (suc (suc (suc (suc (suc (suc zero)))))) l = (Sqrt, refl)
+  unop (suc (suc (suc (suc (suc (suc (suc n))))))) l = absurd (omega arith)
+
+  unop_of : (kind : ℕ) → 9 ≤ kind → kind < 16 → ((f : Unop) × (expression_of kind a b ≡ Unary f a))
+  unop_of kind h l =
+      let o = unop (kind - 9) (omega arith) in
+      let same : 9 + (kind - 9) ≡ kind = omega arith in
+      (o.0, sym (ap (λ (n : ℕ). expression_of n a b) same) ∙ o.1)
+
+module _ (values : List Value) (op : ℕ → Evaluation) (a b : ℕ) where
+  -- The refusal of the first operand, which may be the only one, is what the entry comes to, whatever the second would be.
+  pub left_refuses : (kind : ℕ) (r : Evaluation) → 4 ≤ kind → kind < 16 → op a ≡ r → NoValue r → r ≡ value_of values op (expression_of kind a b)
+  unfolding value_of
+  left_refuses kind r h l e k = go (ltb kind 9) refl
+    where
+      go : (s : Bool) → ltb kind 9 ≡ s → r ≡ value_of values op (expression_of kind a b)
+      go true s = let o = binop a b kind h (ltb-true kind 9 s) in sym (rw (o.1, e) (sym (stays r _ k)))
+      go false s = let o = unop_of a b kind (ltb-false kind 9 s) l in sym (rw (o.1, e) (sym (stays r _ k)))
+
+  -- Where the first operand has a value, the refusal of the second is what the entry comes to.
+  pub right_refuses : (kind : ℕ) (x : Value) (r : Evaluation) → 4 ≤ kind → kind < 9 → op a ≡ evaluation.Value x → op b ≡ r → NoValue r → r ≡ value_of values op (expression_of kind a b)
+  unfolding value_of
+  right_refuses kind x r h l d e k = let o = binop a b kind h l in sym (rw (o.1, d, e) (sym (stays r _ k)))

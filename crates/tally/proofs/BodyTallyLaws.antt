@@ -2,8 +2,9 @@
 use Rattle.std.proofs.Common.{ℕ, zero, suc, ◌+◌, ◌-◌, ◌*◌, cond, eqb, ◌≤◌, ◌≡◌, refl, sym, ◌∙◌, List, map, arith}
 use borrow.Author.Tests.{ne_eqb}
 use Rattle.model.specs.Lists.{range, sum}
+use Rattle.model.specs.Image as model
 use Rattle.model.specs.Image.{statement, scope_statements, main_statements, qubits, bits}
-use Rattle.model.specs.Tally.{plain_tally, statement_tally, body_tally, weight_tally}
+use Rattle.model.specs.Tally.{statement_tally, body_tally, weight_tally}
 use Rattle.model.proofs.Ranges.{sum_next}
 use Rattle.image.specs.declared.statement.Statement.{Statement}
 use Rattle.image.specs.declared.statement.Statement.TheVariants.{U, CX, Gate, Barrier, Measure, Reset, Conditional}
@@ -11,23 +12,22 @@ use Rattle.image.specs.Entries.{as_statement}
 use Rattle.tally.specs.Weights.{weight_of, entry_of, opening_for, capped_figures, figure, no_figures, plain_figure, statement_figure, body_figure}
 use Rattle.tally.specs.declared.figures.Figures.{Figures}
 use Rattle.tally.proofs.CappedLaws.{sum_of, alike, none_is}
+use Rattle.tally.proofs.PlainTallyLaws.{no_if_any}
+
+-- a statement that is no if as it was read is none in the model
+no_if : (x : Statement) → ((r k t : ℕ) → x ≡ Conditional r k t → ⊥) → (r k t : ℕ) → as_statement x ≡ model.Conditional r k t → ⊥
+no_if (U a b c d) h r k t e = cc
+no_if (CX a b) h r k t e = cc
+no_if (Gate g p a) h r k t e = cc
+no_if (Barrier a m) h r k t e = cc
+no_if (Measure q c) h r k t e = cc
+no_if (Reset q) h r k t e = cc
+no_if (Conditional a b c) h r k t e = absurd (h a b c refl)
 
 module _ (image : List ℕ) (n scope : ℕ) where
-  -- what a statement that is no if comes to does not hang on what an if comes to
-  plain_any : (v w : ℕ → ℕ) (x : Statement) → ((r k t : ℕ) → x ≡ Conditional r k t → ⊥) → (j : ℕ)
-      → plain_tally image (weight_of j) (entry_of j) v (opening_for image j n) scope (as_statement x) ≡ plain_tally image (weight_of j) (entry_of j) w (opening_for image j n) scope (as_statement x)
-  unfolding plain_tally
-  plain_any v w (U a b c d) h j = refl
-  plain_any v w (CX a b) h j = refl
-  plain_any v w (Gate g p a) h j = refl
-  plain_any v w (Barrier a m) h j = refl
-  plain_any v w (Measure q c) h j = refl
-  plain_any v w (Reset q) h j = refl
-  plain_any v w (Conditional r k t) h j = absurd (h r k t refl)
-
   pub plain_comes : (x : Statement) (s : ℕ) → ((r k t : ℕ) → x ≡ Conditional r k t → ⊥) → as_statement x ≡ statement image s → (j : ℕ) → plain_figure image n scope (as_statement x) j ≡ statement_figure image n scope s j
   unfolding statement_tally
-  plain_comes x s h e j = rw (← e) (plain_any _ _ x h j)
+  plain_comes x s h e j = rw (← e) (no_if_any image scope (weight_of j) (entry_of j) _ _ (opening_for image j n) (as_statement x) (no_if x h))
 
   -- ---- what the statements from one to below another come to
   abbrev pub so_far : ℕ → ℕ → ℕ → ℕ

@@ -1,12 +1,32 @@
 -- What a statement that is no if comes to, and what is known of its numbers.
-use Rattle.std.proofs.Common.{ℕ, zero, suc, ◌*◌, ◌≤◌, max, ◌≡◌, refl, ap, List, map, arith}
+use Rattle.std.proofs.Common.{ℕ, zero, suc, ◌*◌, ◌≤◌, max, ◌≡◌, refl, ap, subst, List, map, arith}
+use mathlib.Core.Option.{Option}
 use Rattle.model.specs.Lists.{range, sum, largest}
-use Rattle.model.specs.Image.{U, CX, Measure, Reset, gates, arguments, all_statements, argument_size, classical_argument_size, rounds}
+use Rattle.model.specs.Image.{Statement, U, CX, Gate, Barrier, Measure, Reset, Conditional, Unknown, gates, arguments, all_statements, argument_size, classical_argument_size, rounds}
 use Rattle.model.specs.Tally.{plain_tally}
-use Rattle.model.specs.Accepted.{calls_below}
+use Rattle.model.specs.Accepted.{PlainFacts, calls_below}
 use Rattle.image.specs.declared.Layout.{Layout}
 use Rattle.image.specs.Layout.{LayoutOf}
 use Rattle.tally.specs.Weights.{weight_of, plain_figure}
+
+module _ (image : List ℕ) (scope : ℕ) where
+  -- what a statement that is no if comes to does not hang on what an if comes to
+  pub no_if_any : (weight : ℕ → ℕ → ℕ) (entry : ℕ) (v w : ℕ → ℕ) (o : Option (ℕ → ℕ)) (x : Statement) → ((r k t : ℕ) → x ≡ Conditional r k t → ⊥)
+      → plain_tally image weight entry v o scope x ≡ plain_tally image weight entry w o scope x
+  unfolding plain_tally
+  no_if_any weight entry v w o (U a b c d) h = refl
+  no_if_any weight entry v w o (CX a b) h = refl
+  no_if_any weight entry v w o (Gate g p a) h = refl
+  no_if_any weight entry v w o (Barrier a n) h = refl
+  no_if_any weight entry v w o (Measure q c) h = refl
+  no_if_any weight entry v w o (Reset q) h = refl
+  no_if_any weight entry v w o (Conditional r k t) h = absurd (h r k t refl)
+  no_if_any weight entry v w o Unknown h = refl
+
+  -- the facts of a plain statement tell that it is no if
+  pub plain_any : (weight : ℕ → ℕ → ℕ) (entry : ℕ) (v w : ℕ → ℕ) (o : Option (ℕ → ℕ)) (x : Statement) → PlainFacts image scope x
+      → plain_tally image weight entry v o scope x ≡ plain_tally image weight entry w o scope x
+  plain_any weight entry v w o x f = no_if_any weight entry v w o x (λ r k t e. subst (PlainFacts image scope) e f)
 
 -- what rounds of a record come to
 module _ (image : List ℕ) (n scope k : ℕ) where

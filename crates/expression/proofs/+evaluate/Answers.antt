@@ -9,7 +9,7 @@ use Rattle.value.specs.declared.Evaluation.{Evaluation}
 use Rattle.image.specs.Entries.{as_expr}
 use Rattle.expression.specs.declared.KeptValue.{KeptValue}
 use Rattle.expression.specs.KeptValues.{Evaluated}
-use Rattle.expression.proofs.EntryLaws.{inside, facts, within, worked_out, over_pi, over_real, over_int, over_variable, over_one, over_two, left_refuses, right_refuses, only_refuses}
+use Rattle.expression.proofs.EntryLaws.{inside, facts, within, worked_out, over_pi, over_real, over_int, over_variable, over_one, over_two, left_refuses_binary, right_refuses_binary, only_refuses}
 use Rattle.expression.proofs.+evaluate.Goals as goal
 use Rattle.expression.proofs.+evaluate.Goals.{in-Pi, in-Real, in-Int, in-Var, in-Binary+in-Value+in-Value-right, in-Unary+in-Value-operand}
 
@@ -41,7 +41,7 @@ evaluate-left-requires t c = let h = facts c.args.image.now.words.now c.args.e c
 
 pub returns-in_default-left : goal.returns-in_default-left
 returns-in_default-left t c = let a = c.args in
-    (worked_out a.image.now.words.now a.e c.requires.1 (ap as_expr (sym c.in-Binary.is) ∙ c.in-Some-expression.ensures) a.angles.now (left_refuses _ _ _ _ _ c.evaluate-left.ensures.0 c.in_default-left.not-Value), c.evaluate-left.ensures.1)
+    (worked_out a.image.now.words.now a.e c.requires.1 (ap as_expr (sym c.in-Binary.is) ∙ c.in-Some-expression.ensures) a.angles.now (left_refuses_binary _ _ _ _ _ c.evaluate-left.ensures.0 c.in_default-left.not-Value), c.evaluate-left.ensures.1)
 
 pub evaluate-right-requires : goal.evaluate-right-requires
 evaluate-right-requires t c = let h = facts c.args.image.now.words.now c.args.e c.requires.1 (ap as_expr (sym c.in-Binary.is) ∙ c.in-Some-expression.ensures) in
@@ -49,7 +49,7 @@ evaluate-right-requires t c = let h = facts c.args.image.now.words.now c.args.e 
 
 pub returns-in_default-right : goal.returns-in_default-right
 returns-in_default-right t c = let a = c.args in
-    (worked_out a.image.now.words.now a.e c.requires.1 (ap as_expr (sym c.in-Binary.is) ∙ c.in-Some-expression.ensures) a.angles.now (right_refuses _ _ _ _ _ (rw c.in-Value.is at c.evaluate-left.ensures.0) c.evaluate-right.ensures.0 c.in_default-right.not-Value), c.evaluate-right.ensures.1)
+    (worked_out a.image.now.words.now a.e c.requires.1 (ap as_expr (sym c.in-Binary.is) ∙ c.in-Some-expression.ensures) a.angles.now (right_refuses_binary _ _ _ _ _ (rw c.in-Value.is at c.evaluate-left.ensures.0) c.evaluate-right.ensures.0 c.in_default-right.not-Value), c.evaluate-right.ensures.1)
 
 pub evaluate-operand-requires : goal.evaluate-operand-requires
 evaluate-operand-requires t c = let h = facts c.args.image.now.words.now c.args.e c.requires.1 (ap as_expr (sym c.in-Unary.is) ∙ c.in-Some-expression.ensures) in
