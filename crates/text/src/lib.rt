@@ -150,7 +150,7 @@ impl<'a> Text<'a> {
         for i in 1..words.len() {
             self.put_word(words[i], is_numerator(words, i));
         }
-        self.end_line();
+        self.end_line(); // The line of a record ends like any other.
     }
 }
 
