@@ -42,7 +42,7 @@ pub enum Expr {
 impl Expr {
     // The expression of a kind and the two words behind it, if the kind is known.
     #[tactic(auto, unfolding(model::specs::Image::expression_of))]
-    fn of_words(kind: u64, a: u64, b: u64) -> Option<Expr>
+    pub fn of_words(kind: u64, a: u64, b: u64) -> Option<Expr>
         ensures { expr_read result ≡ expression_of kind a b }
     {
         match kind {

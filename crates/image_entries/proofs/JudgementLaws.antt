@@ -18,8 +18,10 @@ use Rattle.image.specs.declared.expression.Expr.TheVariants as kinds
 use Rattle.image.specs.declared.expression.Binop as binop
 use Rattle.image.specs.declared.expression.Unop as unop
 use Rattle.image.specs.Entries.{as_expr}
+use Rattle.image.specs.declared.Layout.{Layout}
+use Rattle.image.specs.Layout.{LayoutOf}
 use Rattle.model.specs.Lists.{every}
-use Rattle.model.specs.Image.{Expr, Binop, Unop, Pi, Real, Int, Var, Binary, Unary, word, expression, expression_at, expressions, parameter, parameter_at}
+use Rattle.model.specs.Image.{Expr, Binop, Unop, Pi, Real, Int, Var, Binary, Unary, word, expression, expression_of, expression_at, expressions, parameter, parameter_at}
 use Rattle.model.specs.Check.{entry_ok, expression_ok}
 use Rattle.image_entries.specs.declared.judgement.Judgement.{Judgement}
 use Rattle.image_entries.specs.Judging.{accepts, words_ok, JudgementTable, JudgementIs}
@@ -42,8 +44,8 @@ module _ (j : Judgement) (one : j.level ≡ 1) where
   pub variable_is : (ok : ℕ → Bool) (i : ℕ) → j.variables ≡ i + 1 → ((v : ℕ) → ok v ≡ ltb i v) → JudgementIs (Some j) (λ v k. ok v)
   variable_is ok i needs h = leaf_is ok (λ v. h v ∙ rw (needs, add-one i) refl)
 
-pub no_variable : (ok : ℕ → Bool) (i : ℕ) → 16 ≤ i → ((v : ℕ) → ok v ≡ ltb i v) → JudgementIs None (λ v k. ok v)
-no_variable ok i l h = record { right = λ v k hv hk. h v ∙ le-ltb i v (omega arith) }
+pub no_variable : (ok : ℕ → Bool) (i : ℕ) → 16 ≤ i → ((v : ℕ) → v ≤ i → ok v ≡ false) → JudgementIs None (λ v k. ok v)
+no_variable ok i l h = record { right = λ v k hv hk. h v (omega arith) }
 
 module _ (a b : ℕ) where
   -- its last word is not 0
@@ -69,22 +71,35 @@ module _ (a b : ℕ) where
   unfolding entry_ok every
   unary_no_leaf f i = record { right = λ v m hv hm. refl }
 
+  pub pi_words : (v : ℕ) → words_ok a b v Pi ≡ (eqb a 0 && eqb b 0)
+  unfolding entry_ok every
+  pi_words v = rw (and-true (eqb b 0)) refl
+
+  pub real_words : (i v : ℕ) → words_ok a b v (Real i) ≡ (ltb i 4294967296 && eqb b 0)
+  unfolding entry_ok every
+  real_words i v = rw (and-true (eqb b 0)) refl
+
+  pub int_words : (n v : ℕ) → words_ok a b v (Int n) ≡ eqb b 0
+  unfolding entry_ok
+  int_words n v = refl
+
+  pub var_past : (i v : ℕ) → v ≤ i → words_ok a b v (Var i) ≡ false
+  unfolding entry_ok every
+  var_past i v h = rw (le-ltb i v h) refl
+
   module _ (z : b ≡ 0) (v : ℕ) where
-    pub pi_words : words_ok a b v Pi ≡ eqb a 0
-    unfolding entry_ok every
-    pi_words = rw (eq-eqb b 0 z) (and-true (eqb a 0))
-
-    pub real_words : (i : ℕ) → words_ok a b v (Real i) ≡ ltb i 4294967296
-    unfolding entry_ok every
-    real_words i = rw (eq-eqb b 0 z) (and-true (ltb i 4294967296))
-
-    pub int_words : (n : ℕ) → words_ok a b v (Int n) ≡ true
-    unfolding entry_ok
-    int_words n = eq-eqb b 0 z
-
     pub var_words : (i : ℕ) → words_ok a b v (Var i) ≡ ltb i v
     unfolding entry_ok every
     var_words i = rw (eq-eqb b 0 z) (and-true (ltb i v))
+
+-- ---- the words of an expression stand in the image
+pub words_inside : (image : List ℕ) (l : Layout) (e : ℕ) → LayoutOf image l → e < l.expressions → expression_at image e + 3 ≤ length image
+words_inside image l e laid h = omega (arith, laid.whole, laid.expressions_is, h)
+
+-- what they say is the expression
+pub words_say : (image : List ℕ) (e at : ℕ) {x : Expr} → at ≡ expression_at image e → x ≡ expression_of (word image at) (word image (at + 1)) (word image (at + 2)) → x ≡ expression image e
+unfolding expression
+words_say image e at is h = h ∙ rw is refl
 
 -- ---- expression e of an image, by what its words say
 module _ (image : List ℕ) (e : ℕ) where

@@ -48,19 +48,16 @@ fn operand(judgements: &[Option<Judgement>], e: u64, a: u64) -> Option<Judgement
     if a < e { judgements[a as usize] } else { None }
 }
 
-// Judges an entry without operands, whose last two words are a and b.
+// Judges an entry without operands, whose last two words are a and b. Each arm tests b for itself: by a test before them all the kinds would be told apart twice.
 fn judge_leaf(leaf: Expr, a: u64, b: u64) -> Option<Judgement>
     ensures { JudgementIs result (λ v k. words_ok a b v (as_expr leaf)) }
 {
-    if b != 0 {
-        return None;
-    }
     match leaf {
-        Expr::Pi => (a == 0).then_some(Judgement::leaf(0)),
-        Expr::Real(bits) => (bits < REAL_LIMIT).then_some(Judgement::leaf(0)),
-        Expr::Int(_) => Some(Judgement::leaf(0)),
+        Expr::Pi => (a == 0 && b == 0).then_some(Judgement::leaf(0)),
+        Expr::Real(bits) => (bits < REAL_LIMIT && b == 0).then_some(Judgement::leaf(0)),
+        Expr::Int(_) => (b == 0).then_some(Judgement::leaf(0)),
         Expr::Var(i) => {
-            if i < image::MOST_PARAMETERS {
+            if i < image::MOST_PARAMETERS && b == 0 {
                 Some(Judgement::leaf((i + 1) as u8))
             } else {
                 None
@@ -70,7 +67,8 @@ fn judge_leaf(leaf: Expr, a: u64, b: u64) -> Option<Judgement>
     }
 }
 
-// Judges expression e from the table's entries of smaller numbers.
+// Judges expression e from the table's entries of smaller numbers. Its words are read once, and by index: they stand in the image, so no test for its end is needed.
+#[tactic(auto, using(crate::proofs::JudgementLaws::words_inside))]
 fn judge_expression(
     image: &Image<'_>,
     judgements: &[Option<Judgement>],
@@ -79,18 +77,16 @@ fn judge_expression(
     requires { JudgementTable image.now.words.now e judgements.now × (e < image.now.layout.expressions) }
     ensures { JudgementIs result (λ v k. expression_ok image.now.words.now v (suc k) e) }
 {
-    let at = image.expression_at(e);
-    match image.expression(e)? {
-        Expr::Binary(_, a, b) => operand(judgements, e, a)?.over(operand(judgements, e, b)?),
-        Expr::Unary(_, a) => {
-            let inner = operand(judgements, e, a)?;
-            if image.word(at + 2) == 0 {
-                inner.over(inner)
-            } else {
-                None
-            }
+    let at = image.expression_at(e) as usize;
+    let a = image.words[at + 1];
+    let b = image.words[at + 2];
+    match Expr::of_words(image.words[at], a, b)? {
+        Expr::Binary(_, x, y) => operand(judgements, e, x)?.over(operand(judgements, e, y)?),
+        Expr::Unary(_, x) => {
+            let inner = operand(judgements, e, x)?;
+            if b == 0 { inner.over(inner) } else { None }
         }
-        leaf => judge_leaf(leaf, image.word(at + 1), image.word(at + 2)),
+        leaf => judge_leaf(leaf, a, b),
     }
 }
 
