@@ -49,10 +49,14 @@ fn first_bad_judged(judged: &JudgedImage<'_>) -> Result<(), CheckRefusal>
     ensures { answer_flaw result ≡ statement_entries judged.now.image.words.now }
 {
     let image = judged.image;
+    // One scope takes each number in its turn: one made anew for each would copy the image.
+    let mut judged_scope = JudgedScope {
+        scope: Scope { image, number: 0 },
+        judgements: judged.judgements,
+    };
     for number in 0..=image.layout.gates {
-        let scope = Scope { image, number };
-        let judgements = judged.judgements;
-        JudgedScope { scope, judgements }.first_bad_statement()?;
+        judged_scope.scope.number = number;
+        judged_scope.first_bad_statement()?;
     }
     Ok(())
 }
