@@ -340,3 +340,12 @@ gate_read {image} acc g {n = n} {m = m} h e p q =
 -- its first count alone
 pub parameters_read : {image : List ℕ} → Accepted image → (g : ℕ) {at n : ℕ} → g < gates image → at ≡ gate_at image g → n ≡ word image at → n ≤ 16
 parameters_read {image} acc g {n = n} h e p = let first : n ≡ gate_parameters image g = p ∙ ap (word image) e in omega (arith, first, few_parameters acc g h)
+
+-- ---- qubits put in turn
+
+-- the next of some words
+pub put_next_word : {out' : List ℕ} (out : List ℕ) (start i : ℕ) (ws : List ℕ) → i < length ws → out' ≡ sets out start (take i ws)
+    → set out' (start + i) (get_or ws i 0) ≡ sets out start (take (i + 1) ws)
+put_next_word out start i ws h e =
+    let n = length-take-le i ws (omega arith) in
+    put_more out start (start + i) (take i ws) (get_or ws i 0 ∷ []) (omega arith) e refl ∙ rw (add-one i, take-suc ws i 0) refl

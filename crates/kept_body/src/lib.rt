@@ -211,6 +211,18 @@ fn put_angles(slot: &mut [u64], angles: &[Value; image::FRAME_ANGLES], n: usize)
     }
 }
 
+// Puts some qubits into a slot, from a place on, by a loop. `put_words` of `record_writer` does the same by the library's `copy_from_slice`, which would be built
+// into a call of `memmove` here, while the header of the static library promises that memcpy and memset are all that it needs of a C library. A loop in
+// `put_words` was tried: the rounds of a CX of one qubit and many took half as long again.
+fn put_qubits(slot: &mut [u64], start: usize, qubits: &[u64])
+    requires { start + length qubits.now ≤ length slot.old }
+    ensures { slot.new ≡ sets slot.old start qubits.now }
+{
+    for (i, qubit) in qubits.iter().enumerate() {
+        slot[start + i] = *qubit;
+    }
+}
+
 // Fills a slot with the body of a call that was run between two positions.
 fn put_body(slot: &mut [u64], call: Call, frame: &Frame, at: Position, next: Position)
     requires { (slot_need call.parameters call.arguments ≤ length slot.old)
@@ -226,7 +238,7 @@ fn put_body(slot: &mut [u64], call: Call, frame: &Frame, at: Position, next: Pos
     let n = call.parameters as usize;
     put_angles(slot, &frame.angles, n);
     let behind_angles = ANGLES_AT + VALUE_WORDS * n;
-    record_writer::put_words(
+    put_qubits(
         slot,
         behind_angles,
         &frame.qubits[..call.arguments as usize],
