@@ -1,4 +1,4 @@
-// Reading succeeds where there is memory for it: nothing, less than there is, as much, and more.
+// Reading succeeds: nothing, less than there is, as much, and more.
 use super::*;
 use std::test::Fail;
 
@@ -6,8 +6,9 @@ use std::test::Fail;
 fn the_most_is_read_and_the_rest_is_gone(rt: HostRuntime) -> Result<(), Fail> {
     for (most, front) in [(0, ""), (2, "ab"), (3, "abc"), (4, "abc")] {
         let mut input = b"abc".as_slice();
-        let bytes = read_most(rt.alloc(), &mut input, most)?;
-        assert_eq!(rt; bytes.as_slice(), front.as_bytes());
+        let mut room = [0; 4];
+        let bytes = read_most(&mut input, &mut room[..most])?;
+        assert_eq!(rt; bytes, front.as_bytes());
         read_rest(&mut input)?;
         assert!(rt; input.is_empty());
     }

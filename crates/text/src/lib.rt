@@ -188,8 +188,9 @@ pub fn first_word(bytes: &[u8]) -> u64
     u64::from_le_bytes(*bytes.first_chunk().unwrap())
 }
 
-// Reads as many words as there is room for from the front of some bytes.
-fn read_words(words: &mut [u64], bytes: &[u8])
+// Reads as many words as there is room for from the front of some bytes. A caller that reads fewer, or from a later place, lends a part of the
+// room, and the bytes from that place on.
+pub fn read_words(words: &mut [u64], bytes: &[u8])
     requires { 8 * length words.old ≤ length bytes.now }
     ensures { words.new ≡ words_of (length words.old) bytes.now }
 {

@@ -1,8 +1,6 @@
 // The text of a line of vectors: decimals with single spaces between them, and a line feed.
 ghost use Rattle.std.specs.Prelude.{◌≡◌, ◌++◌, ◌≤◌, ◌<◌, length, IfSome};
 
-use std::str;
-
 // Room for the words of a line: for more than an image may have, and for more records than are read back at once.
 pub const WORDS_ROOM: usize = 65600;
 
@@ -21,20 +19,34 @@ pub fn first_line(input: &[u8]) -> Option<(&[u8], &[u8])>
     Some(input.split_at(end))
 }
 
-// The number that a part of a line is: at least one digit, and a number below 2^64.
+// The number that a byte is.
+fn digit(byte: u8) -> Option<u64> {
+    match byte {
+        b'0'..=b'9' => Some(u64::from(byte - b'0')),
+        _ => None,
+    }
+}
+
+// The number that a part of a line is: at least one digit, and a number below 2^64. The `parse` of a text reads a number too, but a part would
+// have to be tested for text and for a sign first, and most of the time of a long line goes into its numbers.
 pub fn number(part: &[u8]) -> Option<u64> {
-    if !part.iter().all(|byte| byte.is_ascii_digit()) {
+    if part.is_empty() {
         return None;
     }
-    str::from_utf8(part).ok()?.parse().ok()
+    let mut n = 0u64;
+    for byte in part {
+        n = n.checked_mul(10)?.checked_add(digit(*byte)?)?;
+    }
+    Some(n)
 }
 
 // How many equal words a part of a line stands for, and the word: `k*w` stands for k words w.
 fn equal_words(part: &[u8]) -> Option<(u64, u64)> {
-    match part.iter().position(|byte| *byte == b'*') {
-        Some(i) => Some((number(&part[..i])?, number(&part[i + 1..])?)),
-        None => Some((1, number(part)?)),
+    if let Some(word) = number(part) {
+        return Some((1, word));
     }
+    let i = part.iter().position(|byte| *byte == b'*')?;
+    Some((number(&part[..i])?, number(&part[i + 1..])?))
 }
 
 // Reads a line: as many numbers as there is room for, then the words, each given once or several times. Answers how many words there

@@ -15,15 +15,20 @@ mod runs;
 mod sort;
 mod tallies;
 
+ghost use Rattle.std.specs.Prelude.{◌≤◌, length, IfSome};
+
 use sort::Sort;
 use std::env::FillError;
+use std::io::Read;
 use std::rt::{Env, Files};
 use std::{fs, io, str};
 
-// The longest name of a file, and the most bytes of one.
+// The longest name of a file, the most bytes of one, and room for a byte more, which is read only where a file is longer.
 const NAME_BYTES: usize = 4096;
 
 const FILE_BYTES: usize = 1048576;
+
+const FILE_ROOM: usize = FILE_BYTES + 1;
 
 // Replays a line: whether it agrees; none where it is malformed. The words are lent, and no Vec of the line's own: a line
 // of runs without words is on what the line before has left there.
@@ -90,30 +95,40 @@ fn open_named<R: Files>(rt: &R, name: &[u8]) -> Option<R::File> {
 }
 
 // Reads a whole file; none where it is too long or cannot be read.
-fn read_whole<R: Files + Alloc>(rt: &R, file: &mut R::File) -> Option<Vec<u8, R::A>> {
-    let bytes = standard_input::read_most(rt.alloc(), file, FILE_BYTES + 1).ok()?;
+fn read_whole<'a, R: Read>(file: &mut R, room: &'a mut [u8]) -> Option<&'a [u8]>
+    ensures { IfSome result (λ bytes. length bytes.now ≤ 1048576) }
+{
+    let bytes = standard_input::read_most(file, room).ok()?;
     if bytes.len() > FILE_BYTES {
         return None;
     }
     Some(bytes)
 }
 
-// Replays a file.
-fn replay_file(rt: &(impl Files + Alloc + Print), name: &[u8]) -> io::Result<()> {
-    let Some(sort) = Sort::of_file(name) else {
-        return say_of_file(rt, name, b": no such sort of vectors\n");
-    };
-    let Some(mut file) = open_named(rt, name) else {
-        return say_of_file(rt, name, b": the file cannot be opened\n");
-    };
-    match read_whole(rt, &mut file) {
-        Some(input) => replay(rt, sort, &input),
+// Replays an open file.
+fn replay_open<R: Read>(rt: &impl Print, name: &[u8], sort: Sort, file: &mut R) -> io::Result<()> {
+    let mut room = standard_input::room::<FILE_ROOM>();
+    match read_whole(file, &mut room) {
+        Some(input) => replay(rt, sort, input),
         None => say_of_file(rt, name, b": the file is too long or cannot be read\n"),
     }
 }
 
+// Replays a file.
+fn replay_file(rt: &(impl Files + Print), name: &[u8]) -> io::Result<()> {
+    let Some(sort) = Sort::of_file(name) else {
+        return say_of_file(rt, name, b": no such sort of vectors\n");
+    };
+    match open_named(rt, name) {
+        Some(mut file) => replay_open(rt, name, sort, &mut file),
+        None => say_of_file(rt, name, b": the file cannot be opened\n"),
+    }
+}
+
 // An argument, empty where it is too long, and none where there is no such argument.
-fn argument<'a>(rt: &impl Env, i: usize, room: &'a mut [u8]) -> Option<&'a [u8]> {
+fn argument<'a>(rt: &impl Env, i: usize, room: &'a mut [u8]) -> Option<&'a [u8]>
+    ensures { IfSome result (λ name. length name.now ≤ length room.old) }
+{
     match rt.arg(i, room) {
         Ok(n) => Some(&room[..n]),
         Err(FillError::TooLong) => Some(&[]),
@@ -122,7 +137,7 @@ fn argument<'a>(rt: &impl Env, i: usize, room: &'a mut [u8]) -> Option<&'a [u8]>
 }
 
 // Replays the file that an argument names, and answers whether there is such an argument.
-fn replay_argument(rt: &(impl Env + Files + Alloc + Print), i: usize) -> io::Result<bool> {
+fn replay_argument(rt: &(impl Env + Files + Print), i: usize) -> io::Result<bool> {
     let mut room = [0; NAME_BYTES];
     let Some(name) = argument(rt, i, &mut room) else {
         return Ok(false);

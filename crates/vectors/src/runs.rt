@@ -152,20 +152,23 @@ fn run_agrees(image: &[u64], expected: Expected, out: &mut [u64], trace: &mut [u
     }
 }
 
-// Whether the check and the run of an image are as a line says; the lengths that it lends are in room.
-fn agrees(image: &[u64], expected: Expected) -> bool {
-    let [number, place, ..] = expected.answer;
-    if !check_agrees(image, number, place) {
-        return false;
-    }
+// Whether the run of an image is as a line says; the lengths that it lends are in room. The room stands at the head of a function of its own:
+// below a branch it is cleared twice, where the function begins and again where it is made.
+fn run_in_room_agrees(image: &[u64], expected: Expected) -> bool {
+    let mut out = room::filled::<u64, OUTPUT_ROOM>(0);
+    let mut trace = room::filled::<u64, TRACE_ROOM>(0);
     if expected.output_lent > OUTPUT_ROOM as u64 || expected.trace_lent > TRACE_ROOM as u64 {
         return false;
     }
-    let mut out = room::filled::<u64, OUTPUT_ROOM>(0);
-    let mut trace = room::filled::<u64, TRACE_ROOM>(0);
     let o = expected.output_lent as usize;
     let t = expected.trace_lent as usize;
     run_agrees(image, expected, &mut out[..o], &mut trace[..t])
+}
+
+// Whether the check and the run of an image are as a line says.
+fn agrees(image: &[u64], expected: Expected) -> bool {
+    let [number, place, ..] = expected.answer;
+    check_agrees(image, number, place) && run_in_room_agrees(image, expected)
 }
 
 // Whether the image of a line, the first of the words, is in room and as the line says.
