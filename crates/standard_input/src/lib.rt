@@ -1,7 +1,7 @@
 // Standard input: what a program looks at of it, and what is left behind that. Any other reader is read alike.
 #![tactic(auto)]
 
-ghost use Rattle.std.specs.Prelude.{◌≡◌, ◌≢◌, ◌≤◌, length, take, IfErr, IfOk, IfSome, OnOk};
+ghost use Rattle.std.specs.Prelude.{◌≡◌, ◌≢◌, ◌≤◌, length, replicate, take, IfErr, IfOk, IfSome, OnOk};
 ghost use Rattle.std.specs.Io.{ReadsAtMost};
 ghost use Rattle.std.specs.Io.KnownBytes.{IsAtEnd, ReadConsumes};
 ghost use Rattle.std.specs.IoError.{error_kind};
@@ -12,9 +12,9 @@ use std::io::{ErrorKind, Read};
 #[cfg(test)]
 mod tests;
 
-// Room for so many bytes, which a caller lends. It comes from a call, so that no proof writes out as many.
+// Room for so many bytes, which a caller lends: zeros. It comes from a call, so that no proof writes out as many.
 pub fn room<const N: usize>() -> [u8; N]
-    ensures { length result ≡ N }
+    ensures { result ≡ replicate N 0 }
 {
     [0; N]
 }
