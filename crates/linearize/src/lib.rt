@@ -223,7 +223,9 @@ fn visit_with_kept_values<const N: usize>(
     visit_keeping_bodies(program, &mut kept_values, levels_left, out, trace, at)
 }
 
-// The main statements, with a table for the values that are kept of expressions.
+// The main statements, with a table for the values that are kept of expressions. It is not inlined, so that a run whose image the check refuses takes
+// no stack for such a table.
+#[inline(never)]
 fn visit_keeping_values(
     program: &Program<'_>,
     levels_left: u64,
