@@ -2,6 +2,7 @@
 #![tactic(auto)]
 
 ghost use Rattle.std.specs.Prelude.{◌≡◌, [], ◌∷◌, ◌+◌, ◌*◌, ◌/◌, ◌%◌, ◌≤◌, ◌<◌, ◌&&◌, eqb, leb, min, length, take, drop};
+ghost use Rattle.std.proofs.lemmas.List.Edits.{sets};
 ghost use Rattle.model.specs.Listing.{decimal, little_endian, words_of};
 ghost use Rattle.text.specs.Put.{Room, RoomFor, Put, PutMost};
 ghost use Rattle.text.specs.NumberLine.{spaced_numbers, spaced_most, named_line, named_line_most, numbers_line};
@@ -23,6 +24,22 @@ pub const INPUT_BYTES: usize = WORD_BYTES * (1 + WORDS_LOOKED_AT);
 pub struct Text<'a> {
     pub bytes: &'a mut [u8],
     pub end: usize,
+}
+
+// Puts the digits of a number from a place on, and answers where they end. The place goes from digit to digit as a value: as a field of a text it
+// would be stored and loaded for each, by which a line of long numbers takes up to half as long again.
+fn put_digits(bytes: &mut [u8], start: usize, n: u64) -> usize
+    requires { start + length (decimal n) ≤ length bytes.old }
+    ensures digits { bytes.new ≡ sets bytes.old start (decimal n) }
+    ensures end { result ≡ start + length (decimal n) }
+{
+    if n < 10 {
+        bytes[start] = b'0' + n as u8;
+        return start + 1;
+    }
+    let last = put_digits(bytes, start, n / 10);
+    bytes[last] = b'0' + (n % 10) as u8;
+    last + 1
 }
 
 impl<'a> Text<'a> {
@@ -72,12 +89,7 @@ impl<'a> Text<'a> {
         requires { Room (decimal n) self.old }
         ensures { Put (decimal n) self.old self.new }
     {
-        if n < 10 {
-            self.put_byte(b'0' + n as u8);
-        } else {
-            self.put_decimal(n / 10);
-            self.put_byte(b'0' + (n % 10) as u8);
-        }
+        self.end = put_digits(self.bytes, self.end, n);
     }
 
     // Puts a number in two's complement, with its sign.

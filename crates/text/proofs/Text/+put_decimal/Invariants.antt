@@ -1,5 +1,0 @@
--- Each call is of a number with one digit less.
-use Rattle.text.proofs.Text.+put_decimal.Given as goal
-
-abbrev pub decreases-put_decimal : goal.decreases-put_decimal
-decreases-put_decimal l = l.n
